@@ -1,3 +1,6 @@
 pub mod Instructions
 pub mod Arithmetic
 pub mod Programs
+pub mod Bytes
+pub mod Words
+pub mod Names
