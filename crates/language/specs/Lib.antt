@@ -4,3 +4,4 @@ pub mod Programs
 pub mod Bytes
 pub mod Words
 pub mod Names
+pub mod Tokens
