@@ -5,3 +5,5 @@ pub mod Bytes
 pub mod Words
 pub mod Names
 pub mod Tokens
+pub mod Grammar
+pub mod Reading
