@@ -1,2 +1,3 @@
 pub mod ByteFacts
 pub mod TokenFacts
+pub mod ReadingFacts

@@ -7,3 +7,4 @@ pub mod Names
 pub mod Tokens
 pub mod Grammar
 pub mod Reading
+pub mod Listing
