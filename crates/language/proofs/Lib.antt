@@ -1,3 +1,4 @@
 pub mod ByteFacts
 pub mod TokenFacts
 pub mod ReadingFacts
+pub mod SizeFacts

@@ -77,16 +77,16 @@ unfolding reads turn
 turn-listing = refl
 
 -- A text with its answer: number and place, or 0 and 0 where it reads.
-abbrev answerOf : Reading → ℕ × ℕ
+abbrev pub answerOf : Reading → ℕ × ℕ
 answerOf (Reading.refused n p) = (n, p)
 answerOf (Reading.program p) = (0, 0)
 
-record Case : Type 0 where
-  text : List ℕ
-  answer : ℕ × ℕ
+pub record Case : Type 0 where
+  pub text : List ℕ
+  pub answer : ℕ × ℕ
 
 infix 70 _refused_at_
-abbrev _refused_at_ : String → ℕ → ℕ → Case
+abbrev pub _refused_at_ : String → ℕ → ℕ → Case
 s refused n at p = record { text = bytesOf s; answer = (n, p) }
 
 -- In a function's entry block, with two parameters; places count from where the rows begin.
@@ -173,7 +173,7 @@ cases =
     ∷ []
 
 -- each text of the list has the answer written beside it
-abbrev agrees : ℕ × ℕ → ℕ × ℕ → Bool
+abbrev pub agrees : ℕ × ℕ → ℕ × ℕ → Bool
 agrees a b = eqb (a .0) (b .0) && eqb (a .1) (b .1)
 
 answers : all (λ c. agrees (answerOf (read (c .text))) (c .answer)) cases ≡ true
