@@ -5,10 +5,10 @@ use mathlib.Core.Path.{_≡_, refl}
 use Prim.Native.Nat.{ℕ, _+_}
 use Prim.Native.String.{String}
 use lib.Dec.{eqb}
-use Rattle.laws.specs.Lists.{gather, all}
+use Rattle.laws.specs.Lists.{gather, all, below}
 use Rattle.language.specs.Bytes.{bytesOf}
-use Rattle.language.specs.Instructions.{formOf, loadType, width, signed}
-use Rattle.language.specs.Programs.{Row, Register, Block, Func, Program, rowsOf, entryCount}
+use Rattle.language.specs.Instructions.{typeCount, instructionCount, formOf, loadType, width, signed}
+use Rattle.language.specs.Programs.{Row, Register, Block, Func, opOf, rowsOf, entryCount}
 use Rattle.language.specs.Grammar.{gram, afterWord, wordWithTarget, wordAlone}
 use Rattle.language.specs.Reading.{Reading, read, readEnd, readByte, take, perform, beginFunction, markSsa, setResult, nameFunction, beginRegister, nameRegister, beginBlock, nameBlock, endBlock, beginInstruction, setTarget, setInstruction, addSource, addEntry, addMention, inRange, bitsOf, setNumber, rowOf, endInstruction, resolve, undeclared, endFunction, functionNumber, registerNumber, blockNumber, rowCount, phiEntries}
 use Rattle.language.specs.Listing.{listingOf, functionLine, line, digits}
@@ -75,6 +75,45 @@ turn-reads = refl
 turn-listing : listingOf (turn ∷ []) ≡ bytesOf "turn\t1\t10\t4\t11\n"
 unfolding reads turn
 turn-listing = refl
+
+-- The number that a row loads.
+abbrev loadedBy : Row → List ℕ
+loadedBy Row.nop = []
+loadedBy (Row.load op t n) = n ∷ []
+loadedBy (Row.unary op t s) = []
+loadedBy (Row.binary op t l r) = []
+loadedBy (Row.phi t es) = []
+loadedBy (Row.jump b) = []
+loadedBy (Row.branch s x y) = []
+loadedBy (Row.return s) = []
+loadedBy Row.leave = []
+loadedBy (Row.unknown op) = []
+
+-- Every type and every instruction, in the order of their numbers.
+everyText : List ℕ
+everyText =
+    lines
+    ("function int8 every() {"
+    ∷ "register int8 a; register int16 b; register int32 c; register int64 d; register uint8 e;"
+    ∷ "register uint16 f; register uint32 g; register uint64 h; register int i; register uint j;"
+    ∷ "block entry { nop; a = load.i8 (-1); e = load.ui8 (1); b = load.i16 (-1); f = load.ui16 (1);"
+    ∷ "c = load.i32 (-1); g = load.ui32 (1); d = load.i64 (-1); h = load.ui64 (1);"
+    ∷ "a = ari.add a, a; a = ari.sub a, a; a = ari.mul a, a; a = ari.div a, a; a = ari.rem a, a; a = ari.neg a;"
+    ∷ "a = bit.and a, a; a = bit.or a, a; a = bit.xor a, a; a = bit.neg a;"
+    ∷ "a = shl a, j; a = shr a, j; a = rol a, j; a = ror a, j; j = cmp.eq a, a; j = cmp.neq a, a;"
+    ∷ "j = cmp.gt a, a; j = cmp.lt a, a; j = cmp.gteq a, a; j = cmp.lteq a, a;"
+    ∷ "b = conv a; a = copy a; a = phi (a, a); jump (entry); jump.cond j (entry, entry); return a; leave; } }"
+    ∷ [])
+
+-- The numbers of a program's types and instructions, and of what its loads load.
+abbrev numbersOf : Reading → List (List ℕ)
+numbersOf (Reading.refused n p) = []
+numbersOf (Reading.program p) =
+    gather (λ f. map (λ r. r .type) (f .registers)) p ∷ gather (λ f. map opOf (rowsOf f)) p ∷ gather (λ f. gather loadedBy (rowsOf f)) p ∷ []
+
+every-number : numbersOf (read everyText) ≡ below typeCount ∷ below instructionCount ∷ (255 ∷ 1 ∷ 65535 ∷ 1 ∷ 4294967295 ∷ 1 ∷ 18446744073709551615 ∷ 1 ∷ []) ∷ []
+unfolding reads everyText
+every-number = refl
 
 -- A text with its answer: number and place, or 0 and 0 where it reads.
 abbrev pub answerOf : Reading → ℕ × ℕ

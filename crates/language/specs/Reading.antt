@@ -259,14 +259,18 @@ abbrev pub ifResolved : List Mention → Outcome → Outcome
 ifResolved [] o = o
 ifResolved (m ∷ ms) o = refuse 7 (m .place)
 
+-- 8, unless the entry block is declared.
+abbrev pub ifEntry : Func → ℕ → Outcome → Outcome
+ifEntry f p o = cond (ltb (blockNumber f []) (length (f .blocks))) o (refuse 8 p)
+
 -- "Block names are resolved at the function's closing brace: 8, then 7 with the first undeclared mention."
 unfoldable pub endFunction : ℕ → Draft → Outcome
 endFunction p d =
     let f = d .function in
-    let done = fresh (d .functions ++ (resolve f (d .mentions) ∷ [])) in
-    cond (ltb (blockNumber f []) (length (f .blocks)))
-    (ifResolved (undeclared f (d .mentions)) (ifRoom (length (d .functions)) maxFunctions p (proceed done)))
-    (refuse 8 p)
+    ifEntry f p
+    (ifResolved (undeclared f (d .mentions))
+    (ifRoom (length (d .functions)) maxFunctions p
+    (proceed (fresh (d .functions ++ (resolve f (d .mentions) ∷ []))))))
 
 -- An act on the token at place p. 3 for a token that is not allowed here.
 unfoldable pub perform : Act → ℕ → Draft → Outcome
