@@ -1,6 +1,9 @@
-pub mod Instructions
-pub mod Arithmetic
-pub mod Programs
 pub mod Bytes
 pub mod Words
 pub mod Names
+pub mod Instructions
+pub mod Arithmetic
+pub mod Programs
+pub mod Checking
+pub mod Running
+pub mod Translating
