@@ -1,1 +1,2 @@
 pub mod ByteFacts
+pub mod Paths
