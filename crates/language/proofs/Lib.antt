@@ -1,4 +1,5 @@
 pub mod ByteFacts
+pub mod TokenFacts
 pub mod Paths
 pub mod Computing
 pub mod Examples

@@ -1,7 +1,7 @@
 -- The bytes of a text and their classes (document 01, "The text"). Assumes nothing.
 use mathlib.Core.Bool.{Bool, true, false, cond}
 use mathlib.Core.List.{List, [] as []ᴸ, _∷_ as _∷ᴸ_}
-use Prim.Native.Nat.{ℕ}
+use Prim.Native.Nat.{ℕ, _-_}
 use Prim.Native.Char.{Char, code}
 use Prim.Native.String.{String, [], _∷_}
 use lib.Dec.{eqb, ltb}
@@ -10,6 +10,49 @@ use lib.Dec.{eqb, ltb}
 abbrev pub bytesOf : String → List ℕ
 bytesOf [] = []ᴸ
 bytesOf (c ∷ s) = code c ∷ᴸ bytesOf s
+
+-- The bytes that the rules speak of one by one.
+abbrev pub lineFeed : ℕ
+lineFeed = 10
+
+abbrev pub quoteByte : ℕ
+quoteByte = 39
+
+abbrev pub leftParen : ℕ
+leftParen = 40
+
+abbrev pub rightParen : ℕ
+rightParen = 41
+
+abbrev pub comma : ℕ
+comma = 44
+
+abbrev pub minus : ℕ
+minus = 45
+
+abbrev pub slashByte : ℕ
+slashByte = 47
+
+abbrev pub digitZero : ℕ
+digitZero = 48
+
+abbrev pub semicolon : ℕ
+semicolon = 59
+
+abbrev pub equals : ℕ
+equals = 61
+
+abbrev pub backslash : ℕ
+backslash = 92
+
+abbrev pub letterX : ℕ
+letterX = 120
+
+abbrev pub leftBrace : ℕ
+leftBrace = 123
+
+abbrev pub rightBrace : ℕ
+rightBrace = 125
 
 -- "Each of the 256 byte values belongs to exactly one class: letter or `.` or `_`; digit; space (space, tab, CR, LF);
 -- quote; sign; slash; mark (`{ } ( ) , ; =`); other."
@@ -68,3 +111,31 @@ inName Class.other = false
 -- A name character.
 abbrev pub nameByte : ℕ → Bool
 nameByte b = inName (classOf b)
+
+abbrev pub inDigits : Class → Bool
+inDigits Class.letter = false
+inDigits Class.digit = true
+inDigits Class.space = false
+inDigits Class.quote = false
+inDigits Class.sign = false
+inDigits Class.slash = false
+inDigits Class.mark = false
+inDigits Class.other = false
+
+-- A decimal digit.
+abbrev pub digitByte : ℕ → Bool
+digitByte b = inDigits (classOf b)
+
+-- The value of a hexadecimal digit, "of both cases", or 16 for another byte.
+unfoldable pub hexValue : ℕ → ℕ
+hexValue b =
+    cond (ltb b 48) 16
+    (cond (ltb b 58) (b - 48)
+    (cond (ltb b 65) 16
+    (cond (ltb b 71) (b - 55)
+    (cond (ltb b 97) 16
+    (cond (ltb b 103) (b - 87) 16)))))
+
+-- A hexadecimal digit.
+abbrev pub hexByte : ℕ → Bool
+hexByte b = ltb (hexValue b) 16

@@ -5,14 +5,14 @@ use mathlib.Core.List.{List, [], _∷_, foldl}
 use Prim.Native.Nat.{ℕ}
 use lib.Dec.{eqb, ltb, leb}
 use lib.ListN.{length}
-use Rattle.language.specs.Bytes.{Class, classOf, nameByte}
+use Rattle.language.specs.Bytes.{Class, classOf, nameByte, quoteByte, backslash}
 use Rattle.language.specs.Words.{wordOf, wordCount}
 use Rattle.language.specs.Programs.{maxName}
 
 -- How far the bytes so far spell a name: nothing yet; a plain name; a quoted name just opened, at a byte inside it, at a
 -- backslash inside it, or closed; no name.
 pub data Spelling : Type 0 where
-  none plain opened inside backslash closed wrong : Spelling
+  none plain opened inside escaping closed wrong : Spelling
 
 -- "letter, `.` or `_`" begins a plain name, a quote a quoted one.
 abbrev pub firstSpelled : Class → Spelling
@@ -27,15 +27,15 @@ firstSpelled Class.other = Spelling.wrong
 
 -- A byte inside quotes that is no bare quote: "a backslash directly before a quote makes that quote part of the name".
 abbrev pub insideQuotes : ℕ → Spelling
-insideQuotes b = cond (eqb b 92) Spelling.backslash Spelling.inside
+insideQuotes b = cond (eqb b backslash) Spelling.escaping Spelling.inside
 
 -- "quote, one or more bytes, quote. Any byte but a bare quote may stand inside"
 abbrev pub nextSpelled : Spelling → ℕ → Spelling
 nextSpelled Spelling.none b = firstSpelled (classOf b)
 nextSpelled Spelling.plain b = cond (nameByte b) Spelling.plain Spelling.wrong
-nextSpelled Spelling.opened b = cond (eqb b 39) Spelling.wrong (insideQuotes b)
-nextSpelled Spelling.inside b = cond (eqb b 39) Spelling.closed (insideQuotes b)
-nextSpelled Spelling.backslash b = insideQuotes b
+nextSpelled Spelling.opened b = cond (eqb b quoteByte) Spelling.wrong (insideQuotes b)
+nextSpelled Spelling.inside b = cond (eqb b quoteByte) Spelling.closed (insideQuotes b)
+nextSpelled Spelling.escaping b = insideQuotes b
 nextSpelled Spelling.closed b = Spelling.wrong
 nextSpelled Spelling.wrong b = Spelling.wrong
 
@@ -49,7 +49,7 @@ whole Spelling.none = false
 whole Spelling.plain = true
 whole Spelling.opened = false
 whole Spelling.inside = false
-whole Spelling.backslash = false
+whole Spelling.escaping = false
 whole Spelling.closed = true
 whole Spelling.wrong = false
 
