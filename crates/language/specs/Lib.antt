@@ -1,3 +1,4 @@
 pub mod Instructions
 pub mod Arithmetic
 pub mod Programs
+pub mod Table
