@@ -2,7 +2,7 @@
 -- Assumes nothing.
 use mathlib.Core.Path.{_≡_}
 use mathlib.Core.List.{List, [], _∷_, _++_}
-use Prim.Native.Nat.{ℕ, _+_, _-_}
+use Prim.Native.Nat.{ℕ, _+_, _-_, _<_}
 use lib.ListN.{length, drop, replicate}
 
 -- xs, then as many zeros as make it n cells
@@ -13,6 +13,11 @@ pad n xs = xs ++ replicate (n - length xs) 0
 abbrev pub gatherFrom : {A B : Type 0} → (A → ℕ) → (ℕ → A → List B) → ℕ → List A → List B
 gatherFrom size f n [] = []
 gatherFrom size f n (x ∷ xs) = f n x ++ gatherFrom size f (n + size x) xs
+
+-- every cell is a byte
+abbrev pub Bytes : List ℕ → Type 0
+Bytes [] = Unit {0}
+Bytes (x ∷ xs) = (x < 256) × Bytes xs
 
 -- from place k on, t holds xs
 pub record At {A : Type 0} (t : List A) (k : ℕ) (xs : List A) : Type 0 where

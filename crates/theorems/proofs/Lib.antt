@@ -1,0 +1,4 @@
+pub mod TableParts
+pub mod TableFunction
+pub mod TableBytes
+pub mod Table
