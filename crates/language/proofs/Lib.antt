@@ -1,5 +1,6 @@
 pub mod ByteFacts
 pub mod TokenFacts
+pub mod TableFacts
 pub mod Paths
 pub mod Computing
 pub mod Examples

@@ -8,6 +8,8 @@ pub mod Arithmetic
 pub mod Programs
 pub mod Grammar
 pub mod Reading
+pub mod Table
 pub mod Checking
 pub mod Running
 pub mod Translating
+pub mod Answers

@@ -9,7 +9,8 @@ use lib.ListN.{length, getD}
 use Rattle.laws.specs.Lists.{any}
 use Rattle.language.specs.Programs.{Func, Program, noFunction, isSsa, isPhi, rowsOf}
 use Rattle.language.specs.Checking.{Verdict, check}
-use Rattle.language.specs.Running.{Outcome, Ends, NotEnded, argumentsFit}
+use Rattle.language.specs.Running.{Place, Outcome, Run, runOf, Ends, NotEnded, argumentsFit}
+use Rattle.language.specs.Answers.{Ran, ranAs}
 use Rattle.language.specs.Translating.{translation, translationFits, stepFormula}
 
 -- Demand 3 of one function f and arguments: its translation has "no phi", is "accepted without ssa", ends "exactly if the source
@@ -33,3 +34,23 @@ Demand3 =
     → check p ≡ Verdict.accepted
     → i < length p
     → (let f = getD p i noFunction in T (isSsa f) → T (translationFits f) → T (argumentsFit f args) → Translates f args)
+
+-- ---- budgets
+
+-- A larger budget changes no ended run.
+abbrev pub LargerBudget : Type 0
+LargerBudget =
+    (f : Func) (args : List ℕ) (n m : ℕ) (o : Outcome) (p : Place) (g : List ℕ)
+    → n ≤ m → runOf f args n ≡ Run.ended o p g → runOf f args m ≡ Run.ended o p g
+
+-- The answer of a run of function i that ended with this outcome, by its place and steps.
+abbrev pub ranOf : Outcome → ℕ → ℕ → Ran
+ranOf (Outcome.returned v) p n = Ran.returned v n
+ranOf Outcome.left p n = Ran.left n
+ranOf (Outcome.stopped k) p n = Ran.stopped k p n
+
+-- A run with a budget agrees with the run without one: "a run that needs exactly its budget ends normally", and one that needs more answers 43
+-- after as many steps as the budget has.
+pub record BudgetAgrees (i : ℕ) (f : Func) (args : List ℕ) (budget : ℕ) : Type 0 where
+  pub ended : (n : ℕ) (o : Outcome) → n ≤ budget → Ends f args n o → (p : ℕ) × (ranAs i f (runOf f args budget) ≡ ranOf o p n)
+  pub going : NotEnded f args budget → (p : ℕ) × (ranAs i f (runOf f args budget) ≡ Ran.stopped 43 p budget)
