@@ -1,9 +1,11 @@
-pub mod ByteFacts
-pub mod TokenFacts
-pub mod TableFacts
-pub mod Paths
 pub mod Computing
 pub mod Examples
+pub mod ByteFacts
+pub mod TokenFacts
+pub mod ReadingFacts
+pub mod TableFacts
+pub mod Paths
 pub mod CheckFacts
 pub mod RunFacts
 pub mod WrongTurns
+pub mod WholeWay

@@ -10,20 +10,11 @@ use Rattle.language.specs.Running.{Outcome, runOf}
 use Rattle.language.specs.Translating.{translation}
 use Rattle.language.proofs.Computing.{computing}
 use Rattle.language.proofs.Examples.{func}
+use Rattle.language.proofs.ReadingFacts.{turn}
 use Rattle.language.proofs.RunFacts.{Summary, summary}
 
--- "Phi turned into copies in row order: P3 then gives 9." x and y change places n times: parameters x0 0, y0 1, n 2; x 3, y 4, k 5; one 6, z 7,
--- m 8, c 9.
-abbrev pub swaps : Func
-swaps =
-    func 1 7 3 (7 ∷ 7 ∷ 4 ∷ 7 ∷ 7 ∷ 4 ∷ 4 ∷ 4 ∷ 4 ∷ uint ∷ [])
-    ((Row.load 2 6 1 ∷ Row.load 2 7 0 ∷ Row.jump 1 ∷ [])
-    ∷ (Row.phi 3 (0 ∷ 4 ∷ []) ∷ Row.phi 4 (1 ∷ 3 ∷ []) ∷ Row.phi 5 (2 ∷ 8 ∷ []) ∷ Row.binary 23 9 5 7 ∷ Row.branch 9 3 2 ∷ [])
-    ∷ (Row.binary 10 8 5 6 ∷ Row.jump 1 ∷ [])
-    ∷ (Row.return 3 ∷ [])
-    ∷ [])
-
--- The same with the copies in row order.
+-- "Phi turned into copies in row order: P3 then gives 9." `turn` with its copies in row order: parameters a 0, b 1, n 2; x 3, y 4, k 5, one 6, z 7, m 8,
+-- c 9.
 abbrev pub inRowOrder : Func
 inRowOrder =
     func 0 7 3 (7 ∷ 7 ∷ 4 ∷ 7 ∷ 7 ∷ 4 ∷ 4 ∷ 4 ∷ 4 ∷ uint ∷ [])
@@ -36,12 +27,12 @@ inRowOrder =
 abbrev given : List ℕ
 given = 7 ∷ 9 ∷ 2 ∷ []
 
-pub parallel : summary (runOf swaps given 23) .outcome ≡ Outcome.returned 7
-unfolding computing
+pub parallel : summary (runOf turn given 23) .outcome ≡ Outcome.returned 7
+unfolding computing turn
 parallel = refl
 
-pub parallel-translated : summary (runOf (translation swaps) given 35) .outcome ≡ Outcome.returned 7
-unfolding computing
+pub parallel-translated : summary (runOf (translation turn) given 35) .outcome ≡ Outcome.returned 7
+unfolding computing turn
 parallel-translated = refl
 
 pub row-order-differs : summary (runOf inRowOrder given 99) .outcome ≡ Outcome.returned 9

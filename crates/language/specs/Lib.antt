@@ -13,3 +13,4 @@ pub mod Checking
 pub mod Running
 pub mod Translating
 pub mod Answers
+pub mod Listing
