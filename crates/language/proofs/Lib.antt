@@ -8,4 +8,5 @@ pub mod Paths
 pub mod CheckFacts
 pub mod RunFacts
 pub mod WrongTurns
-pub mod WholeWay
+pub mod WholeFunction
+pub mod Marked

@@ -1,5 +1,4 @@
--- Runs by computation: the marked cases P4 to P11 of document 01, one table with one statement, and what a run leaves.
--- (P1 to P3 and P12 go from their texts: WholeWay.)
+-- Runs by computation: each instruction, and what a run leaves. (P1 to P12 are in Marked.)
 -- Assumes nothing.
 use mathlib.Core.Path.{_≡_, refl}
 use mathlib.Core.List.{List, [], _∷_, map}
@@ -55,32 +54,9 @@ abbrev unary : ℕ → ℕ → ℕ → ℕ → Reported → Case
 unary op t s a v = record { function = unaryFunc op t s; arguments = a ∷ []; report = v }
 
 -- int8 is 0, int16 1, uint8 4, uint16 5; -7 is 249, -128 is 128 and -1 is 255 in eight bits.
-abbrev pub marked : List Case
-marked =
-    -- P4 int8 100 + 100 = -56
-    binary 9 0 0 0 100 100 (Reported.whole (negℤ (pos 56)))
-    -- P5 int8 -7 div 2 = -3, rem -1
-    ∷ binary 12 0 0 0 249 2 (Reported.whole (negℤ (pos 3)))
-    ∷ binary 13 0 0 0 249 2 (Reported.whole (negℤ (pos 1)))
-    -- P6 int8 -128 div -1 stops 42, rem 0
-    ∷ binary 12 0 0 0 128 255 (Reported.stop 42)
-    ∷ binary 13 0 0 0 128 255 (Reported.whole (pos 0))
-    -- P7 int8 -128 shr 7 = -1
-    ∷ binary 20 0 0 uint 128 7 (Reported.whole (negℤ (pos 1)))
-    -- P8 uint8 shl by 7 runs, by 8 stops 41
-    ∷ binary 19 4 4 uint 3 7 (Reported.whole (pos 128))
-    ∷ binary 19 4 4 uint 3 8 (Reported.stop 41)
-    -- P9 uint8 0x81 rol 1 = 3
-    ∷ binary 21 4 4 uint 129 1 (Reported.whole (pos 3))
-    -- P10 conv int8 -1 to uint16 = 65,535
-    ∷ unary 29 5 0 255 (Reported.whole (pos 65535))
-    -- P11 negated int8 -128 is -128
-    ∷ unary 14 0 0 128 (Reported.whole (negℤ (pos 128)))
-    ∷ []
-
--- The other instructions, and the edges of those above.
-abbrev more : List Case
-more =
+-- Every instruction that computes, and the edges of those of P4 to P11.
+abbrev computed : List Case
+computed =
     -- ari.sub a, b is a - b; mul wraps; a zero divisor stops 40 for both
     binary 10 4 4 4 3 5 (Reported.whole (pos 254))
     ∷ binary 10 0 0 0 3 5 (Reported.whole (negℤ (pos 2)))
@@ -120,13 +96,9 @@ pub Right : List Case → Type 0
 Right cs =
     map (λ c. reported (c .function .result) (summary (runOf (c .function) (c .arguments) 2) .outcome)) cs ≡ map (λ c. c .report) cs
 
-pub marked-right : Right marked
+pub computed-right : Right computed
 unfolding computing Right
-marked-right = refl
-
-pub more-right : Right more
-unfolding computing Right
-more-right = refl
+computed-right = refl
 
 -- "Each instruction .. is one step; one that stops counts too": `ari.div` by 0 in row 1 stops after 2 steps, with the registers as
 -- row 0 left them.
