@@ -3,11 +3,11 @@
 use mathlib.Core.Bool.{true, false}
 use mathlib.Core.Path.{_≡_, refl}
 use mathlib.Core.List.{List, [], _∷_}
-use Prim.Native.Nat.{ℕ}
-use lib.ListN.{take, set}
+use Prim.Native.Nat.{ℕ, zero, suc}
+use lib.ListN.{take}
 use Rattle.laws.specs.Sections.{pad}
 use Rattle.language.specs.Instructions.{formOf}
-use Rattle.language.specs.Programs.{Row, Register, Block, Func, rowsOf}
+use Rattle.language.specs.Programs.{Row, Func, rowsOf}
 use Rattle.language.specs.Table.{decodeRow, decodeAs, decodeRegister, decodeBlock, blocksPlaced, phisPlaced, decodeFunction}
 use Rattle.language.specs.Table.{nameCells, registerCells, blockCells, rowCells, headCells, registerSection, blockSection, rowSection, entrySection, functionCells}
 
@@ -80,3 +80,36 @@ example =
 example-back : decodeFunction (functionCells example) 0 ≡ example
 unfolding pad formOf rowsOf decodeRow decodeAs decodeRegister decodeBlock blocksPlaced phisPlaced decodeFunction nameCells registerCells blockCells rowCells headCells registerSection blockSection rowSection entrySection functionCells
 example-back = refl
+
+-- ---- A stored position that is not the one the counts give: a block at row x, whose one row is a phi with its entries
+-- from y on. Right are 0 and 0.
+
+-- n cells that are not needed, here 7, then xs
+abbrev behind : ℕ → List ℕ → List ℕ
+behind zero xs = xs
+behind (suc n) xs = let rest = behind n xs in 7 ∷ rest
+
+abbrev stored : ℕ → ℕ → List ℕ
+stored x y = behind 6 (1 ∷ behind 16962 (x ∷ 0 ∷ 1 ∷ 0 ∷ behind 4412 (31 ∷ 7 ∷ 7 ∷ 7 ∷ y ∷ 0 ∷ 2 ∷ 0 ∷ [])))
+
+block-misplaced : blocksPlaced (stored 1 0) 0 ≡ false
+unfolding blocksPlaced
+block-misplaced = refl
+
+phi-misplaced : phisPlaced (stored 0 1) 0 ≡ false
+unfolding phisPlaced
+phi-misplaced = refl
+
+-- ---- Cells that are not needed are not looked at.
+
+jump-alone : decodeRow (behind 21385 (32 ∷ 7 ∷ 7 ∷ 7 ∷ 3 ∷ 7 ∷ 7 ∷ [])) 0 0 ≡ Row.jump 3
+unfolding formOf decodeRow decodeAs
+jump-alone = refl
+
+return-alone : decodeRow (behind 21385 (34 ∷ 7 ∷ 4 ∷ 7 ∷ 7 ∷ 7 ∷ 7 ∷ [])) 0 0 ≡ Row.return 4
+unfolding formOf decodeRow decodeAs
+return-alone = refl
+
+leave-alone : decodeRow (behind 21385 (35 ∷ 7 ∷ 7 ∷ 7 ∷ 7 ∷ 7 ∷ 7 ∷ [])) 0 0 ≡ Row.leave
+unfolding formOf decodeRow decodeAs
+leave-alone = refl

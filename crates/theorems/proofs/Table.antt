@@ -1,18 +1,18 @@
 -- The law of the table: each function stands at its place and is read back there.
 -- Assumes nothing.
-use mathlib.Core.Path.{_≡_, refl, ap, _∙_}
-use mathlib.Core.List.{List, [], _∷_, map}
-use Prim.Native.Nat.{ℕ, suc, _+_, _*_, _≤_, _<_}
+use mathlib.Core.Path.{_≡_, refl, ap}
+use mathlib.Core.List.{[], _∷_}
+use Prim.Native.Nat.{ℕ, suc, _<_}
 use native.Mathlib.Nat.{zero-add}
 use native.Mathlib.Omega.{arith}
 use lib.ListN.{length, getD}
-use Rattle.laws.specs.Lists.{gather, below}
-use Rattle.laws.specs.Sections.{At, Bytes, pad, gatherFrom}
+use Rattle.laws.specs.Lists.{gather}
+use Rattle.laws.specs.Sections.{At, Bytes, pad}
 use Rattle.laws.proofs.Ranges.{map-from}
 use Rattle.laws.proofs.Sections.{at-self, at-right, at-pad, at-stride, gather-is-from, length-gatherFrom, length-pad, bytes-pad, bytes-gatherFrom}
-use Rattle.language.specs.Programs.{Func, Program, noFunction}
+use Rattle.language.specs.Programs.{Program, noFunction}
 use Rattle.language.specs.Table.{tableLength, functionCount, functionAt, functionCells, cells, decodeFunction, decode}
-use Rattle.theorems.specs.TableLaw.{Fits, Held, TableLaw}
+use Rattle.theorems.specs.TableLaw.{Fits, TableLaw}
 use Rattle.theorems.proofs.TableFunction.{length-function, function-back}
 use Rattle.theorems.proofs.TableBytes.{function-bytes}
 

@@ -1,12 +1,11 @@
 -- The cells of a program that fits are bytes: each part's are.
 -- Assumes nothing.
-use mathlib.Core.Path.{_≡_, refl}
 use mathlib.Core.List.{List, [], _∷_, _++_}
-use Prim.Native.Nat.{ℕ, zero, _+_, _*_, _/_, _%_, _≤_, _<_}
+use Prim.Native.Nat.{ℕ}
 use native.Mathlib.Omega.{arith}
 use lib.ListN.{length, getD}
 use Rattle.laws.specs.Lists.{gather}
-use Rattle.laws.specs.Sections.{Bytes, pad, gatherFrom}
+use Rattle.laws.specs.Sections.{Bytes, gatherFrom}
 use Rattle.laws.proofs.Sections.{bytes-append, bytes-pad, bytes-gatherFrom, gather-is-from}
 use Rattle.language.specs.Programs.{Row, Register, Block, Func, entriesOf, rowsOf, noRegister, noBlock}
 use Rattle.language.specs.Table.{twoBytes, nameCells, registerCells, blockCells, rowCells, headCells, registerSection, blockSection, rowSection, entrySection, functionCells}

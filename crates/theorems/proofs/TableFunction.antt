@@ -1,24 +1,24 @@
 -- One function of a table, read back: its sections stand one behind the other, each as long as its offsets say.
 -- Assumes nothing.
-use mathlib.Core.Bool.{true, false, cond, _&&_}
+use mathlib.Core.Bool.{true, cond, _&&_}
 use mathlib.Core.Path.{_≡_, refl, sym, ap, _∙_}
-use mathlib.Core.List.{List, [], _∷_, _++_, map, append-nil}
-use Prim.Native.Nat.{ℕ, zero, suc, _+_, _*_, _≤_, _<_}
+use mathlib.Core.List.{List, [], _∷_, _++_, map}
+use Prim.Native.Nat.{ℕ, suc, _+_, _*_, _≤_, _<_}
 use native.Mathlib.Nat.{zero-add, le-refl, le-of-lt, mod-eq-of-lt}
 use native.Mathlib.Omega.{arith}
 use lib.Dec.{eqb, lit<}
 use lib.ListN.{length, getD, take, length-append}
 use lib.Seq.{take-length}
 use borrow.Author.Tests.{eq-eqb}
-use Rattle.laws.specs.Lists.{gather, sum, from, below, all}
-use Rattle.laws.specs.Sections.{At, pad, gatherFrom}
+use Rattle.laws.specs.Lists.{gather, sum, below}
+use Rattle.laws.specs.Sections.{At, gatherFrom}
 use Rattle.laws.proofs.Ranges.{map-from, map-from-take, all-from, sum-take}
 use Rattle.laws.proofs.Sections.{at-move, at-self, at-left, at-right, at-cell, at-pad, at-gather, at-stride, gather-is-from, length-gather, length-gatherFrom, length-pad}
 use Rattle.language.specs.Programs.{Row, Register, Block, Func, entriesOf, rowsOf, entryCount, blockAt, noRegister, noBlock}
 use Rattle.language.specs.Table.{twoBytes, nameCells, registerCells, blockCells, rowCells, headCells, registerSection, blockSection, rowSection, entrySection, functionCells}
 use Rattle.language.specs.Table.{decodeRegister, decodeRow, decodeBlock, decodeFunction, blocksPlaced, phisPlaced}
 use Rattle.language.specs.Table.{functionName, functionSsa, functionResult, functionParams, functionEntry, registerCount, blockCount, blockFirst, blockRows, rowsBefore, rowCount, rowOp, phiFirst, rowEntries, entriesBefore}
-use Rattle.theorems.specs.TableLaw.{NameFits, RegisterFits, RowFits, FunctionFits}
+use Rattle.theorems.specs.TableLaw.{FunctionFits}
 use Rattle.theorems.proofs.TableParts.{two-back, name-back, register-back, length-row, row-back, row-entries-back, phi-placed-back, block-first-back, block-rows-back, block-back}
 
 -- ---- lengths

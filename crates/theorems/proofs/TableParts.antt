@@ -1,19 +1,18 @@
 -- The parts of a table, read back: numbers, names, registers, rows and blocks, each from the cells that `cells` writes for it.
 -- Assumes nothing.
 use mathlib.Core.Bool.{true, false, cond, true≢false}
-use mathlib.Core.Path.{_≡_, refl, sym, ap, _∙_}
+use mathlib.Core.Path.{_≡_, refl, ap, _∙_}
 use mathlib.Core.List.{List, [], _∷_, _++_, map}
-use Prim.Native.Nat.{ℕ, zero, suc, _+_, _*_, _/_, _%_, _^_, _≤_, _<_}
+use Prim.Native.Nat.{ℕ, _+_, _*_, _/_, _%_, _^_, _<_}
 use native.Mathlib.Nat.{zero-lt-suc, mod-eq-of-lt}
 use native.Mathlib.Omega.{arith}
-use lib.Arith.{mod-mul}
 use lib.Dec.{eqb, lit<}
 use borrow.Author.Tests.{eq-eqb, ne-eqb}
-use lib.ListN.{length, getD, take, drop}
+use lib.ListN.{length, getD}
 use Rattle.laws.specs.Lists.{from}
 use Rattle.laws.specs.Sections.{At, pad}
 use Rattle.laws.proofs.Ranges.{map-from}
-use Rattle.laws.proofs.Sections.{at-move, at-left, at-right, at-cell, at-part, at-pad}
+use Rattle.laws.proofs.Sections.{at-left, at-right, at-cell, at-part, at-pad}
 use Rattle.language.specs.Instructions.{Form, formOf}
 use Rattle.language.specs.Programs.{Row, Register, Block, entriesOf, opOf, formIn, isPhi}
 use Rattle.language.specs.Table.{two, four, eight, nameAt, twoBytes, fourBytes, eightBytes, nameCells, registerCells, blockCells, rowCells}

@@ -2,12 +2,12 @@
 -- Assumes nothing.
 use mathlib.Core.Bool.{true}
 use mathlib.Core.Path.{_≡_}
-use mathlib.Core.List.{List, [], _∷_}
+use mathlib.Core.List.{List}
 use Prim.Native.Nat.{ℕ, _^_, _≤_, _<_}
 use lib.ListN.{length, getD}
 use Rattle.laws.specs.Sections.{Bytes}
 use Rattle.language.specs.Instructions.{formOf}
-use Rattle.language.specs.Programs.{Row, Register, Block, Func, Program, opOf, formIn, targetsOf, sourcesOf, entriesOf, namedBy, rowsOf, entryCount, blockAt, noRegister, noFunction}
+use Rattle.language.specs.Programs.{Row, Register, Func, Program, opOf, formIn, targetsOf, sourcesOf, entriesOf, namedBy, rowsOf, entryCount, blockAt, noRegister, noFunction}
 use Rattle.language.specs.Programs.{maxFunctions, maxRegisters, maxBlocks, maxRows, maxEntries, maxName}
 use Rattle.language.specs.Table.{tableLength, cells, decode}
 
