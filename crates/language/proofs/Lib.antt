@@ -1,4 +1,13 @@
+pub mod Computing
+pub mod Examples
 pub mod ByteFacts
 pub mod TokenFacts
 pub mod ReadingFacts
 pub mod SizeFacts
+pub mod TableFacts
+pub mod Paths
+pub mod CheckFacts
+pub mod RunFacts
+pub mod WrongTurns
+pub mod WholeFunction
+pub mod Marked

@@ -67,12 +67,12 @@ turn =
       placed = true;
     }
 
-turn-reads : read turnText ≡ Reading.program (turn ∷ [])
+pub turn-reads : read turnText ≡ Reading.program (turn ∷ [])
 unfolding reads turnText turn
 turn-reads = refl
 
 -- "Whole output here: `turn`⇥`1`⇥`10`⇥`4`⇥`11`."
-turn-listing : listingOf (turn ∷ []) ≡ bytesOf "turn\t1\t10\t4\t11\n"
+pub turn-listing : listingOf (turn ∷ []) ≡ bytesOf "turn\t1\t10\t4\t11\n"
 unfolding reads turn
 turn-listing = refl
 

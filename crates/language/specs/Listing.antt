@@ -8,6 +8,8 @@ use lib.ListN.{length}
 use Rattle.laws.specs.Lists.{gather}
 use Rattle.language.specs.Bytes.{bytesOf, digitZero, lineFeed}
 use Rattle.language.specs.Programs.{Func, Program, rowsOf}
+use Rattle.language.specs.Reading.{Reading, read}
+use Rattle.language.specs.Checking.{Verdict, check}
 
 -- The decimal digits of a number that has no more than the first argument and one.
 abbrev pub digitsWithin : ℕ → ℕ → List ℕ
@@ -37,3 +39,16 @@ listingOf p = gather functionLine p
 
 unfoldable pub refusedLine : (number place : ℕ) → List ℕ
 refusedLine n p = line (bytesOf "refused") (n ∷ p ∷ [])
+
+-- What is printed of a program: its lines, or its refusal by the check.
+abbrev pub judged : Program → Verdict → List ℕ
+judged p Verdict.accepted = listingOf p
+judged p (Verdict.refused n r) = refusedLine n r
+
+abbrev pub listed : Reading → List ℕ
+listed (Reading.refused n p) = refusedLine n p
+listed (Reading.program p) = judged p (check p)
+
+-- What is printed of a text: it is read and checked.
+unfoldable pub listing : List ℕ → List ℕ
+listing text = listed (read text)

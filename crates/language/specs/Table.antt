@@ -1,0 +1,238 @@
+-- The table: a program as bytes at fixed offsets (document 01, "A table holds the same as numbers and name bytes:
+-- functions, their registers, their blocks with the rows of each, one block after the other, and which block is entry").
+-- docs/TABLE.md states the layout cell by cell. "cells not needed are 0 in an output and ignored in an input": `cells` writes
+-- those as 0, `decode` never looks at one. `decode` takes any list: a cell past the end counts as 0.
+-- Assumes nothing.
+use mathlib.Core.Bool.{Bool, true, cond, _&&_}
+use mathlib.Core.List.{List, [], _∷_, _++_, map}
+use Prim.Native.Nat.{ℕ, _+_, _*_, _/_, _%_}
+use lib.Dec.{eqb}
+use lib.ListN.{length, getD, take, drop}
+use Rattle.laws.specs.Lists.{all, below, from, gather, sum}
+use Rattle.laws.specs.Sections.{pad, gatherFrom}
+use Rattle.language.specs.Instructions.{Form, formOf}
+use Rattle.language.specs.Programs.{Row, Register, Block, Func, Program, entriesOf, rowsOf}
+
+-- "A lent table has the one length that docs/ states": the function count, and 16 functions of 34,697 cells.
+abbrev pub functionLength : ℕ
+functionLength = 34697
+
+abbrev pub tableLength : ℕ
+tableLength = 555153
+
+-- ---- Cells to numbers: the number of two, four or eight bytes from cell k on, low byte first, and a name.
+
+abbrev pub two : List ℕ → ℕ → ℕ
+two t k = getD t k 0 + 256 * getD t (k + 1) 0
+
+abbrev pub four : List ℕ → ℕ → ℕ
+four t k = two t k + 65536 * two t (k + 2)
+
+abbrev pub eight : List ℕ → ℕ → ℕ
+eight t k = four t k + 4294967296 * four t (k + 4)
+
+-- The name whose length is cell k and whose bytes follow.
+abbrev pub nameAt : List ℕ → ℕ → List ℕ
+nameAt t k = take (getD t k 0) (drop (k + 1) t)
+
+-- ---- The accessors. `a` is the cell where the function begins.
+
+abbrev pub functionCount : List ℕ → ℕ
+functionCount t = getD t 0 0
+
+abbrev pub functionAt : ℕ → ℕ
+functionAt i = 1 + 34697 * i
+
+abbrev pub functionSsa : List ℕ → ℕ → ℕ
+functionSsa t a = getD t a 0
+
+abbrev pub functionResult : List ℕ → ℕ → ℕ
+functionResult t a = getD t (a + 1) 0
+
+abbrev pub functionParams : List ℕ → ℕ → ℕ
+functionParams t a = two t (a + 2)
+
+abbrev pub registerCount : List ℕ → ℕ → ℕ
+registerCount t a = two t (a + 4)
+
+abbrev pub blockCount : List ℕ → ℕ → ℕ
+blockCount t a = getD t (a + 6) 0
+
+abbrev pub functionEntry : List ℕ → ℕ → ℕ
+functionEntry t a = getD t (a + 7) 0
+
+abbrev pub functionName : List ℕ → ℕ → List ℕ
+functionName t a = nameAt t (a + 8)
+
+abbrev pub registerType : List ℕ → ℕ → ℕ → ℕ
+registerType t a r = getD t (a + 73 + 66 * r) 0
+
+abbrev pub registerName : List ℕ → ℕ → ℕ → List ℕ
+registerName t a r = nameAt t (a + 74 + 66 * r)
+
+abbrev pub blockFirst : List ℕ → ℕ → ℕ → ℕ
+blockFirst t a b = two t (a + 16969 + 69 * b)
+
+abbrev pub blockRows : List ℕ → ℕ → ℕ → ℕ
+blockRows t a b = two t (a + 16971 + 69 * b)
+
+abbrev pub blockName : List ℕ → ℕ → ℕ → List ℕ
+blockName t a b = nameAt t (a + 16973 + 69 * b)
+
+-- A row: the instruction's number, its target, its first and second source, and eight operand bytes,
+abbrev pub rowOp : List ℕ → ℕ → ℕ → ℕ
+rowOp t a r = getD t (a + 21385 + 12 * r) 0
+
+abbrev pub rowTarget : List ℕ → ℕ → ℕ → ℕ
+rowTarget t a r = getD t (a + 21386 + 12 * r) 0
+
+abbrev pub rowLeft : List ℕ → ℕ → ℕ → ℕ
+rowLeft t a r = getD t (a + 21387 + 12 * r) 0
+
+abbrev pub rowRight : List ℕ → ℕ → ℕ → ℕ
+rowRight t a r = getD t (a + 21388 + 12 * r) 0
+
+-- which are a load's number,
+abbrev pub loadNumber : List ℕ → ℕ → ℕ → ℕ
+loadNumber t a r = eight t (a + 21389 + 12 * r)
+
+-- the one block of a jump or the two of a jump.cond,
+abbrev pub jumpFirst : List ℕ → ℕ → ℕ → ℕ
+jumpFirst t a r = getD t (a + 21389 + 12 * r) 0
+
+abbrev pub jumpSecond : List ℕ → ℕ → ℕ → ℕ
+jumpSecond t a r = getD t (a + 21390 + 12 * r) 0
+
+-- or where a phi's entries begin, and their count.
+abbrev pub phiFirst : List ℕ → ℕ → ℕ → ℕ
+phiFirst t a r = two t (a + 21389 + 12 * r)
+
+abbrev pub phiCount : List ℕ → ℕ → ℕ → ℕ
+phiCount t a r = two t (a + 21391 + 12 * r)
+
+-- Phi entry k of the function, a register.
+abbrev pub phiEntry : List ℕ → ℕ → ℕ → ℕ
+phiEntry t a k = getD t (a + 33673 + k) 0
+
+-- ---- Cells to program.
+
+-- Row r, in the form of its instruction.
+unfoldable pub decodeAs : Form → List ℕ → ℕ → ℕ → Row
+decodeAs Form.nop t a r = Row.nop
+decodeAs Form.load t a r = Row.load (rowOp t a r) (rowTarget t a r) (loadNumber t a r)
+decodeAs Form.unary t a r = Row.unary (rowOp t a r) (rowTarget t a r) (rowLeft t a r)
+decodeAs Form.binary t a r = Row.binary (rowOp t a r) (rowTarget t a r) (rowLeft t a r) (rowRight t a r)
+decodeAs Form.phi t a r = Row.phi (rowTarget t a r) (map (phiEntry t a) (from (phiFirst t a r) (phiCount t a r)))
+decodeAs Form.jump t a r = Row.jump (jumpFirst t a r)
+decodeAs Form.branch t a r = Row.branch (rowLeft t a r) (jumpFirst t a r) (jumpSecond t a r)
+decodeAs Form.return t a r = Row.return (rowLeft t a r)
+decodeAs Form.leave t a r = Row.leave
+decodeAs Form.unknown t a r = Row.unknown (rowOp t a r)
+
+unfoldable pub decodeRow : List ℕ → ℕ → ℕ → Row
+decodeRow t a r = decodeAs (formOf (rowOp t a r)) t a r
+
+unfoldable pub decodeRegister : List ℕ → ℕ → ℕ → Register
+decodeRegister t a r = record { type = registerType t a r; name = registerName t a r }
+
+unfoldable pub decodeBlock : List ℕ → ℕ → ℕ → Block
+decodeBlock t a b = record { name = blockName t a b; rows = map (decodeRow t a) (from (blockFirst t a b) (blockRows t a b)) }
+
+-- The rows before block b, and those of the whole function.
+abbrev pub rowsBefore : List ℕ → ℕ → ℕ → ℕ
+rowsBefore t a b = sum (map (blockRows t a) (below b))
+
+abbrev pub rowCount : List ℕ → ℕ → ℕ
+rowCount t a = rowsBefore t a (blockCount t a)
+
+-- The phi entries of row r, and those of the rows before it.
+abbrev pub rowEntries : List ℕ → ℕ → ℕ → ℕ
+rowEntries t a r = cond (eqb (rowOp t a r) 31) (phiCount t a r) 0
+
+abbrev pub entriesBefore : List ℕ → ℕ → ℕ → ℕ
+entriesBefore t a r = sum (map (rowEntries t a) (below r))
+
+-- The stored positions are those the counts give: each block's first row, each phi's first entry.
+unfoldable pub blocksPlaced : List ℕ → ℕ → Bool
+blocksPlaced t a = all (λ b. eqb (blockFirst t a b) (rowsBefore t a b)) (below (blockCount t a))
+
+unfoldable pub phisPlaced : List ℕ → ℕ → Bool
+phisPlaced t a = all (λ r. cond (eqb (rowOp t a r) 31) (eqb (phiFirst t a r) (entriesBefore t a r)) true) (below (rowCount t a))
+
+unfoldable pub decodeFunction : List ℕ → ℕ → Func
+decodeFunction t a =
+    record {
+      name = functionName t a;
+      ssa = functionSsa t a;
+      result = functionResult t a;
+      params = functionParams t a;
+      registers = map (decodeRegister t a) (below (registerCount t a));
+      blocks = map (decodeBlock t a) (below (blockCount t a));
+      entry = functionEntry t a;
+      placed = blocksPlaced t a && phisPlaced t a;
+    }
+
+unfoldable pub decode : List ℕ → Program
+decode t = map (λ i. decodeFunction t (functionAt i)) (below (functionCount t))
+
+-- ---- Numbers to cells, low byte first.
+
+abbrev pub twoBytes : ℕ → List ℕ
+twoBytes n = n % 256 ∷ n / 256 % 256 ∷ []
+
+abbrev pub fourBytes : ℕ → List ℕ
+fourBytes n = twoBytes n ++ twoBytes (n / 65536)
+
+abbrev pub eightBytes : ℕ → List ℕ
+eightBytes n = fourBytes n ++ fourBytes (n / 4294967296)
+
+-- A name's length and its bytes, 65 cells.
+unfoldable pub nameCells : List ℕ → List ℕ
+nameCells name = length name ∷ pad 64 name
+
+-- ---- Program to cells. Positions come from the counts.
+
+-- 66 cells of a register.
+unfoldable pub registerCells : Register → List ℕ
+registerCells r = r .type ∷ nameCells (r .name)
+
+-- 69 cells of a block whose first row is n.
+unfoldable pub blockCells : ℕ → Block → List ℕ
+blockCells n b = twoBytes n ++ (twoBytes (length (b .rows)) ++ nameCells (b .name))
+
+-- 12 cells of a row; the entries of a phi begin at n.
+unfoldable pub rowCells : ℕ → Row → List ℕ
+rowCells n Row.nop = pad 12 (0 ∷ [])
+rowCells n (Row.load op t x) = op ∷ t ∷ 0 ∷ 0 ∷ eightBytes x
+rowCells n (Row.unary op t s) = pad 12 (op ∷ t ∷ s ∷ [])
+rowCells n (Row.binary op t l r) = pad 12 (op ∷ t ∷ l ∷ r ∷ [])
+rowCells n (Row.phi t es) = pad 12 (31 ∷ t ∷ 0 ∷ 0 ∷ (twoBytes n ++ twoBytes (length es)))
+rowCells n (Row.jump b) = pad 12 (32 ∷ 0 ∷ 0 ∷ 0 ∷ b ∷ [])
+rowCells n (Row.branch s x y) = pad 12 (33 ∷ 0 ∷ s ∷ 0 ∷ x ∷ y ∷ [])
+rowCells n (Row.return s) = pad 12 (34 ∷ 0 ∷ s ∷ [])
+rowCells n Row.leave = pad 12 (35 ∷ [])
+rowCells n (Row.unknown op) = pad 12 (op ∷ [])
+
+-- 73 cells at a function's beginning.
+unfoldable pub headCells : Func → List ℕ
+headCells f =
+    f .ssa ∷ f .result ∷ (twoBytes (f .params) ++ (twoBytes (length (f .registers)) ++ (length (f .blocks) ∷ f .entry ∷ nameCells (f .name))))
+
+-- The sections of a function: head, registers, blocks, rows, phi entries.
+unfoldable pub registerSection : Func → List ℕ
+registerSection f = pad 16896 (gather registerCells (f .registers))
+
+unfoldable pub blockSection : Func → List ℕ
+blockSection f = pad 4416 (gatherFrom (λ b. length (b .rows)) blockCells 0 (f .blocks))
+
+unfoldable pub rowSection : Func → List ℕ
+rowSection f = pad 12288 (gatherFrom (λ r. length (entriesOf r)) rowCells 0 (rowsOf f))
+
+unfoldable pub entrySection : Func → List ℕ
+entrySection f = pad 1024 (gather entriesOf (rowsOf f))
+
+unfoldable pub functionCells : Func → List ℕ
+functionCells f = headCells f ++ (registerSection f ++ (blockSection f ++ (rowSection f ++ entrySection f)))
+
+unfoldable pub cells : Program → List ℕ
+cells p = length p ∷ pad 555152 (gather functionCells p)

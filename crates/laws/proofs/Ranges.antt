@@ -1,0 +1,42 @@
+-- Laws of the ranges of numbers and of sums.
+-- Assumes nothing.
+use mathlib.Core.Bool.{Bool, true}
+use mathlib.Core.Path.{_≡_, refl, sym, ap, _∙_}
+use mathlib.Core.List.{List, [], _∷_, map}
+use Prim.Native.Nat.{ℕ, zero, suc, _+_, _≤_, _<_, suc-le-suc}
+use native.Mathlib.Nat.{zero-lt-suc, add-zero, add-suc, suc-add, not-suc-le-zero, le-of-suc-le-suc}
+use native.Mathlib.Omega.{arith}
+use lib.ListN.{length, getD, take, length-map, List·getD-map}
+use lib.Seq.{length-take-le, getD-take}
+use Rattle.laws.specs.Lists.{from, all, sum}
+
+-- f of k, k + 1 and so on is the list xs, if it is so element by element
+pub map-from : {A : Type 0} (f : ℕ → A) (d : A) (k : ℕ) (xs : List A) → ((i : ℕ) → i < length xs → f (k + i) ≡ getD xs i d)
+    → map f (from k (length xs)) ≡ xs
+map-from f d k [] h = refl
+map-from f d k (x ∷ xs) h =
+    let here : f k ≡ x = ap f (sym (add-zero k)) ∙ h zero (zero-lt-suc (length xs)) in
+    let later : map f (from (suc k) (length xs)) ≡ xs = map-from f d (suc k) xs (λ i b. ap f (suc-add k i ∙ sym (add-suc k i)) ∙ h (suc i) (suc-le-suc b)) in
+    λ j. here j ∷ later j
+
+-- the same for the first b elements, s of each
+pub map-from-take : {A B : Type 0} (f : ℕ → A) (s : B → A) (d : B) (k : ℕ) (xs : List B) (b : ℕ) → b ≤ length xs
+    → ((i : ℕ) → i < b → f (k + i) ≡ s (getD xs i d)) → map f (from k b) ≡ map s (take b xs)
+map-from-take f s d k xs b h g =
+    let len : length (map s (take b xs)) ≡ b = length-map (take b xs) s ∙ length-take-le b xs h in
+    rw len at
+    (map-from f (s d) k (map s (take b xs))
+    (λ i c. let c′ : i < b = omega arith in g i c′ ∙ sym (List·getD-map s (take b xs) i d ∙ ap s (getD-take b xs i d c′))))
+
+-- every number from k on passes the test
+pub all-from : (p : ℕ → Bool) (k n : ℕ) → ((i : ℕ) → i < n → p (k + i) ≡ true) → all p (from k n) ≡ true
+all-from p k zero h = refl
+all-from p k (suc n) h =
+    let here : p k ≡ true = ap p (sym (add-zero k)) ∙ h zero (zero-lt-suc n) in
+    rw here (all-from p (suc k) n (λ i b. ap p (suc-add k i ∙ sym (add-suc k i)) ∙ h (suc i) (suc-le-suc b)))
+
+-- the elements before i, and element i, are a part of the sum
+pub sum-take : {A : Type 0} (s : A → ℕ) (d : A) (xs : List A) (i : ℕ) → i < length xs → sum (map s (take i xs)) + s (getD xs i d) ≤ sum (map s xs)
+sum-take s d [] i h = absurd (not-suc-le-zero h)
+sum-take s d (x ∷ xs) zero h = omega arith
+sum-take s d (x ∷ xs) (suc i) h = omega (arith, sum-take s d xs i (le-of-suc-le-suc h))

@@ -1,0 +1,61 @@
+-- The law of the table: each function stands at its place and is read back there.
+-- Assumes nothing.
+use mathlib.Core.Path.{_≡_, refl, ap}
+use mathlib.Core.List.{[], _∷_}
+use Prim.Native.Nat.{ℕ, suc, _<_}
+use native.Mathlib.Nat.{zero-add}
+use native.Mathlib.Omega.{arith}
+use lib.ListN.{length, getD}
+use Rattle.laws.specs.Lists.{gather}
+use Rattle.laws.specs.Sections.{At, Bytes, pad}
+use Rattle.laws.proofs.Ranges.{map-from}
+use Rattle.laws.proofs.Sections.{at-self, at-right, at-pad, at-stride, gather-is-from, length-gatherFrom, length-pad, bytes-pad, bytes-gatherFrom}
+use Rattle.language.specs.Programs.{Program, noFunction}
+use Rattle.language.specs.Table.{tableLength, functionCount, functionAt, functionCells, cells, decodeFunction, decode}
+use Rattle.theorems.specs.TableLaw.{Fits, TableLaw}
+use Rattle.theorems.proofs.TableFunction.{length-function, function-back}
+use Rattle.theorems.proofs.TableBytes.{function-bytes}
+
+module _ (p : Program) (fits : Fits p) where
+  functions-stride : (m i : ℕ) → i < length p → length (functionCells (getD p i noFunction)) ≡ 34697
+  functions-stride m i b = length-function (getD p i noFunction) (fits .functions i b)
+
+  functions-at : At (cells p) 1 (gather functionCells p)
+  unfolding cells
+  functions-at = at-pad 555152 (gather functionCells p) (at-right (length p ∷ []) (pad 555152 (gather functionCells p)) at-self)
+
+  -- function i begins at its cell
+  function-at : (i : ℕ) → i < length p → At (cells p) (functionAt i) (functionCells (getD p i noFunction))
+  function-at i b =
+      at-stride (λ f. 0) (λ m. functionCells) 34697 noFunction 0 p functions-stride i b (rw (gather-is-from functionCells 0 p) at functions-at)
+
+  function-count-back : functionCount (cells p) ≡ length p
+  unfolding cells
+  function-count-back = refl
+
+  back : decode (cells p) ≡ p
+  unfolding decode
+  back =
+      rw function-count-back
+      (map-from (λ i. decodeFunction (cells p) (functionAt i)) noFunction 0 p
+      (λ i b. rw (zero-add i) (function-back (getD p i noFunction) (fits .functions i b) (functionAt i) (function-at i b))))
+
+  count : length (cells p) ≡ tableLength
+  unfolding cells
+  count =
+      ap suc
+      (length-pad 555152 (gather functionCells p)
+      (rw (gather-is-from functionCells 0 p, length-gatherFrom (λ f. 0) (λ m. functionCells) 34697 noFunction 0 p functions-stride)
+      (omega (arith, fits .functionCount))))
+
+  bytes : Bytes (cells p)
+  unfolding cells
+  bytes = (
+    omega (arith, fits .functionCount),
+    bytes-pad 555152 (gather functionCells p)
+        (rw (gather-is-from functionCells 0 p)
+        (bytes-gatherFrom (λ f. 0) (λ m. functionCells) noFunction 0 p (λ m i b. function-bytes (getD p i noFunction) (fits .functions i b)))),
+  )
+
+pub table : TableLaw
+table p fits = record { back = back p fits; count = count p fits; bytes = bytes p fits }

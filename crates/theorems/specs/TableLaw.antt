@@ -1,0 +1,71 @@
+-- The law of the table: a program that fits the sizes is given back by its cells.
+-- Assumes nothing.
+use mathlib.Core.Bool.{true}
+use mathlib.Core.Path.{_≡_}
+use mathlib.Core.List.{List}
+use Prim.Native.Nat.{ℕ, _^_, _≤_, _<_}
+use lib.ListN.{length, getD}
+use Rattle.laws.specs.Sections.{Bytes}
+use Rattle.language.specs.Instructions.{formOf}
+use Rattle.language.specs.Programs.{Row, Register, Func, Program, opOf, formIn, targetsOf, sourcesOf, entriesOf, namedBy, rowsOf, entryCount, blockAt, noRegister, noFunction}
+use Rattle.language.specs.Programs.{maxFunctions, maxRegisters, maxBlocks, maxRows, maxEntries, maxName}
+use Rattle.language.specs.Table.{tableLength, cells, decode}
+
+-- The number a row loads.
+abbrev pub numberOf : Row → ℕ
+numberOf Row.nop = 0
+numberOf (Row.load op t n) = n
+numberOf (Row.unary op t s) = 0
+numberOf (Row.binary op t l r) = 0
+numberOf (Row.phi t es) = 0
+numberOf (Row.jump b) = 0
+numberOf (Row.branch s x y) = 0
+numberOf (Row.return s) = 0
+numberOf Row.leave = 0
+numberOf (Row.unknown op) = 0
+
+-- What fits the cells it is given. A row is written in the form of its instruction.
+pub record NameFits (name : List ℕ) : Type 0 where
+  pub short : length name ≤ maxName
+  pub bytes : Bytes name
+
+pub record RegisterFits (r : Register) : Type 0 where
+  pub type : r .type < 256
+  pub name : NameFits (r .name)
+
+pub record RowFits (row : Row) : Type 0 where
+  pub form : formOf (opOf row) ≡ formIn row
+  pub op : opOf row < 256
+  pub targets : Bytes (targetsOf row)
+  pub sources : Bytes (sourcesOf row)
+  pub entries : Bytes (entriesOf row)
+  pub blocks : Bytes (namedBy row)
+  pub number : numberOf row < 2 ^ 64
+
+pub record FunctionFits (f : Func) : Type 0 where
+  pub name : NameFits (f .name)
+  pub ssa : f .ssa < 256
+  pub result : f .result < 256
+  pub params : f .params < 65536
+  pub entry : f .entry < 256
+  pub placed : f .placed ≡ true
+  pub registerCount : length (f .registers) ≤ maxRegisters
+  pub blockCount : length (f .blocks) ≤ maxBlocks
+  pub rowCount : length (rowsOf f) ≤ maxRows
+  pub entryCount : entryCount f ≤ maxEntries
+  pub registers : (r : ℕ) → r < length (f .registers) → RegisterFits (getD (f .registers) r noRegister)
+  pub blockNames : (b : ℕ) → b < length (f .blocks) → NameFits (blockAt f b .name)
+  pub rows : (r : ℕ) → r < length (rowsOf f) → RowFits (getD (rowsOf f) r Row.nop)
+
+pub record Fits (p : Program) : Type 0 where
+  pub functionCount : length p ≤ maxFunctions
+  pub functions : (i : ℕ) → i < length p → FunctionFits (getD p i noFunction)
+
+-- The cells of p are bytes, as many as the one length, and give p back.
+pub record Held (p : Program) : Type 0 where
+  pub back : decode (cells p) ≡ p
+  pub count : length (cells p) ≡ tableLength
+  pub bytes : Bytes (cells p)
+
+abbrev pub TableLaw : Type 0
+TableLaw = (p : Program) → Fits p → Held p
