@@ -4,6 +4,7 @@ pub mod ByteFacts
 pub mod TokenFacts
 pub mod ReadingFacts
 pub mod SizeFacts
+pub mod ReadingLaws
 pub mod TableFacts
 pub mod Paths
 pub mod CheckFacts
