@@ -4,7 +4,7 @@
 -- Assumes nothing.
 use mathlib.Core.Bool.{Bool, true, false, cond}
 use mathlib.Core.List.{List, [], _∷_, _++_, map, foldl}
-use Prim.Native.Nat.{ℕ, _+_, _-_, _%_, _^_}
+use Prim.Native.Nat.{ℕ, _+_, _-_, _*_, _%_, _^_}
 use lib.Dec.{eqb, ltb, leb}
 use lib.ListN.{length, getD}
 use Rattle.laws.specs.Lists.{position, keep, same}
@@ -120,8 +120,9 @@ setResult t d =
 unfoldable pub nameFunction : List ℕ → ℕ → Draft → Outcome
 nameFunction n p d =
     let f = d .function in
-    ifNew (functionNumber (d .functions) n) (length (d .functions)) p
-    (proceed (withFunction d (functionOf n (f .ssa) (f .result) (f .params) (f .registers) (f .blocks) (f .entry))))
+    ifRoom (length (d .functions)) maxFunctions p
+    (ifNew (functionNumber (d .functions) n) (length (d .functions)) p
+    (proceed (withFunction d (functionOf n (f .ssa) (f .result) (f .params) (f .registers) (f .blocks) (f .entry)))))
 
 -- A register: 5 at a parameter's type or at `register`, 6 at its name.
 unfoldable pub beginRegister : ℕ → Draft → Outcome
@@ -142,8 +143,9 @@ beginBlock p d = ifRoom (length (d .function .blocks)) maxBlocks p (proceed d)
 
 unfoldable pub nameBlock : List ℕ → ℕ → Draft → Outcome
 nameBlock n p d =
-    ifNew (blockNumber (d .function) n) (length (d .function .blocks)) p
-    (proceed (withBlock d (record { name = n; rows = [] })))
+    ifRoom (length (d .function .blocks)) maxBlocks p
+    (ifNew (blockNumber (d .function) n) (length (d .function .blocks)) p
+    (proceed (withBlock d (record { name = n; rows = [] }))))
 
 unfoldable pub endBlock : ℕ → Draft → Outcome
 endBlock p d =
@@ -180,11 +182,16 @@ addEntry n p d =
     (ifDeclared r (length (d .function .registers)) p
     (proceed (withParts d (partsOf (x .op) (x .target) (x .sources) (x .number) (x .entries ++ (r ∷ [])) (x .mentions)))))
 
+-- An instruction mentions two blocks at the most.
+abbrev pub maxMentions : ℕ
+maxMentions = 2 * maxRows
+
 unfoldable pub addMention : List ℕ → ℕ → Draft → Outcome
 addMention n p d =
     let x = d .parts in
     let y = partsOf (x .op) (x .target) (x .sources) (x .number) (x .entries) (x .mentions ++ (length (d .mentions) ∷ [])) in
-    proceed (draftOf (d .functions) (d .function) (d .mentions ++ (record { name = n; place = p } ∷ [])) (d .block) y)
+    ifRoom (length (d .mentions)) maxMentions p
+    (proceed (draftOf (d .functions) (d .function) (d .mentions ++ (record { name = n; place = p } ∷ [])) (d .block) y))
 
 -- A number with its sign lies in the range of type t: from 0 to 2^w - 1, or from -2^(w-1) to 2^(w-1) - 1. "`-0` is 0."
 unfoldable pub inRange : (type : ℕ) (negative : Bool) (magnitude : ℕ) → Bool
