@@ -1,3 +1,10 @@
+pub mod Tests
+pub mod Indexing
+pub mod Numbered
+pub mod Keep
+pub mod Gather
+pub mod Every
+pub mod Sums
 pub mod Ranges
 pub mod Searching
 pub mod Sections
