@@ -11,7 +11,7 @@ use lib.Dec.{T, eqb, ltb, ltb→lt, lt→ltb}
 use lib.Ieee.Fits.{and-l, and-r, and-i}
 use lib.ListN.{length, getD}
 use Rattle.laws.specs.Lists.{any, all, member, keep, gather, together, from, below}
-use Rattle.laws.proofs.Numbered.{length-below, getD-below}
+use Rattle.laws.proofs.Indexing.{length-below, getD-below}
 use Rattle.laws.proofs.Tests.{or-left, or-right, or-neither}
 
 module _ {A : Type 0} where

@@ -1,6 +1,5 @@
 pub mod Tests
 pub mod Indexing
-pub mod Numbered
 pub mod Keep
 pub mod Gather
 pub mod Every

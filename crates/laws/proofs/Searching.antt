@@ -13,13 +13,13 @@ use lib.ListN.{length, getD}
 use mir.Facts.{and-yes, yes-and, or-yes}
 use Rattle.laws.specs.Lists.{any, all, keep, together, from, below, member}
 
-pub or-left : (a b : Bool) → T a → T (a || b)
-or-left true b t = tt
-or-left false b t = absurd t
+pub either-left : (a b : Bool) → T a → T (a || b)
+either-left true b t = tt
+either-left false b t = absurd t
 
-pub or-right : (a b : Bool) → T b → T (a || b)
-or-right true b t = tt
-or-right false b t = t
+pub either-right : (a b : Bool) → T b → T (a || b)
+either-right true b t = tt
+either-right false b t = t
 
 -- a number that is an element and passes is found
 pub any-member : (p : ℕ → Bool) (x : ℕ) (xs : List ℕ) → T (member x xs) → T (p x) → T (any p xs)
@@ -27,8 +27,8 @@ any-member p x [] m t = m
 any-member p x (y ∷ ys) m t = by (or-yes (eqb y x) (member x ys) m) (any-member p x ys)
   where
     by : T (eqb y x) ⊎ T (member x ys) → (T (member x ys) → T (p x) → T (any p ys)) → T (p y || any p ys)
-    by (inl e) ih = or-left (p y) (any p ys) (subst⁻¹ (λ (z : ℕ). T (p z)) (eqb→eq y x e) t)
-    by (inr e) ih = or-right (p y) (any p ys) (ih e t)
+    by (inl e) ih = either-left (p y) (any p ys) (subst⁻¹ (λ (z : ℕ). T (p z)) (eqb→eq y x e) t)
+    by (inr e) ih = either-right (p y) (any p ys) (ih e t)
 
 -- what was found is an element that passes
 pub any-found : (p : ℕ → Bool) (xs : List ℕ) → T (any p xs) → (x : ℕ) × T (member x xs) × T (p x)
@@ -38,8 +38,8 @@ any-found p (y ∷ ys) t = by (or-yes (p y) (any p ys) t) (any-found p ys)
     by :
         T (p y) ⊎ T (any p ys) → (T (any p ys) → (x : ℕ) × T (member x ys) × T (p x))
         → (x : ℕ) × T (eqb y x || member x ys) × T (p x)
-    by (inl e) ih = (y, or-left (eqb y y) (member y ys) (eqb-refl y), e)
-    by (inr e) ih = let r = ih e in (r .0, or-right (eqb y (r .0)) (member (r .0) ys) (r .1), r .2)
+    by (inl e) ih = (y, either-left (eqb y y) (member y ys) (eqb-refl y), e)
+    by (inr e) ih = let r = ih e in (r .0, either-right (eqb y (r .0)) (member (r .0) ys) (r .1), r .2)
 
 -- what was found among the numbers kept passes both tests
 pub any-kept : (p q : ℕ → Bool) (xs : List ℕ) → T (any p (keep q xs)) → (x : ℕ) × T (q x) × T (p x)
@@ -65,8 +65,8 @@ any-range p q k (suc n) x l h t u = by (q k) refl (ℕ-discrete k x) (λ m. any-
     by :
         (b : Bool) → q k ≡ b → Dec (k ≡ x) → ((suc k ≤ x) → T (any p (keep q (from (suc k) n))))
         → T (any p (cond b (k ∷ keep q (from (suc k) n)) (keep q (from (suc k) n))))
-    by true e (yes d) ih = or-left (p k) _ (subst⁻¹ (λ (z : ℕ). T (p z)) d u)
-    by true e (no d) ih = or-right (p k) _ (rest ih d)
+    by true e (yes d) ih = either-left (p k) _ (subst⁻¹ (λ (z : ℕ). T (p z)) d u)
+    by true e (no d) ih = either-right (p k) _ (rest ih d)
     by false e (yes d) ih = absurd (subst (λ (b : Bool). T b) e (subst⁻¹ (λ (z : ℕ). T (q z)) d t))
     by false e (no d) ih = rest ih d
 
@@ -77,9 +77,9 @@ module _ {A B : Type 0} (p : A → B → Bool) (d : A) (e : B) where
       → T (any (λ b. b) (together p xs ys))
   any-beside [] ys k h l t = absurd (not-suc-le-zero h)
   any-beside (x ∷ xs) [] k h l t = absurd (not-suc-le-zero l)
-  any-beside (x ∷ xs) (y ∷ ys) zero h l t = or-left (p x y) _ t
+  any-beside (x ∷ xs) (y ∷ ys) zero h l t = either-left (p x y) _ t
   any-beside (x ∷ xs) (y ∷ ys) (suc k) h l t =
-      or-right (p x y) _ (any-beside xs ys k (le-of-suc-le-suc h) (le-of-suc-le-suc l) t)
+      either-right (p x y) _ (any-beside xs ys k (le-of-suc-le-suc h) (le-of-suc-le-suc l) t)
 
   pub beside-found :
       (xs : List A) (ys : List B) → T (any (λ b. b) (together p xs ys))

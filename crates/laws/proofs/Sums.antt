@@ -6,27 +6,11 @@ use mathlib.Core.List.{List, [], _∷_, _++_, map, append-assoc}
 use Prim.Native.Nat.{ℕ, zero, suc, _≤_, _<_, _+_, _*_}
 use native.Mathlib.Nat.{not-suc-le-zero, le-of-suc-le-suc, zero-add, add-zero, add-assoc, add-suc, add-comm, suc-add, suc-mul, zero-mul}
 use native.Mathlib.Omega.{arith}
-use lib.ListN.{length, getD, take, length-append, List·getD-append}
-use lib.Seq.{getD-append-add}
+use lib.ListN.{length, getD}
 use Rattle.laws.specs.Lists.{keep, gather, together, from, below, sum}
 use Rattle.laws.proofs.Every.{Every, none, more}
 
 module _ {A B : Type 0} (f : A → List B) where
-  pub length-gather : (xs : List A) → length (gather f xs) ≡ sum (map (λ x. length (f x)) xs)
-  length-gather [] = refl
-  length-gather (x ∷ xs) = length-append (f x) (gather f xs) ∙ ap (λ n. length (f x) + n) (length-gather xs)
-
-  -- element k of part i
-  pub getD-gather :
-      (xs : List A) (i k : ℕ) (a : A) (d : B)
-      → i < length xs
-      → k < length (f (getD xs i a))
-      → getD (gather f xs) (sum (map (λ x. length (f x)) (take i xs)) + k) d ≡ getD (f (getD xs i a)) k d
-  getD-gather [] i k a d h l = absurd (not-suc-le-zero h)
-  getD-gather (x ∷ xs) zero k a d h l = rw zero-add (List·getD-append (f x) (gather f xs) d k l)
-  getD-gather (x ∷ xs) (suc i) k a d h l =
-      rw (add-assoc, getD-append-add) (getD-gather xs i k a d (le-of-suc-le-suc h) l)
-
   pub gather-append : (xs ys : List A) → gather f (xs ++ ys) ≡ gather f xs ++ gather f ys
   gather-append [] ys = refl
   gather-append (x ∷ xs) ys =
@@ -42,21 +26,6 @@ module _ {A B : Type 0} (f : A → List B) where
       gather-append (h x) (gather h xs) ∙ ap (λ (r : List B). gather f (h x) ++ r) (gather-gather h xs)
 
 module _ {A : Type 0} (p : A → Bool) where
-  pub keep-append : (xs ys : List A) → keep p (xs ++ ys) ≡ keep p xs ++ keep p ys
-  keep-append [] ys = refl
-  keep-append (x ∷ xs) ys = case (p x) (keep-append xs ys)
-    where
-      case :
-          (b : Bool)
-          → keep p (xs ++ ys) ≡ keep p xs ++ keep p ys
-          → cond b (x ∷ keep p (xs ++ ys)) (keep p (xs ++ ys)) ≡ cond b (x ∷ keep p xs) (keep p xs) ++ keep p ys
-      case true e = ap (λ (r : List A). x ∷ r) e
-      case false e = e
-
-  pub keep-gather : {B : Type 0} (f : B → List A) (xs : List B) → keep p (gather f xs) ≡ gather (λ x. keep p (f x)) xs
-  keep-gather f [] = refl
-  keep-gather f (x ∷ xs) = keep-append (f x) (gather f xs) ∙ ap (λ (r : List A). keep p (f x) ++ r) (keep-gather f xs)
-
   -- what a test leaves and what it keeps
   pub length-keeps : (xs : List A) → length (keep (λ x. not (p x)) xs) + length (keep p xs) ≡ length xs
   length-keeps [] = refl
@@ -106,15 +75,6 @@ sum-keep f p (x ∷ xs) = case (p x) (sum-keep f p xs)
     case true e = ap (λ n. f x + n) e
     case false e = e ∙ sym (zero-add rest)
 
--- a running sum and its next term are within the whole
-pub sum-take-le :
-    {A : Type 0} (f : A → ℕ) (xs : List A) (i : ℕ) (a : A)
-    → i < length xs
-    → sum (map f (take i xs)) + f (getD xs i a) ≤ sum (map f xs)
-sum-take-le f [] i a h = absurd (not-suc-le-zero h)
-sum-take-le f (x ∷ xs) zero a h = omega arith
-sum-take-le f (x ∷ xs) (suc i) a h = omega (arith, sum-take-le f xs i a (le-of-suc-le-suc h))
-
 sum-from-le : (f : ℕ → ℕ) (k i n : ℕ) → i < n → sum (map f (from k i)) + f (k + i) ≤ sum (map f (from k n))
 sum-from-le f k i zero h = absurd (not-suc-le-zero h)
 sum-from-le f k zero (suc n) h = rw add-zero (omega arith)
@@ -127,14 +87,6 @@ sum-below-le f i n h = rw zero-add at (sum-from-le f zero i n h)
 pub sum-same : {A : Type 0} {f g : A → ℕ} → ((x : A) → f x ≡ g x) → (xs : List A) → sum (map f xs) ≡ sum (map g xs)
 sum-same h [] = refl
 sum-same h (x ∷ xs) = ap₂ (λ m n. m + n) (h x) (sum-same h xs)
-
-pub getD-map :
-    {A B : Type 0} (f : A → B) (xs : List A) (i : ℕ) (d : A) (e : B)
-    → i < length xs
-    → getD (map f xs) i e ≡ f (getD xs i d)
-getD-map f [] i d e h = absurd (not-suc-le-zero h)
-getD-map f (x ∷ xs) zero d e h = refl
-getD-map f (x ∷ xs) (suc i) d e h = getD-map f xs i d e (le-of-suc-le-suc h)
 
 -- a list by the numbers of its elements
 map-from-suc : {A : Type 0} (f : ℕ → A) (k n : ℕ) → map f (from (suc k) n) ≡ map (λ i. f (suc i)) (from k n)

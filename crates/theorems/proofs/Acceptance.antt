@@ -12,9 +12,9 @@ use lib.Ieee.Fits.{and-l, and-r, and-i}
 use lib.ListN.{length, getD, length-append, length-map, List·getD-append}
 use Rattle.laws.specs.Lists.{any, all, gather, below, empty, same}
 use Rattle.laws.proofs.Tests.{of-false, not-is-false, eq-beq}
-use Rattle.laws.proofs.Numbered.{length-below, getD-below}
+use Rattle.laws.proofs.Indexing.{length-below, getD-below, getD-map}
 use Rattle.laws.proofs.Every.{Every, none, more, every-append, every-at, every-imp, every-map, every-keep, every-gather, every-all, all-every, every-none, none-every}
-use Rattle.laws.proofs.Sums.{sum-zero, map-getD, getD-map}
+use Rattle.laws.proofs.Sums.{sum-zero, map-getD}
 use Rattle.language.specs.Instructions.{typeCount}
 use Rattle.language.specs.Programs.{Row, Register, Block, Func, Program, noFunction, maxRegisters, maxBlocks, maxRows, noRegister, noBlock, isSsa, blockAt, rowsAt, rowsOf, isPhi, isTerminator, entriesOf, entryCount}
 use Rattle.language.specs.Checking.{Spot, Verdict, check, inRange, typed, breaks9, breaks10, breaks11, breaks12, breaks13, breaks14, breaks15, breaks16, breaks17, breaksRow, distinct, spelledOrNone}

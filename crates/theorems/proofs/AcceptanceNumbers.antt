@@ -10,9 +10,10 @@ use lib.Dec.{eqb}
 use lib.ListN.{length, getD, List·getD-append}
 use lib.Seq.{getD-append-add}
 use Rattle.laws.specs.Lists.{keep, below, member}
-use Rattle.laws.proofs.Numbered.{position-lt}
+use Rattle.laws.proofs.Gather.{keep-gather, length-gather, getD-gather, sum-take-le}
+use Rattle.laws.proofs.Indexing.{position-lt, getD-map}
 use Rattle.laws.proofs.Every.{member-below, member-keep}
-use Rattle.laws.proofs.Sums.{keep-gather, length-gather, getD-gather, getD-map, sum-keep, sum-take-le, sum-below-le}
+use Rattle.laws.proofs.Sums.{sum-keep, sum-below-le}
 use Rattle.language.specs.Programs.{Row, Func, noRegister, noBlock, rowsAt, typeAt, rowsOf, isPhi, hasPhi}
 use Rattle.language.specs.Checking.{goesTo, predecessors}
 use Rattle.language.specs.Running.{phisOf, phiTarget}

@@ -14,7 +14,7 @@ use lib.ListN.{length, getD, length-append}
 use Rattle.laws.specs.Lists.{empty}
 use Rattle.laws.proofs.Tests.{of-not-false, beq-eq}
 use Rattle.laws.proofs.Every.{Every, none, more, every-append, every-of, every-imp, every-all, every-keep, every-under, all-under}
-use Rattle.laws.proofs.Sums.{keep-append}
+use Rattle.laws.proofs.Gather.{keep-append}
 use Rattle.language.specs.Programs.{Row, Func, rowsAt, typeAt, isPhi, isTerminator, targetsOf, sourcesOf, entriesOf, namedBy}
 use Rattle.language.specs.Checking.{Spot, breaksRow, lastRow, predecessors, shaped, numberFits, inRange, typed, breaks9, breaks10, breaks11, breaks15}
 use Rattle.language.specs.Running.{phiTarget, phisOf}

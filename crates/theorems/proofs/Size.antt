@@ -6,8 +6,9 @@ use Prim.Native.Nat.{ℕ, _+_, _*_}
 use native.Mathlib.Omega.{arith}
 use lib.ListN.{length, length-append, length-map}
 use Rattle.laws.specs.Lists.{gather, below, sum}
-use Rattle.laws.proofs.Numbered.{length-from, length-below}
-use Rattle.laws.proofs.Sums.{length-gather, gather-append, gather-map, gather-gather, keep-gather, length-keeps, length-together, sum-const, sum-same, map-getD}
+use Rattle.laws.proofs.Gather.{length-gather, keep-gather}
+use Rattle.laws.proofs.Indexing.{length-from, length-below}
+use Rattle.laws.proofs.Sums.{gather-append, gather-map, gather-gather, length-keeps, length-together, sum-const, sum-same, map-getD}
 use Rattle.language.specs.Programs.{Row, Func, noBlock, rowsAt, rowsOf, isPhi}
 use Rattle.language.specs.Checking.{predecessors}
 use Rattle.language.specs.Running.{phisOf}
