@@ -1,6 +1,6 @@
 -- Laws of the ranges of numbers and of sums.
 -- Assumes nothing.
-use mathlib.Core.Bool.{Bool, true}
+use mathlib.Core.Bool.{Bool, true, _&&_}
 use mathlib.Core.Path.{_≡_, refl, sym, ap, _∙_}
 use mathlib.Core.List.{List, [], _∷_, map}
 use Prim.Native.Nat.{ℕ, zero, suc, _+_, _≤_, _<_, suc-le-suc}
@@ -28,12 +28,29 @@ map-from-take f s d k xs b h g =
     (map-from f (s d) k (map s (take b xs))
     (λ i c. let c′ : i < b = omega arith in g i c′ ∙ sym (List·getD-map s (take b xs) i d ∙ ap s (getD-take b xs i d c′))))
 
+-- what holds of k, k + 1 and so on holds of k, and of suc k and so on
+from-step : (P : ℕ → Type 0) (k n : ℕ) → ((i : ℕ) → i < suc n → P (k + i)) → P k × ((i : ℕ) → i < n → P (suc k + i))
+from-step P k n h = (rw (add-zero k) at (h zero (zero-lt-suc n)), λ i b. rw (suc-add k i, ← add-suc k i) (h (suc i) (suc-le-suc b)))
+
+-- f and g that agree on n numbers from k on
+pub map-from-same : {A : Type 0} (f g : ℕ → A) (k n : ℕ) → ((i : ℕ) → i < n → f (k + i) ≡ g (k + i)) → map f (from k n) ≡ map g (from k n)
+map-from-same f g k zero h = refl
+map-from-same f g k (suc n) h =
+    let both : (f k ≡ g k) × ((i : ℕ) → i < n → f (suc k + i) ≡ g (suc k + i)) = from-step (λ i. f i ≡ g i) k n h in
+    λ j. both .0 j ∷ map-from-same f g (suc k) n (both .1) j
+
+pub all-from-same : (p q : ℕ → Bool) (k n : ℕ) → ((i : ℕ) → i < n → p (k + i) ≡ q (k + i)) → all p (from k n) ≡ all q (from k n)
+all-from-same p q k zero h = refl
+all-from-same p q k (suc n) h =
+    let both : (p k ≡ q k) × ((i : ℕ) → i < n → p (suc k + i) ≡ q (suc k + i)) = from-step (λ i. p i ≡ q i) k n h in
+    λ j. both .0 j && all-from-same p q (suc k) n (both .1) j
+
 -- every number from k on passes the test
 pub all-from : (p : ℕ → Bool) (k n : ℕ) → ((i : ℕ) → i < n → p (k + i) ≡ true) → all p (from k n) ≡ true
 all-from p k zero h = refl
 all-from p k (suc n) h =
-    let here : p k ≡ true = ap p (sym (add-zero k)) ∙ h zero (zero-lt-suc n) in
-    rw here (all-from p (suc k) n (λ i b. ap p (suc-add k i ∙ sym (add-suc k i)) ∙ h (suc i) (suc-le-suc b)))
+    let both : (p k ≡ true) × ((i : ℕ) → i < n → p (suc k + i) ≡ true) = from-step (λ i. p i ≡ true) k n h in
+    rw (both .0) (all-from p (suc k) n (both .1))
 
 -- the elements before i, and element i, are a part of the sum
 pub sum-take : {A : Type 0} (s : A → ℕ) (d : A) (xs : List A) (i : ℕ) → i < length xs → sum (map s (take i xs)) + s (getD xs i d) ≤ sum (map s xs)

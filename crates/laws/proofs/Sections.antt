@@ -6,8 +6,8 @@ use Prim.Native.Nat.{ℕ, zero, suc, _+_, _-_, _*_, _≤_, _<_, suc-le-suc}
 use native.Mathlib.Nat.{not-suc-le-zero, le-of-suc-le-suc, zero-lt-suc, add-zero, add-assoc}
 use native.Mathlib.Omega.{arith}
 use lib.Dec.{lit<}
-use lib.ListN.{length, getD, take, drop, replicate, length-append, length-replicate, List·getD-append}
-use lib.Seq.{drop-drop, drop-append-seam, take-append-seam, getD-drop}
+use lib.ListN.{length, getD, take, drop, replicate, length-append, length-replicate, length-take, length-drop, List·getD-append}
+use lib.Seq.{ext-getD, getD-take, drop-drop, drop-append-seam, take-append-seam, getD-drop}
 use Rattle.laws.specs.Lists.{gather, sum}
 use Rattle.laws.specs.Sections.{pad, gatherFrom, At, Bytes}
 
@@ -58,6 +58,15 @@ module _ {A : Type 0} {t : List A} where
       rw (← add-assoc n (size x))
       (at-move (omega arith)
       (at-stride size f w d (n + size x) xs next i (le-of-suc-le-suc b) (at-right (f n x) (gatherFrom size f (n + size x) xs) h)))
+
+-- two lists of one length that agree on n cells from k on have that part in common
+pub part-same : {A : Type 0} (d : A) (t u : List A) → length t ≡ length u → (n k : ℕ) → ((j : ℕ) → j < n → getD t (k + j) d ≡ getD u (k + j) d)
+    → take n (drop k t) ≡ take n (drop k u)
+part-same d t u l n k h =
+    ext-getD d (take n (drop k t)) (take n (drop k u)) (simp (length-take, length-drop, l))
+    (λ j b.
+    let c : j < n = omega (arith, b, length-take n (drop k t)) in
+    rw (getD-take n (drop k t) j d c, getD-take n (drop k u) j d c, getD-drop k t j d, getD-drop k u j d) (h j c))
 
 -- ---- lengths
 

@@ -2,3 +2,4 @@ pub mod TableParts
 pub mod TableFunction
 pub mod TableBytes
 pub mod Table
+pub mod TableIgnored

@@ -1,1 +1,2 @@
 pub mod TableLaw
+pub mod TableNeeds
