@@ -1,21 +1,24 @@
 -- Cells that are not needed are ignored: each accessor that `decode` calls reads needed cells alone.
 -- Assumes nothing.
 use mathlib.Core.Bool.{Bool, true, false, cond, _&&_}
-use mathlib.Core.Path.{_≡_, refl, sym, ap, ap₂, _∙_}
-use mathlib.Core.List.{List, [], _∷_, _++_, map}
-use Prim.Native.Nat.{ℕ, zero, suc, _+_, _*_, _≤_, _<_, suc-le-suc}
+use mathlib.Core.Path.{_≡_, refl, ap, ap₂, _∙_}
+use mathlib.Core.List.{List, map}
+use Prim.Native.Nat.{ℕ, suc, _+_, _*_, _≤_, _<_, suc-le-suc}
 use native.Mathlib.Nat.{zero-lt-suc, le-refl, le-of-lt}
 use native.Mathlib.Omega.{arith}
 use lib.Dec.{T, eqb, lit<}
-use lib.ListN.{length, getD, take, drop}
+use lib.ListN.{length, getD}
 use borrow.Author.Tests.{eqb-true}
-use Rattle.laws.specs.Lists.{member, from, below, sum, all}
+use Rattle.laws.specs.Lists.{member, from, below, sum}
 use Rattle.laws.proofs.Ranges.{map-from-same, all-from-same}
 use Rattle.laws.proofs.Sections.{part-same}
 use Rattle.language.specs.Instructions.{Form, formOf}
-use Rattle.language.specs.Programs.{Row, Register, Block, Func}
-use Rattle.language.specs.Table.{two, four, eight, nameAt, functionCount, functionAt, functionName, functionSsa, functionResult, functionParams, functionEntry, registerCount, blockCount, registerType, registerName, blockFirst, blockRows, blockName, rowOp, rowTarget, rowLeft, rowRight, jumpFirst, jumpSecond, phiFirst, phiCount, phiEntry, rowsBefore, rowCount, rowEntries, entriesBefore}
-use Rattle.language.specs.Table.{decodeRegister, decodeRow, decodeAs, decodeBlock, decodeFunction, decode, blocksPlaced, phisPlaced}
+use Rattle.language.specs.Programs.{Row}
+use Rattle.language.specs.Table.{two, nameAt, functionCount, functionAt, functionName, functionSsa, functionResult, functionParams}
+use Rattle.language.specs.Table.{functionEntry, registerCount, blockCount, registerType, registerName, blockFirst, blockRows, blockName}
+use Rattle.language.specs.Table.{rowOp, rowTarget, rowLeft, rowRight, jumpFirst, jumpSecond, phiFirst, phiCount, phiEntry, rowsBefore}
+use Rattle.language.specs.Table.{rowCount, rowEntries, entriesBefore, decodeRegister, decodeRow, decodeAs, decodeBlock, decodeFunction}
+use Rattle.language.specs.Table.{decode, blocksPlaced, phisPlaced}
 use Rattle.theorems.specs.TableNeeds.{usedCells, NeededRow, NeededIn, Needed, IgnoredLaw}
 
 op-used : (f : Form) → T (member 0 (usedCells f))
@@ -200,9 +203,9 @@ module _ (t u : List ℕ) (l : length t ≡ length u) (a : ℕ) (h : (k : ℕ) �
         placed = blocks-placed-same i && phis-placed-same i;
       }
 
-pub ignored : IgnoredLaw
+pub unneeded-ignored : IgnoredLaw
 unfolding decode
-ignored t u l h =
+unneeded-ignored t u l h =
     let count : functionCount t ≡ functionCount u = h 0 (Needed.count refl) in
     rw (← count)
     (map-from-same (λ i. decodeFunction t (functionAt i)) (λ i. decodeFunction u (functionAt i)) 0 (functionCount t)

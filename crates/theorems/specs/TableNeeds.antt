@@ -9,7 +9,8 @@ use lib.ListN.{length, getD}
 use Rattle.laws.specs.Lists.{member}
 use Rattle.language.specs.Instructions.{Form, formOf}
 use Rattle.language.specs.Programs.{Program}
-use Rattle.language.specs.Table.{functionCount, functionAt, registerCount, blockCount, blockFirst, blockRows, rowCount, rowOp, phiFirst, phiCount, cells, decode}
+use Rattle.language.specs.Table.{functionCount, functionAt, registerCount, blockCount, blockFirst, blockRows, rowCount, rowOp, phiFirst}
+use Rattle.language.specs.Table.{phiCount, cells, decode}
 use Rattle.theorems.specs.TableLaw.{Fits}
 
 -- The needed ones of a row's 12 cells, by its form.
