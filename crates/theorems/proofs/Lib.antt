@@ -4,3 +4,4 @@ pub mod TableBytes
 pub mod TableZero
 pub mod Table
 pub mod TableIgnored
+pub mod TableView
