@@ -25,7 +25,7 @@ use Rattle.theorems.specs.TableLaw.{FunctionFits}
 use Rattle.theorems.proofs.TableParts.{two-back, name-back, register-back, length-row, row-back, row-entries-back, phi-placed-back}
 use Rattle.theorems.proofs.TableParts.{block-first-back, block-rows-back, block-back}
 
--- ---- places, by the counts
+-- ---- places, by the counts, from 0 on
 
 abbrev pub entries : Row → ℕ
 entries row = length (entriesOf row)
@@ -76,14 +76,14 @@ module _ (f : Func) (fits : FunctionFits f) where
   pub length-blocks : length (blockSection f) ≡ 4416
   unfolding blockSection
   length-blocks =
-      length-pad 4416 (gatherFrom (λ b. length (b .rows)) blockCells 0 (f .blocks))
-      (rw (length-gatherFrom (λ b. length (b .rows)) blockCells 69 noBlock 0 (f .blocks) blocks-stride) (omega (arith, fits .blockCount)))
+      length-pad 4416 (gatherFrom height blockCells 0 (f .blocks))
+      (rw (length-gatherFrom height blockCells 69 noBlock 0 (f .blocks) blocks-stride) (omega (arith, fits .blockCount)))
 
   pub length-rows : length (rowSection f) ≡ 12288
   unfolding rowSection
   length-rows =
-      length-pad 12288 (gatherFrom (λ r. length (entriesOf r)) rowCells 0 (rowsOf f))
-      (rw (length-gatherFrom (λ r. length (entriesOf r)) rowCells 12 Row.nop 0 (rowsOf f) (λ m i b. length-row m (getD (rowsOf f) i Row.nop)))
+      length-pad 12288 (gatherFrom entries rowCells 0 (rowsOf f))
+      (rw (length-gatherFrom entries rowCells 12 Row.nop 0 (rowsOf f) (λ m i b. length-row m (getD (rowsOf f) i Row.nop)))
       (omega (arith, fits .rowCount)))
 
   length-entries : length (entrySection f) ≡ 1024
