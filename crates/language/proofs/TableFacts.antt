@@ -9,7 +9,8 @@ use Rattle.laws.specs.Sections.{pad}
 use Rattle.language.specs.Instructions.{formOf}
 use Rattle.language.specs.Programs.{Row, Func, rowsOf}
 use Rattle.language.specs.Table.{decodeRow, decodeAs, decodeRegister, decodeBlock, blocksPlaced, phisPlaced, decodeFunction}
-use Rattle.language.specs.Table.{nameCells, registerCells, blockCells, rowCells, headCells, registerSection, blockSection, rowSection, entrySection, functionCells}
+use Rattle.language.specs.Table.{nameCells, registerCells, blockCells, rowCells, headCells, registerSection, blockSection, rowSection}
+use Rattle.language.specs.Table.{entrySection, functionCells}
 
 -- ---- A row of each form, its entries beginning at 259.
 

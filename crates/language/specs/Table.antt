@@ -41,7 +41,7 @@ abbrev pub functionCount : List ℕ → ℕ
 functionCount t = getD t 0 0
 
 abbrev pub functionAt : ℕ → ℕ
-functionAt i = 1 + 34697 * i
+functionAt i = 1 + functionLength * i
 
 abbrev pub functionSsa : List ℕ → ℕ → ℕ
 functionSsa t a = getD t a 0

@@ -54,12 +54,18 @@ module _ {A : Type 0} where
       case true e = ap (λ (r : List A). x ∷ r) e
       case false e = e
 
-  pub keep-gather : {B : Type 0} (p : A → Bool) (f : B → List A) (xs : List B) → keep p (gather f xs) ≡ gather (λ x. keep p (f x)) xs
+  pub keep-gather :
+      {B : Type 0} (p : A → Bool) (f : B → List A) (xs : List B)
+      → keep p (gather f xs) ≡ gather (λ x. keep p (f x)) xs
   keep-gather p f [] = refl
-  keep-gather p f (x ∷ xs) = keep-append p (f x) (gather f xs) ∙ ap (λ (r : List A). keep p (f x) ++ r) (keep-gather p f xs)
+  keep-gather p f (x ∷ xs) =
+      keep-append p (f x) (gather f xs) ∙ ap (λ (r : List A). keep p (f x) ++ r) (keep-gather p f xs)
 
 -- a running sum and its next term are within the whole
-pub sum-take-le : {A : Type 0} (f : A → ℕ) (xs : List A) (i : ℕ) (a : A) → i < length xs → sum (map f (take i xs)) + f (getD xs i a) ≤ sum (map f xs)
+pub sum-take-le :
+    {A : Type 0} (f : A → ℕ) (xs : List A) (i : ℕ) (a : A)
+    → i < length xs
+    → sum (map f (take i xs)) + f (getD xs i a) ≤ sum (map f xs)
 sum-take-le f [] i a h = absurd (not-suc-le-zero h)
 sum-take-le f (x ∷ xs) zero a h = omega arith
 sum-take-le f (x ∷ xs) (suc i) a h = omega (arith, sum-take-le f xs i a (le-of-suc-le-suc h))

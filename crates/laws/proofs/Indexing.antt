@@ -5,10 +5,11 @@ use mathlib.Core.Bool.{Bool, true, false, cond, _||_, true≢false, false≢true
 use mathlib.Core.List.{List, [], _∷_, _++_, map, append-assoc}
 use Prim.Native.Nat.{ℕ, zero, suc, _+_, _≤_, _<_, suc-le-suc}
 use native.Mathlib.Nat.{not-suc-le-zero, le-of-suc-le-suc, zero-lt-suc, zero-add, add-zero, add-suc, suc-add}
+use native.Mathlib.Numerals.{add-one}
 use native.Mathlib.Omega.{arith}
 use lib.Dec.{T, ltb, ltb→lt}
 use lib.ListN.{length, getD, take, drop, set}
-use lib.Seq.{sets, sets-eq, drop-at, length-take-le}
+use lib.Seq.{sets, sets-eq, drop-at, drop-drop, getD-drop, length-take-le}
 use lib.Ieee.Fits.{and-i, and-l, and-r}
 use Rattle.laws.specs.Lists.{any, all, position, together, from, below}
 
@@ -40,13 +41,16 @@ take-below n i h = take-from zero n i h
 -- ---- images
 
 module _ {A B : Type 0} where
+  -- at an index in the list any default serves
   pub getD-map : (f : A → B) (xs : List A) (i : ℕ) (d : A) (e : B) → i < length xs → getD (map f xs) i e ≡ f (getD xs i d)
   getD-map f [] i d e h = absurd (not-suc-le-zero h)
   getD-map f (x ∷ xs) zero d e h = refl
   getD-map f (x ∷ xs) (suc i) d e h = getD-map f xs i d e (le-of-suc-le-suc h)
 
 -- a list and as many numbers go together to the end
-pub length-together-from : {A B : Type 0} (f : ℕ → A → B) (k : ℕ) (xs : List A) → length (together f (from k (length xs)) xs) ≡ length xs
+pub length-together-from :
+    {A B : Type 0} (f : ℕ → A → B) (k : ℕ) (xs : List A)
+    → length (together f (from k (length xs)) xs) ≡ length xs
 length-together-from f k [] = refl
 length-together-from f k (x ∷ xs) = ap suc (length-together-from f (suc k) xs)
 
@@ -55,22 +59,35 @@ length-together-from f k (x ∷ xs) = ap suc (length-together-from f (suc k) xs)
 pub set-append-add : {A : Type 0} (xs ys : List A) (i : ℕ) (a : A) → set (xs ++ ys) (length xs + i) a ≡ xs ++ set ys i a
 set-append-add [] ys i a = ap (λ (n : ℕ). set ys n a) (zero-add i)
 set-append-add {A} (x ∷ xs) ys i a =
-    ap (λ (n : ℕ). set (x ∷ (xs ++ ys)) n a) (suc-add (length xs) i) ∙ ap (λ (r : List A). x ∷ r) (set-append-add xs ys i a)
+    ap (λ (n : ℕ). set (x ∷ (xs ++ ys)) n a) (suc-add (length xs) i)
+    ∙ ap (λ (r : List A). x ∷ r) (set-append-add xs ys i a)
 
 -- the elements stored from index i on, and what comes after them
-pub drop-sets : {A : Type 0} (vs l : List A) (i : ℕ) → i + length vs ≤ length l → drop i (sets l i vs) ≡ vs ++ drop (i + length vs) l
+pub drop-sets :
+    {A : Type 0} (vs l : List A) (i : ℕ)
+    → i + length vs ≤ length l
+    → drop i (sets l i vs) ≡ vs ++ drop (i + length vs) l
 drop-sets vs l i h =
     let rest = drop (i + length vs) l in
     ap (drop i) (sets-eq vs l i h ∙ append-assoc (take i l) vs rest)
     ∙ drop-at (take i l) (vs ++ rest) i (length-take-le i l (omega arith))
 
+-- ---- what a list has at an index, and after it
+
+pub getD-of-drop : {A : Type 0} {a : A} {rest : List A} (l : List A) (i : ℕ) (d : A) → drop i l ≡ a ∷ rest → getD l i d ≡ a
+getD-of-drop {A} l i d e =
+    ap (λ (n : ℕ). getD l n d) (sym (add-zero i)) ∙ sym (getD-drop i l 0 d) ∙ ap (λ (r : List A). getD r 0 d) e
+
+pub drop-of-drop : {A : Type 0} {a : A} {rest : List A} (l : List A) (i : ℕ) → drop i l ≡ a ∷ rest → drop (suc i) l ≡ rest
+drop-of-drop l i e = ap (λ (n : ℕ). drop n l) (sym (add-one i)) ∙ sym (drop-drop 1 i l) ∙ ap (drop 1) e
+
 -- ---- tests of all elements
 
-or-first : (a b : Bool) → (a || b) ≡ false → a ≡ false
+pub or-first : (a b : Bool) → (a || b) ≡ false → a ≡ false
 or-first true b e = absurd (true≢false e)
 or-first false b e = refl
 
-or-rest : (a b : Bool) → (a || b) ≡ false → b ≡ false
+pub or-rest : (a b : Bool) → (a || b) ≡ false → b ≡ false
 or-rest true b e = absurd (true≢false e)
 or-rest false b e = e
 

@@ -26,7 +26,11 @@ module _ {A : Type 0} (p : A → Bool) where
   any-none [] e = refl
   any-none (x ∷ xs) e = case (p x) (any-none xs) e
     where
-      case : (b : Bool) → (any p xs ≡ false → keep p xs ≡ []) → (b || any p xs) ≡ false → cond b (x ∷ keep p xs) (keep p xs) ≡ []
+      case :
+          (b : Bool)
+          → (any p xs ≡ false → keep p xs ≡ [])
+          → (b || any p xs) ≡ false
+          → cond b (x ∷ keep p xs) (keep p xs) ≡ []
       case true later e = absurd (true≢false e)
       case false later e = later e
 

@@ -1,8 +1,9 @@
 -- Sections: lists laid out at fixed places of a longer one.
 -- Assumes nothing.
+use mathlib.Core.Logic.{_⊎_}
 use mathlib.Core.Path.{_≡_}
 use mathlib.Core.List.{List, [], _∷_, _++_}
-use Prim.Native.Nat.{ℕ, _+_, _-_, _<_}
+use Prim.Native.Nat.{ℕ, suc, _+_, _-_, _<_}
 use lib.ListN.{length, drop, replicate}
 
 -- xs, then as many zeros as make it n cells
@@ -18,6 +19,11 @@ gatherFrom size f n (x ∷ xs) = f n x ++ gatherFrom size f (n + size x) xs
 abbrev pub Bytes : List ℕ → Type 0
 Bytes [] = Unit {0}
 Bytes (x ∷ xs) = (x < 256) × Bytes xs
+
+-- each cell, the first of them at place k, is 0 or stands at a place of P
+abbrev pub ZeroOr : (ℕ → Type 0) → ℕ → List ℕ → Type 0
+ZeroOr P k [] = Unit {0}
+ZeroOr P k (x ∷ xs) = ((x ≡ 0) ⊎ P k) × ZeroOr P (suc k) xs
 
 -- from place k on, t holds xs
 pub record At {A : Type 0} (t : List A) (k : ℕ) (xs : List A) : Type 0 where

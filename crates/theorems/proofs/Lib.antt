@@ -3,7 +3,10 @@ pub mod Budgets
 pub mod TableParts
 pub mod TableFunction
 pub mod TableBytes
+pub mod TableZero
 pub mod Table
+pub mod TableIgnored
+pub mod TableView
 pub mod AcceptanceCheck
 pub mod Size
 pub mod AcceptanceRows

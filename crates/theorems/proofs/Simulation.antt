@@ -94,15 +94,23 @@ formula-le (suc n) f p g =
 -- ---- the run
 
 module _ (f : Func) (c : Clean f) (ct : Clean (translation f)) where
-  step-matched : (p : Place) (g : List ℕ) (q : Place) (h : List ℕ) (d : ℕ) → Related f p g q h d → Matched f (rowHere f p) q h d (step f p g)
+  -- "Each instruction .. is one step": one of the source's, matched
+  step-matched :
+      (p : Place) (g : List ℕ) (q : Place) (h : List ℕ) (d : ℕ)
+      → Related f p g q h d
+      → Matched f (rowHere f p) q h d (step f p g)
   step-matched p g q h d (Related.level v e) = rw e (level-step f c ct p g q h v)
   step-matched p g q h d (Related.crossing v e) = rw e (crossing-step f c ct p g q h v)
 
   -- the steps owed do not end the run
-  owed-run : {p q : Place} {g h : List ℕ} {d : ℕ} → Related f p g q h d → (q' : Place) × (h' : List ℕ) × Goes (translation f) q h d q' h'
+  owed-run :
+      {p q : Place} {g h : List ℕ} {d : ℕ}
+      → Related f p g q h d
+      → (q' : Place) × (h' : List ℕ) × Goes (translation f) q h d q' h'
   owed-run {q = q} {h = h} (Related.level v e) = (q, h, rw e Goes.here)
   owed-run {p} {q} {g} {h} (Related.crossing v e) = rw e (crossing-owed f c ct p g q h v)
 
+  -- As long as the source's run goes on, the translation's meets it.
   follows :
       {p p' : Place} {g g' : List ℕ} {n : ℕ} (q : Place) (h : List ℕ) (d : ℕ)
       → Goes f p g n p' g'
@@ -146,7 +154,7 @@ module _ (f : Func) (c : Clean f) (ct : Clean (translation f)) where
         record { place = a .place; registers = a .registers; goes = a .goes; stop = b .stop },
       )
 
--- ---- demand 3, but for the acceptance of the translation
+-- ---- demand 3
 
 module _ (f : Func) (args : List ℕ) (c : Clean f) (ct : Clean (translation f)) (fit : T (argumentsFit f args)) where
   args-known : length args ≤ length (f .registers)
@@ -170,6 +178,7 @@ module _ (f : Func) (args : List ℕ) (c : Clean f) (ct : Clean (translation f))
       let known = entry-known f c in
       Related.level (record { block = refl; known = known; row = row; inside = c .filled (f .entry) known; beside = b }) refl
 
+  -- it ends "if the source does, with the same outcome, after exactly the steps of document 01's formula"
   pub sim-ends : (n : ℕ) (o : Outcome) → Ends f args n o → Ends (translation f) args (stepFormula f args n) o
   unfolding stepFormula formula
   sim-ends n o e =
@@ -177,6 +186,7 @@ module _ (f : Func) (args : List ℕ) (c : Clean f) (ct : Clean (translation f))
       let t = stops-follow f c ct (start (translation f)) (startRegisters (translation f) args) start-related (s .2) in
       rw (s .1, ← (t .1)) (stops-ends (translation f) args (t .2))
 
+  -- "not ended after n if the source has not"
   pub sim-notEnded : (n : ℕ) → NotEnded f args n → NotEnded (translation f) args n
   unfolding runOf formula
   sim-notEnded n e =
@@ -186,6 +196,7 @@ module _ (f : Func) (args : List ℕ) (c : Clean f) (ct : Clean (translation f))
       let r = goes-less n (omega (arith, a .count)) all in
       record { place = r .0; registers = r .1; run = goes-after (r .2) }
 
+  -- and only then: a source that had not ended by then would have kept the translation going
   pub sim-onlyIf :
       (m : ℕ) (o : Outcome)
       → Ends (translation f) args m o
@@ -202,9 +213,10 @@ module _ (f : Func) (args : List ℕ) (c : Clean f) (ct : Clean (translation f))
           let source = stops-ends f args (k .2) in
           let a = ends-stops (translation f) args e in
           let b = ends-stops (translation f) args (sim-ends (suc (k .0)) u source) in
-          let same = stops-once o u (a .2 .goes) (a .2 .stop) (b .2 .goes) (b .2 .stop) in
+          let same = stops-once (a .2) (b .2) in
           (suc (k .0), rw (same .1) source, a .1 ∙ ap suc (same .0) ∙ sym (b .1))
 
+  -- "at least n and at most 3n"
   pub sim-atLeast : (n : ℕ) (o : Outcome) → Ends f args n o → n ≤ stepFormula f args n
   unfolding stepFormula
   sim-atLeast n o e = omega arith
@@ -213,7 +225,7 @@ module _ (f : Func) (args : List ℕ) (c : Clean f) (ct : Clean (translation f))
   unfolding stepFormula formula
   sim-atMost n o e = omega (arith, formula-le n f (start f) (startRegisters f args))
 
-  -- what is left of demand 3
+  -- demand 3, where the translation has no phi and is accepted
   pub translates :
       T (not (any isPhi (rowsOf (translation f))))
       → check (translation f ∷ []) ≡ Verdict.accepted

@@ -1,5 +1,5 @@
--- An edge block performs the parallel copy of its block's phi: the entries' values go to new registers, which no entry names, before
--- any target is written.
+-- An edge block performs the parallel copy of its block's phi: the entries' values go to new registers, which no entry names,
+-- before any target is written.
 -- Assumes nothing.
 use mathlib.Core.Path.{_≡_, refl, sym, ap, _∙_}
 use mathlib.Core.Bool.{true}
@@ -9,9 +9,9 @@ use native.Mathlib.Nat.{add-suc, add-zero, zero-lt-suc, zero-add}
 use native.Mathlib.Numerals.{add-one}
 use native.Mathlib.Omega.{arith}
 use lib.ListN.{length, getD, drop, set, length-append, length-map, length-set, List·getD-append}
-use lib.Seq.{sets, length-sets, append-snoc, getD-append-seam, getD-append-add, set-append-left, getD-drop, drop-drop}
+use lib.Seq.{sets, length-sets, append-snoc, getD-append-seam, getD-append-add, set-append-left}
 use Rattle.laws.specs.Lists.{together, from}
-use Rattle.laws.proofs.Indexing.{length-together-from, set-append-add, drop-sets}
+use Rattle.laws.proofs.Indexing.{length-together-from, set-append-add, drop-sets, getD-of-drop, drop-of-drop}
 use Rattle.language.specs.Arithmetic.{unaryOf}
 use Rattle.language.specs.Programs.{Row, Func, rowsAt, hasPhi}
 use Rattle.language.specs.Checking.{predecessors}
@@ -146,11 +146,11 @@ moved-out old k n [] g c e rest l d b = refl
 moved-out old k n (r ∷ ps) g c e rest l d b =
     let v = valueAt old (entryAt k r) in
     let u = phiTarget r in
-    let first : getD e c 0 ≡ v = ap (valueAt e) (sym (add-zero c)) ∙ sym (getD-drop c e 0 0) ∙ ap (λ (x : List ℕ). getD x 0 0) d in
-    let held : valueAt (g ++ e) (n + c) ≡ v = ap (λ (i : ℕ). valueAt (g ++ e) (i + c)) (sym l) ∙ getD-append-add g e c 0 ∙ first in
+    let held : valueAt (g ++ e) (n + c) ≡ v =
+    ap (λ (i : ℕ). valueAt (g ++ e) (i + c)) (sym l) ∙ getD-append-add g e c 0 ∙ getD-of-drop e c 0 d in
     let known : u < length g = rw l (b zero (zero-lt-suc (length ps))) in
     let stored = ap (set (g ++ e) u) held ∙ set-append-left g e u v known in
-    let next : drop (suc c) e ≡ valuesOf old k ps ++ rest = ap (λ (i : ℕ). drop i e) (sym (add-one c)) ∙ sym (drop-drop 1 c e) ∙ ap (drop 1) d in
+    let next = drop-of-drop e c d in
     ap (λ (h : List ℕ). movedOut (from (suc (n + c)) (length ps)) ps h) stored
     ∙ ap (λ (i : ℕ). movedOut (from i (length ps)) ps (set g u v ++ e)) (sym (add-suc n c))
     ∙ moved-out old k n ps (set g u v) (suc c) e rest (length-set g u v ∙ l) next (λ i l. b (suc i) (suc-le-suc l))
@@ -180,6 +180,13 @@ module _ (f : Func) (c : Clean f) (ct : Clean (translation f)) (y k : ℕ) (l : 
   abbrev outs : List Row
   outs = copiesOf (λ m r. phiTarget r) (λ m r. m) ms ps
 
+  edge-length : length ins + (length outs + 1) ≡ edgeLength f y
+  edge-length =
+      let n = length (f .registers) + phisBefore f y in
+      let i : length ins ≡ length ps = length-together-from (λ m r. copyRow m (entryAt k r)) n ps in
+      let o : length outs ≡ length ps = length-together-from (λ m r. copyRow (phiTarget r) m) n ps in
+      omega arith
+
   -- the run of its rows
   rows-run :
       (q : Place) (h : List ℕ)
@@ -191,20 +198,28 @@ module _ (f : Func) (c : Clean f) (ct : Clean (translation f)) (y k : ℕ) (l : 
       let j = Row.jump y ∷ [] in
       let h' = movedIn k ms ps h in
       let e' : rowsAt t (q .block) ≡ ins ++ outs ++ j = e ∙ sym (append-assoc ins outs j) in
-      reaches-more (copies-run t ct (λ m r. m) (λ m r. entryAt k r) ms ps [] (outs ++ j) q h e i) (λ u b a.
-      reaches-more (copies-run t ct (λ m r. phiTarget r) (λ m r. m) ms ps ins j u h' (rw b e) (a ∙ zero-add (length ins))) (λ u' b' a'.
-      jump-run t ct y (ins ++ outs) [] u' (movedOut ms ps h') (rw (b', b) e') (a' ∙ sym (length-append ins outs))))
+      reaches-more (copies-run t ct (λ m r. m) (λ m r. entryAt k r) ms ps [] (outs ++ j) q h e i)
+      λ u b a.
+      reaches-more (copies-run t ct (λ m r. phiTarget r) (λ m r. m) ms ps ins j u h' (rw b e) (a ∙ zero-add (length ins)))
+      λ u' b' a'.
+      jump-run t ct y (ins ++ outs) [] u' (movedOut ms ps h') (rw (b', b) e') (a' ∙ sym (length-append ins outs))
 
   -- what they do to the registers
-  moved : (g e : List ℕ) → length g ≡ length (f .registers) → length e ≡ phiCount f
+  moved :
+      (g e : List ℕ)
+      → length g ≡ length (f .registers)
+      → length e ≡ phiCount f
       → movedOut ms ps (movedIn k ms ps (g ++ e)) ≡ writeAll g k g ps ++ sets e (phisBefore f y) (valuesOf g k ps)
   moved g e size room =
       let vs = valuesOf g k ps in
       let a = phisBefore f y in
+      let rest = drop (a + length vs) e in
       let fits : a + length vs ≤ length e = rw (room, length-map) (phis-fit f y l) in
-      let in-place : movedIn k ms ps (g ++ e) ≡ g ++ sets e a vs = rw (← size) (moved-in g k ps a e (λ i m. rw size (phi-entry f c y i k m))) in
-      ap (movedOut ms ps) in-place
-      ∙ moved-out g k (length (f .registers)) ps g a (sets e a vs) (drop (a + length vs) e) size (drop-sets vs e a fits) (λ i m. phi-target f c y i m)
+      let first : movedIn k ms ps (g ++ e) ≡ g ++ sets e a vs =
+      rw (← size) (moved-in g k ps a e (λ i m. rw size (phi-entry f c y i k m))) in
+      let held = drop-sets vs e a fits in
+      ap (movedOut ms ps) first
+      ∙ moved-out g k (length (f .registers)) ps g a (sets e a vs) rest size held (λ i m. phi-target f c y i m)
 
   -- "it copies entries to new registers, then these to targets, each by row, and jumps to the phi block"
   pub edge-run :
@@ -217,13 +232,11 @@ module _ (f : Func) (c : Clean f) (ct : Clean (translation f)) (y k : ℕ) (l : 
       → (h' : List ℕ) × Beside f (writeAll g k g ps) h' × Reaches (translation f) q h (edgeLength f y) y 0 h'
   unfolding edgeRows newRegister
   edge-run q g h phi came block row b =
-      let e' = sets (b .extra) (phisBefore f y) (valuesOf g k ps) in
       let w = writeAll g k g ps in
+      let vs = valuesOf g k ps in
+      let e = sets (b .extra) (phisBefore f y) vs in
+      let room = length-sets (b .extra) (phisBefore f y) vs ∙ b .room in
       let rows : rowsAt (translation f) (q .block) ≡ ins ++ (outs ++ (Row.jump y ∷ [])) = rw block (edge-rows f y k l phi came) in
-      let r = rows-run q h rows row in
-      let is : movedOut ms ps (movedIn k ms ps h) ≡ w ++ e' = rw (b .is) (moved g (b .extra) (b .size) (b .room)) in
-      let n : length ins + (length outs + 1) ≡ edgeLength f y = omega (arith, length-together-from (λ m r. copyRow m (entryAt k r)) (length (f .registers) + phisBefore f y) ps, length-together-from (λ m r. copyRow (phiTarget r) m) (length (f .registers) + phisBefore f y) ps) in (
-        w ++ e',
-        record { size = length-writeAll g k g ps ∙ b .size; extra = e'; room = length-sets (b .extra) (phisBefore f y) (valuesOf g k ps) ∙ b .room; is = refl },
-        rw (← is, ← n) r,
-      )
+      let is : movedOut ms ps (movedIn k ms ps h) ≡ w ++ e = rw (b .is) (moved g (b .extra) (b .size) (b .room)) in
+      let beside : Beside f w (w ++ e) = record { size = length-writeAll g k g ps ∙ b .size; extra = e; room = room; is = refl } in
+      (w ++ e, beside, rw (← is, ← edge-length) (rows-run q h rows row))

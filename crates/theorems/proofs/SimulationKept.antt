@@ -215,7 +215,9 @@ module _ (f : Func) (c : Clean f) (p : Place) (g : List ℕ) (q : Place) (h : Li
 
 -- ---- the rows of both runs
 
-module _ (f : Func) (c : Clean f) (ct : Clean (translation f)) (p : Place) (g : List ℕ) (q : Place) (h : List ℕ) (v : Level f p g q h) where
+module _
+    (f : Func) (c : Clean f) (ct : Clean (translation f))
+    (p : Place) (g : List ℕ) (q : Place) (h : List ℕ) (v : Level f p g q h) where
   abbrev kept : List Row
   kept = keptOf (rowsAt f (p .block))
 

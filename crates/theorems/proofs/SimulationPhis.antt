@@ -21,7 +21,9 @@ use Rattle.theorems.proofs.SimulationRows.{IsPhi, is-phi, rowOf, rows-c
 use Rattle.theorems.proofs.SimulationEdges.{Beside, Reaches, edgeLength, edge-run}
 use Rattle.theorems.proofs.SimulationRelation.{Level, Crossing, Related, Matched, owedAt, nextRow}
 
-module _ (f : Func) (c : Clean f) (ct : Clean (translation f)) (p : Place) (g : List ℕ) (q : Place) (h : List ℕ) (v : Crossing f p g q h) where
+module _
+    (f : Func) (c : Clean f) (ct : Clean (translation f))
+    (p : Place) (g : List ℕ) (q : Place) (h : List ℕ) (v : Crossing f p g q h) where
   abbrev rows : List Row
   rows = rowsAt f (p .block)
 

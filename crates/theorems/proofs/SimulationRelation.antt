@@ -1,4 +1,4 @@
--- How the runs of a function and of its translation stand to each other, and what it is for a step of the one to be matched by the other.
+-- How the runs of a function and of its translation stand to each other, and what it is for a step to be matched.
 -- Assumes nothing.
 use mathlib.Core.Path.{_≡_}
 use mathlib.Core.Bool.{false, cond, _&&_}
@@ -42,7 +42,7 @@ pub data Related (f : Func) (p : Place) (g : List ℕ) (q : Place) (h : List ℕ
 abbrev pub cost : Func → Row → ℕ → ℕ
 cost f r b = cond (isPhi r) 1 0 + cond (isTerminator r && hasPhi f b) 1 0
 
--- The translation's run from q meets the source's, which has come to p' with g': the steps that it makes, and those that it then owes, are
+-- The translation's run from q meets the source's, which has come to p' with g': the steps it makes and those it then owes are
 -- `total`.
 pub record Meets (f : Func) (q : Place) (h : List ℕ) (p' : Place) (g' : List ℕ) (total : ℕ) : Type 0 where
   pub made : ℕ
@@ -59,8 +59,8 @@ pub record EndsToo (f : Func) (r : Row) (q : Place) (h : List ℕ) (d : ℕ) (o 
   pub none : d ≡ 0
   pub stop : step (translation f) q h ≡ Next.end o
 
--- What the source's step of row r hands back is matched by the translation from q, with d steps owed: the runs meet again after those
--- owed and the formula's for this step, or both end.
+-- What the source's step of row r hands back is matched by the translation from q, with d steps owed: the runs meet again after
+-- those and the formula's for this step, or both end.
 abbrev pub Matched : Func → Row → Place → List ℕ → ℕ → Next → Type 0
 Matched f r q h d (Next.go p' g') = Meets f q h p' g' (suc (d + cost f r (p' .block)))
 Matched f r q h d (Next.end o) = EndsToo f r q h d o

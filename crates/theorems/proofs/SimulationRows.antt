@@ -1,5 +1,5 @@
--- What an accepted function's rows are like: each is in range, the terminator is the last, the phi are the first; so a step performs
--- its row.
+-- What an accepted function's rows are like: each is in range, the terminator is the last, the phi are the first; so a step
+-- performs its row.
 -- Assumes nothing.
 use mathlib.Core.Path.{_≡_, refl, sym, ap, _∙_}
 use mathlib.Core.Bool.{Bool, true, false, not, _||_, Bool·beq, true≢false, false≢true}
@@ -12,7 +12,7 @@ use lib.ListN.{length, getD, take, length-append, List·getD-append}
 use lib.Seq.{drop-cons, getD-append-add}
 use lib.Ieee.Fits.{and-l, and-r}
 use Rattle.laws.specs.Lists.{any, all}
-use Rattle.laws.proofs.Indexing.{none-at, all-append-left, all-append-right, getD-lt}
+use Rattle.laws.proofs.Indexing.{or-first, or-rest, none-at, all-append-left, all-append-right, getD-lt}
 use Rattle.laws.proofs.Keep.{keep-none, keep-leads, keep-passes}
 use Rattle.language.specs.Programs.{Row, Func, rowsAt, isPhi, isTerminator, targetsOf, sourcesOf, entriesOf, namedBy}
 use Rattle.language.specs.Checking.{inRange, rowTests, breaksRow, breaks9, breaks10, breaks14, sound, numbersRight, entryRight, lastRow}
@@ -24,24 +24,41 @@ use Rattle.theorems.proofs.Clean.{Clean, spotAt}
 abbrev pub rowOf : Func → ℕ → ℕ → Row
 rowOf f b j = getD (rowsAt f b) j Row.nop
 
--- ---- what it is for a row to be in range
+-- The phi of block b and its other rows, and those at place j among them.
+abbrev pub phisAt : Func → ℕ → List Row
+phisAt f b = phisOf (rowsAt f b)
+
+abbrev pub phiOf : Func → ℕ → ℕ → Row
+phiOf f b j = getD (phisAt f b) j Row.nop
+
+abbrev pub keptAt : Func → ℕ → List Row
+keptAt f b = keptOf (rowsAt f b)
+
+abbrev pub keptRow : Func → ℕ → ℕ → Row
+keptRow f b j = getD (keptAt f b) j Row.nop
+
+-- ---- a row in range
+
+-- These are registers.
+abbrev pub AreRegisters : Func → List ℕ → Type 0
+AreRegisters f us = T (all (λ u. ltb u (length (f .registers))) us)
 
 module _ (f : Func) (r : Row) (t : T (inRange f r)) where
-  registers-known : T (all (λ u. ltb u (length (f .registers))) (targetsOf r ++ (sourcesOf r ++ entriesOf r)))
+  registers-known : AreRegisters f (targetsOf r ++ (sourcesOf r ++ entriesOf r))
   unfolding inRange
   registers-known = search (and-l, and-r)
 
-  pub targets-known : T (all (λ u. ltb u (length (f .registers))) (targetsOf r))
-  targets-known = all-append-left (λ u. ltb u (length (f .registers))) (targetsOf r) (sourcesOf r ++ entriesOf r) registers-known
+  pub targets-known : AreRegisters f (targetsOf r)
+  targets-known = all-append-left _ (targetsOf r) (sourcesOf r ++ entriesOf r) registers-known
 
-  sources-and-entries : T (all (λ u. ltb u (length (f .registers))) (sourcesOf r ++ entriesOf r))
-  sources-and-entries = all-append-right (λ u. ltb u (length (f .registers))) (targetsOf r) (sourcesOf r ++ entriesOf r) registers-known
+  sources-and-entries : AreRegisters f (sourcesOf r ++ entriesOf r)
+  sources-and-entries = all-append-right _ (targetsOf r) (sourcesOf r ++ entriesOf r) registers-known
 
-  pub sources-known : T (all (λ u. ltb u (length (f .registers))) (sourcesOf r))
-  sources-known = all-append-left (λ u. ltb u (length (f .registers))) (sourcesOf r) (entriesOf r) sources-and-entries
+  pub sources-known : AreRegisters f (sourcesOf r)
+  sources-known = all-append-left _ (sourcesOf r) (entriesOf r) sources-and-entries
 
-  pub entries-known : T (all (λ u. ltb u (length (f .registers))) (entriesOf r))
-  entries-known = all-append-right (λ u. ltb u (length (f .registers))) (sourcesOf r) (entriesOf r) sources-and-entries
+  pub entries-known : AreRegisters f (entriesOf r)
+  entries-known = all-append-right _ (sourcesOf r) (entriesOf r) sources-and-entries
 
   pub named-known : T (all (λ b. ltb b (length (f .blocks))) (namedBy r))
   unfolding inRange
@@ -79,14 +96,6 @@ target-lt f r e t =
 
 -- ---- the rows of an accepted function
 
-or-first : (a b : Bool) → (a || b) ≡ false → a ≡ false
-or-first true b e = absurd (true≢false e)
-or-first false b e = refl
-
-or-rest : (a b : Bool) → (a || b) ≡ false → b ≡ false
-or-rest true b e = absurd (true≢false e)
-or-rest false b e = e
-
 lastRow-at : (rs : List Row) (j : ℕ) → suc j ≡ length rs → lastRow rs ≡ getD rs j Row.nop
 lastRow-at [] j e = absurd (omega arith)
 lastRow-at (r ∷ []) zero e = refl
@@ -95,8 +104,11 @@ lastRow-at (r ∷ (s ∷ rs)) zero e = absurd (omega arith)
 lastRow-at (r ∷ (s ∷ rs)) (suc j) e = lastRow-at (s ∷ rs) j (omega arith)
 
 module _ (f : Func) (c : Clean f) where
-  -- none of the tests of a row fails
-  passes : (b j i : ℕ) → j < length (rowsAt f b) → i < length (rowTests f (spotAt f b j)) → getD (rowTests f (spotAt f b j)) i false ≡ false
+  -- each test of a row is passed
+  passes :
+      (b j i : ℕ)
+      → j < length (rowsAt f b)
+      → (let tests = rowTests f (spotAt f b j) in i < length tests → getD tests i false ≡ false)
   unfolding breaksRow
   passes b j i l h = none-at (λ b. b) (rowTests f (spotAt f b j)) i false (c .rows b j l) h
 
@@ -109,8 +121,8 @@ module _ (f : Func) (c : Clean f) where
       passed true e = tt
       passed false e = true≢false e
 
-  -- 10: the terminator is the last row, and no other
-  pub last-ends : (b j : ℕ) → j < length (rowsAt f b) → isTerminator (rowOf f b j) ≡ eqb (suc j) (length (rowsAt f b))
+  -- 10: the terminator is the last row, and no other is
+  last-ends : (b j : ℕ) → j < length (rowsAt f b) → isTerminator (rowOf f b j) ≡ eqb (suc j) (length (rowsAt f b))
   unfolding rowTests breaks10
   last-ends b j l = same (isTerminator (rowOf f b j)) (eqb (suc j) (length (rowsAt f b))) (passes b j 1 l (lit< tt))
     where
@@ -120,67 +132,71 @@ module _ (f : Func) (c : Clean f) where
       same false true e = absurd (true≢false e)
       same false false e = refl
 
+  pub more-rows : (b j : ℕ) → j < length (rowsAt f b) → isTerminator (rowOf f b j) ≡ false → suc j < length (rowsAt f b)
+  more-rows b j l e = omega (arith, eqb-false (suc j) (length (rowsAt f b)) (sym (last-ends b j l) ∙ e))
+
+  pub last-row : (b j : ℕ) → j < length (rowsAt f b) → isTerminator (rowOf f b j) ≡ true → lastRow (rowsAt f b) ≡ rowOf f b j
+  last-row b j l e = lastRow-at (rowsAt f b) j (eqb-true (suc j) (length (rowsAt f b)) (sym (last-ends b j l) ∙ e))
+
   -- 14: a phi is not in entry, and no other row stands before it
-  phi-fits : (b j : ℕ) → j < length (rowsAt f b) → isPhi (rowOf f b j) ≡ true
+  phi-fits :
+      (b j : ℕ)
+      → j < length (rowsAt f b)
+      → isPhi (rowOf f b j) ≡ true
       → (eqb b (f .entry) || any (λ r. not (isPhi r)) (take j (rowsAt f b))) ≡ false
   unfolding rowTests breaks14
   phi-fits b j l e = rw e at (passes b j 5 l (lit< tt))
 
-  -- a block's phi, then its other rows
-  pub rows-split : (b : ℕ) → rowsAt f b ≡ phisOf (rowsAt f b) ++ keptOf (rowsAt f b)
+  pub rows-split : (b : ℕ) → rowsAt f b ≡ phisAt f b ++ keptAt f b
   unfolding phisOf keptOf
-  rows-split b = keep-leads isPhi (rowsAt f b) Row.nop (λ j l e. or-rest (eqb b (f .entry)) (any (λ r. not (isPhi r)) (take j (rowsAt f b))) (phi-fits b j l e))
+  rows-split b =
+      keep-leads isPhi (rowsAt f b) Row.nop
+      (λ j l e. or-rest (eqb b (f .entry)) (any (λ r. not (isPhi r)) (take j (rowsAt f b))) (phi-fits b j l e))
 
-  pub rows-count : (b : ℕ) → length (rowsAt f b) ≡ length (phisOf (rowsAt f b)) + length (keptOf (rowsAt f b))
-  rows-count b = ap length (rows-split b) ∙ length-append (phisOf (rowsAt f b)) (keptOf (rowsAt f b))
+  pub rows-count : (b : ℕ) → length (rowsAt f b) ≡ length (phisAt f b) + length (keptAt f b)
+  rows-count b = ap length (rows-split b) ∙ length-append (phisAt f b) (keptAt f b)
 
-  pub phi-at : (b j : ℕ) → j < length (phisOf (rowsAt f b)) → rowOf f b j ≡ getD (phisOf (rowsAt f b)) j Row.nop
+  pub entry-plain : phisAt f (f .entry) ≡ []
+  unfolding phisOf
+  entry-plain = keep-none isPhi (rowsAt f (f .entry)) Row.nop (λ j l. plain j l (isPhi (rowOf f (f .entry) j)) refl)
+    where
+      b : ℕ
+      b = f .entry
+
+      plain : (j : ℕ) → j < length (rowsAt f b) → (t : Bool) → isPhi (rowOf f b j) ≡ t → t ≡ false
+      plain j l true e =
+          absurd (eqb-false b b (or-first (eqb b b) (any (λ r. not (isPhi r)) (take j (rowsAt f b))) (phi-fits b j l e)) refl)
+      plain j l false e = refl
+
+  -- the rows by place
+  pub phi-at : (b j : ℕ) → j < length (phisAt f b) → rowOf f b j ≡ phiOf f b j
   phi-at b j l =
-      ap (λ (rs : List Row). getD rs j Row.nop) (rows-split b)
-      ∙ List·getD-append (phisOf (rowsAt f b)) (keptOf (rowsAt f b)) Row.nop j l
+      ap (λ (rs : List Row). getD rs j Row.nop) (rows-split b) ∙ List·getD-append (phisAt f b) (keptAt f b) Row.nop j l
 
-  pub kept-at : (b j : ℕ) → rowOf f b (length (phisOf (rowsAt f b)) + j) ≡ getD (keptOf (rowsAt f b)) j Row.nop
+  pub kept-at : (b j : ℕ) → rowOf f b (length (phisAt f b) + j) ≡ keptRow f b j
   kept-at b j =
-      ap (λ (rs : List Row). getD rs (length (phisOf (rowsAt f b)) + j) Row.nop) (rows-split b)
-      ∙ getD-append-add (phisOf (rowsAt f b)) (keptOf (rowsAt f b)) j Row.nop
+      ap (λ (rs : List Row). getD rs (length (phisAt f b) + j) Row.nop) (rows-split b)
+      ∙ getD-append-add (phisAt f b) (keptAt f b) j Row.nop
 
-  pub phi-is : (b j : ℕ) → j < length (phisOf (rowsAt f b)) → isPhi (getD (phisOf (rowsAt f b)) j Row.nop) ≡ true
+  pub phi-is : (b j : ℕ) → j < length (phisAt f b) → isPhi (phiOf f b j) ≡ true
   unfolding phisOf
   phi-is b j l = keep-passes isPhi (rowsAt f b) j Row.nop l
 
-  pub kept-is : (b j : ℕ) → j < length (keptOf (rowsAt f b)) → isPhi (getD (keptOf (rowsAt f b)) j Row.nop) ≡ false
+  pub kept-is : (b j : ℕ) → j < length (keptAt f b) → isPhi (keptRow f b j) ≡ false
   unfolding keptOf
-  kept-is b j l = not-true (isPhi (getD (keptOf (rowsAt f b)) j Row.nop)) (keep-passes (λ r. not (isPhi r)) (rowsAt f b) j Row.nop l)
+  kept-is b j l = not-true (isPhi (keptRow f b j)) (keep-passes (λ r. not (isPhi r)) (rowsAt f b) j Row.nop l)
 
   -- a phi's target and entries are registers
-  pub phi-target : (b j : ℕ) → j < length (phisOf (rowsAt f b)) → phiTarget (getD (phisOf (rowsAt f b)) j Row.nop) < length (f .registers)
-  phi-target b j l =
-      target-lt f (getD (phisOf (rowsAt f b)) j Row.nop) (phi-is b j l) (rw (phi-at b j l) at (in-range b j (omega (arith, rows-count b))))
+  phi-in-range : (b j : ℕ) → j < length (phisAt f b) → T (inRange f (phiOf f b j))
+  phi-in-range b j l = rw (phi-at b j l) at (in-range b j (omega (arith, rows-count b)))
 
-  pub phi-entry : (b j k : ℕ) → j < length (phisOf (rowsAt f b)) → entryAt k (getD (phisOf (rowsAt f b)) j Row.nop) < length (f .registers)
+  pub phi-target : (b j : ℕ) → j < length (phisAt f b) → phiTarget (phiOf f b j) < length (f .registers)
+  phi-target b j l = target-lt f (phiOf f b j) (phi-is b j l) (phi-in-range b j l)
+
+  pub phi-entry : (b j k : ℕ) → j < length (phisAt f b) → entryAt k (phiOf f b j) < length (f .registers)
   phi-entry b j k l =
-      getD-lt (length (f .registers)) (entriesOf (getD (phisOf (rowsAt f b)) j Row.nop)) k 0
-      (entries-known f (getD (phisOf (rowsAt f b)) j Row.nop) (rw (phi-at b j l) at (in-range b j (omega (arith, rows-count b)))))
-      (omega (arith, phi-target b j l))
-
-  pub entry-plain : phisOf (rowsAt f (f .entry)) ≡ []
-  unfolding phisOf
-  entry-plain = keep-none isPhi (rowsAt f (f .entry)) Row.nop plain
-    where
-      plain : (j : ℕ) → j < length (rowsAt f (f .entry)) → isPhi (rowOf f (f .entry) j) ≡ false
-      plain j l = case (isPhi (rowOf f (f .entry) j)) refl
-        where
-          case : (b : Bool) → isPhi (rowOf f (f .entry) j) ≡ b → b ≡ false
-          case true e = absurd (eqb-false (f .entry) (f .entry) (or-first (eqb (f .entry) (f .entry)) (any (λ r. not (isPhi r)) (take j (rowsAt f (f .entry)))) (phi-fits (f .entry) j l e)) refl)
-          case false e = refl
-
-  -- a row that is no terminator has a row after it
-  pub more-rows : (b j : ℕ) → j < length (rowsAt f b) → isTerminator (rowOf f b j) ≡ false → suc j < length (rowsAt f b)
-  more-rows b j l e = omega (arith, eqb-false (suc j) (length (rowsAt f b)) (sym (last-ends b j l) ∙ e))
-
-  -- a terminator is the last row
-  pub last-row : (b j : ℕ) → j < length (rowsAt f b) → isTerminator (rowOf f b j) ≡ true → lastRow (rowsAt f b) ≡ rowOf f b j
-  last-row b j l e = lastRow-at (rowsAt f b) j (eqb-true (suc j) (length (rowsAt f b)) (sym (last-ends b j l) ∙ e))
+      let known = entries-known f (phiOf f b j) (phi-in-range b j l) in
+      getD-lt (length (f .registers)) (entriesOf (phiOf f b j)) k 0 known (omega (arith, phi-target b j l))
 
   -- a step performs its row
   pub step-row : (p : Place) (g : List ℕ) → p .row < length (rowsAt f (p .block)) → step f p g ≡ perform f p g (rowHere f p)

@@ -8,7 +8,8 @@ use Rattle.laws.specs.Lists.{gather}
 use Rattle.laws.specs.Sections.{Bytes, gatherFrom}
 use Rattle.laws.proofs.Sections.{bytes-append, bytes-pad, bytes-gatherFrom, gather-is-from}
 use Rattle.language.specs.Programs.{Row, Register, Block, Func, entriesOf, rowsOf, noRegister, noBlock}
-use Rattle.language.specs.Table.{twoBytes, nameCells, registerCells, blockCells, rowCells, headCells, registerSection, blockSection, rowSection, entrySection, functionCells}
+use Rattle.language.specs.Table.{twoBytes, nameCells, registerCells, blockCells, rowCells, headCells, registerSection, blockSection}
+use Rattle.language.specs.Table.{rowSection, entrySection, functionCells}
 use Rattle.theorems.specs.TableLaw.{NameFits, RegisterFits, RowFits, FunctionFits}
 
 two-bytes : (n : ℕ) → Bytes (twoBytes n)

@@ -13,13 +13,33 @@ use borrow.Author.Tests.{eq-eqb}
 use Rattle.laws.specs.Lists.{gather, sum, below}
 use Rattle.laws.specs.Sections.{At, gatherFrom}
 use Rattle.laws.proofs.Ranges.{map-from, map-from-take, all-from, sum-take}
-use Rattle.laws.proofs.Sections.{at-move, at-self, at-left, at-right, at-cell, at-pad, at-gather, at-stride, gather-is-from, length-gather, length-gatherFrom, length-pad}
+use Rattle.laws.proofs.Sections.{at-move, at-self, at-left, at-right, at-cell, at-pad, at-gather, at-stride, gather-is-from, length-gather}
+use Rattle.laws.proofs.Sections.{length-gatherFrom, length-pad}
 use Rattle.language.specs.Programs.{Row, Register, Block, Func, entriesOf, rowsOf, entryCount, blockAt, noRegister, noBlock}
-use Rattle.language.specs.Table.{twoBytes, nameCells, registerCells, blockCells, rowCells, headCells, registerSection, blockSection, rowSection, entrySection, functionCells}
-use Rattle.language.specs.Table.{decodeRegister, decodeRow, decodeBlock, decodeFunction, blocksPlaced, phisPlaced}
-use Rattle.language.specs.Table.{functionName, functionSsa, functionResult, functionParams, functionEntry, registerCount, blockCount, blockFirst, blockRows, rowsBefore, rowCount, rowOp, phiFirst, rowEntries, entriesBefore}
+use Rattle.language.specs.Table.{twoBytes, nameCells, registerCells, blockCells, rowCells, headCells, registerSection, blockSection}
+use Rattle.language.specs.Table.{rowSection, entrySection, functionCells, decodeRegister, decodeRow, decodeBlock, decodeFunction}
+use Rattle.language.specs.Table.{blocksPlaced, phisPlaced, functionName, functionSsa, functionResult, functionParams, functionEntry}
+use Rattle.language.specs.Table.{registerCount, blockCount, blockFirst, blockRows, rowsBefore, rowCount, rowOp, phiFirst, rowEntries}
+use Rattle.language.specs.Table.{entriesBefore}
 use Rattle.theorems.specs.TableLaw.{FunctionFits}
-use Rattle.theorems.proofs.TableParts.{two-back, name-back, register-back, length-row, row-back, row-entries-back, phi-placed-back, block-first-back, block-rows-back, block-back}
+use Rattle.theorems.proofs.TableParts.{two-back, name-back, register-back, length-row, row-back, row-entries-back, phi-placed-back}
+use Rattle.theorems.proofs.TableParts.{block-first-back, block-rows-back, block-back}
+
+-- ---- places, by the counts, from 0 on
+
+abbrev pub entries : Row → ℕ
+entries row = length (entriesOf row)
+
+-- the entries before row r
+abbrev pub entryStart : Func → ℕ → ℕ
+entryStart f r = 0 + sum (map entries (take r (rowsOf f)))
+
+abbrev pub height : Block → ℕ
+height b = length (b .rows)
+
+-- the rows before block b
+abbrev pub rowStart : Func → ℕ → ℕ
+rowStart f b = 0 + sum (map height (take b (f .blocks)))
 
 -- ---- lengths
 
@@ -36,34 +56,34 @@ unfolding blockCells
 length-block n b h = ap (λ k. suc (suc (suc (suc k)))) (length-name (b .name) h)
 
 module _ (f : Func) (fits : FunctionFits f) where
-  length-head : length (headCells f) ≡ 73
+  pub length-head : length (headCells f) ≡ 73
   unfolding headCells
   length-head = ap (λ k. suc (suc (suc (suc (suc (suc (suc (suc k)))))))) (length-name (f .name) (fits .name .short))
 
-  registers-stride : (m i : ℕ) → i < length (f .registers) → length (registerCells (getD (f .registers) i noRegister)) ≡ 66
+  pub registers-stride : (m i : ℕ) → i < length (f .registers) → length (registerCells (getD (f .registers) i noRegister)) ≡ 66
   registers-stride m i b = length-register (getD (f .registers) i noRegister) (fits .registers i b .name .short)
 
-  blocks-stride : (m i : ℕ) → i < length (f .blocks) → length (blockCells m (getD (f .blocks) i noBlock)) ≡ 69
+  pub blocks-stride : (m i : ℕ) → i < length (f .blocks) → length (blockCells m (getD (f .blocks) i noBlock)) ≡ 69
   blocks-stride m i b = length-block m (getD (f .blocks) i noBlock) (fits .blockNames i b .short)
 
-  length-registers : length (registerSection f) ≡ 16896
+  pub length-registers : length (registerSection f) ≡ 16896
   unfolding registerSection
   length-registers =
       length-pad 16896 (gather registerCells (f .registers))
       (rw (gather-is-from registerCells 0 (f .registers), length-gatherFrom (λ x. 0) (λ m. registerCells) 66 noRegister 0 (f .registers) registers-stride)
       (omega (arith, fits .registerCount)))
 
-  length-blocks : length (blockSection f) ≡ 4416
+  pub length-blocks : length (blockSection f) ≡ 4416
   unfolding blockSection
   length-blocks =
-      length-pad 4416 (gatherFrom (λ b. length (b .rows)) blockCells 0 (f .blocks))
-      (rw (length-gatherFrom (λ b. length (b .rows)) blockCells 69 noBlock 0 (f .blocks) blocks-stride) (omega (arith, fits .blockCount)))
+      length-pad 4416 (gatherFrom height blockCells 0 (f .blocks))
+      (rw (length-gatherFrom height blockCells 69 noBlock 0 (f .blocks) blocks-stride) (omega (arith, fits .blockCount)))
 
-  length-rows : length (rowSection f) ≡ 12288
+  pub length-rows : length (rowSection f) ≡ 12288
   unfolding rowSection
   length-rows =
-      length-pad 12288 (gatherFrom (λ r. length (entriesOf r)) rowCells 0 (rowsOf f))
-      (rw (length-gatherFrom (λ r. length (entriesOf r)) rowCells 12 Row.nop 0 (rowsOf f) (λ m i b. length-row m (getD (rowsOf f) i Row.nop)))
+      length-pad 12288 (gatherFrom entries rowCells 0 (rowsOf f))
+      (rw (length-gatherFrom entries rowCells 12 Row.nop 0 (rowsOf f) (λ m i b. length-row m (getD (rowsOf f) i Row.nop)))
       (omega (arith, fits .rowCount)))
 
   length-entries : length (entrySection f) ≡ 1024
@@ -106,7 +126,7 @@ module _ (f : Func) (fits : FunctionFits f) where
 
     -- ---- registers
 
-    register-at : (i : ℕ) → i < length (f .registers) → At t (a + 73 + 66 * i) (registerCells (getD (f .registers) i noRegister))
+    pub register-at : (i : ℕ) → i < length (f .registers) → At t (a + 73 + 66 * i) (registerCells (getD (f .registers) i noRegister))
     unfolding registerSection
     register-at i b =
         at-stride (λ x. 0) (λ m. registerCells) 66 noRegister 0 (f .registers) registers-stride i b
@@ -119,67 +139,50 @@ module _ (f : Func) (fits : FunctionFits f) where
 
     -- ---- rows
 
-    abbrev rows : List Row
-    rows = rowsOf f
-
-    abbrev entries : Row → ℕ
-    entries row = length (entriesOf row)
-
-    -- the entries before row r
-    abbrev entryPlace : ℕ → ℕ
-    entryPlace r = 0 + sum (map entries (take r rows))
-
-    row-at : (r : ℕ) → r < length rows → At t (a + 21385 + 12 * r) (rowCells (entryPlace r) (getD rows r Row.nop))
+    pub row-at : (r : ℕ) → r < length (rowsOf f) → At t (a + 21385 + 12 * r) (rowCells (entryStart f r) (getD (rowsOf f) r Row.nop))
     unfolding rowSection
     row-at r b =
-        at-stride entries rowCells 12 Row.nop 0 rows (λ m i c. length-row m (getD rows i Row.nop)) r b
-        (at-pad 12288 (gatherFrom entries rowCells 0 rows) (at-left (rowSection f) (entrySection f) from-rows))
+        at-stride entries rowCells 12 Row.nop 0 (rowsOf f) (λ m i c. length-row m (getD (rowsOf f) i Row.nop)) r b
+        (at-pad 12288 (gatherFrom entries rowCells 0 (rowsOf f)) (at-left (rowSection f) (entrySection f) from-rows))
 
-    entries-at : (r : ℕ) → r < length rows → At t (a + 33673 + sum (map entries (take r rows))) (entriesOf (getD rows r Row.nop))
+    pub entries-at : (r : ℕ) → r < length (rowsOf f) → At t (a + 33673 + sum (map entries (take r (rowsOf f)))) (entriesOf (getD (rowsOf f) r Row.nop))
     unfolding entrySection
-    entries-at r b = at-gather entriesOf Row.nop rows r b (at-pad 1024 (gather entriesOf rows) from-entries)
+    entries-at r b = at-gather entriesOf Row.nop (rowsOf f) r b (at-pad 1024 (gather entriesOf (rowsOf f)) from-entries)
 
-    entries-fit : (r : ℕ) → r < length rows → sum (map entries (take r rows)) + length (entriesOf (getD rows r Row.nop)) ≤ 1024
+    pub entries-fit : (r : ℕ) → r < length (rowsOf f) → sum (map entries (take r (rowsOf f))) + length (entriesOf (getD (rowsOf f) r Row.nop)) ≤ 1024
     unfolding entryCount
-    entries-fit r b = omega (arith, sum-take entries Row.nop rows r b, fits .entryCount)
+    entries-fit r b = omega (arith, sum-take entries Row.nop (rowsOf f) r b, fits .entryCount)
 
-    rows-back : (r : ℕ) → r < length rows → decodeRow t a r ≡ getD rows r Row.nop
+    rows-back : (r : ℕ) → r < length (rowsOf f) → decodeRow t a r ≡ getD (rowsOf f) r Row.nop
     rows-back r b =
-        let c : entryPlace r + length (entriesOf (getD rows r Row.nop)) ≤ 1024 = omega (arith, entries-fit r b) in
-        row-back a (entryPlace r) (getD rows r Row.nop) r (fits .rows r b) (row-at r b) refl (entries-at r b) (omega arith) (omega arith) (omega arith)
+        let c : entryStart f r + length (entriesOf (getD (rowsOf f) r Row.nop)) ≤ 1024 = omega (arith, entries-fit r b) in
+        row-back a (entryStart f r) (getD (rowsOf f) r Row.nop) r (fits .rows r b) (row-at r b) refl (entries-at r b) (omega arith) (omega arith) (omega arith)
 
     -- ---- blocks
 
-    abbrev height : Block → ℕ
-    height b = length (b .rows)
-
-    -- the rows before block b
-    abbrev rowPlace : ℕ → ℕ
-    rowPlace b = 0 + sum (map height (take b (f .blocks)))
-
-    block-at : (b : ℕ) → b < length (f .blocks) → At t (a + 16969 + 69 * b) (blockCells (rowPlace b) (blockAt f b))
+    pub block-at : (b : ℕ) → b < length (f .blocks) → At t (a + 16969 + 69 * b) (blockCells (rowStart f b) (blockAt f b))
     unfolding blockSection
     block-at b c =
         at-stride height blockCells 69 noBlock 0 (f .blocks) blocks-stride b c
         (at-pad 4416 (gatherFrom height blockCells 0 (f .blocks)) (at-left (blockSection f) behindBlocks from-blocks))
 
-    rows-total : sum (map height (f .blocks)) ≡ length rows
+    rows-total : sum (map height (f .blocks)) ≡ length (rowsOf f)
     unfolding rowsOf
     rows-total = sym (length-gather (λ b. b .rows) (f .blocks))
 
-    rows-fit : (b : ℕ) → b < length (f .blocks) → sum (map height (take b (f .blocks))) + height (blockAt f b) ≤ length rows
+    rows-fit : (b : ℕ) → b < length (f .blocks) → sum (map height (take b (f .blocks))) + height (blockAt f b) ≤ length (rowsOf f)
     rows-fit b c = omega (arith, sum-take height noBlock (f .blocks) b c, rows-total)
 
-    -- row j of block b is row `rowPlace b + j` of the function
-    block-row : (b : ℕ) → b < length (f .blocks) → (j : ℕ) → j < height (blockAt f b) → getD rows (rowPlace b + j) Row.nop ≡ getD (blockAt f b .rows) j Row.nop
+    -- row j of block b is row `rowStart f b + j` of the function
+    block-row : (b : ℕ) → b < length (f .blocks) → (j : ℕ) → j < height (blockAt f b) → getD (rowsOf f) (rowStart f b + j) Row.nop ≡ getD (blockAt f b .rows) j Row.nop
     unfolding rowsOf
     block-row b c j d = at-cell Row.nop (at-gather (λ b. b .rows) noBlock (f .blocks) b c at-self) j d refl
 
     blocks-back : (b : ℕ) → b < length (f .blocks) → decodeBlock t a b ≡ blockAt f b
     blocks-back b c =
-        let d : rowPlace b + height (blockAt f b) ≤ length rows = omega (arith, rows-fit b c) in
-        block-back a (rowPlace b) (blockAt f b) b (block-at b c) refl (omega (arith, fits .rowCount)) (omega (arith, fits .rowCount))
-        (λ j e. rows-back (rowPlace b + j) (omega arith) ∙ block-row b c j e)
+        let d : rowStart f b + height (blockAt f b) ≤ length (rowsOf f) = omega (arith, rows-fit b c) in
+        block-back a (rowStart f b) (blockAt f b) b (block-at b c) refl (omega (arith, fits .rowCount)) (omega (arith, fits .rowCount))
+        (λ j e. rows-back (rowStart f b + j) (omega arith) ∙ block-row b c j e)
 
     -- ---- the stored positions
 
@@ -187,19 +190,19 @@ module _ (f : Func) (fits : FunctionFits f) where
     rows-before-back b c =
         ap sum (map-from-take (blockRows t a) height noBlock 0 (f .blocks) b c
         (λ i d. let e : i < length (f .blocks) = omega arith in
-        block-rows-back a (rowPlace i) (blockAt f i) (0 + i) (block-at i e) (omega arith) (omega (arith, rows-fit i e, fits .rowCount))))
+        block-rows-back a (rowStart f i) (blockAt f i) (0 + i) (block-at i e) (omega arith) (omega (arith, rows-fit i e, fits .rowCount))))
 
-    entries-before-back : (r : ℕ) → r ≤ length rows → entriesBefore t a r ≡ sum (map entries (take r rows))
+    entries-before-back : (r : ℕ) → r ≤ length (rowsOf f) → entriesBefore t a r ≡ sum (map entries (take r (rowsOf f)))
     entries-before-back r c =
-        ap sum (map-from-take (rowEntries t a) entries Row.nop 0 rows r c
-        (λ i d. let e : i < length rows = omega arith in
-        row-entries-back a (entryPlace i) (getD rows i Row.nop) (0 + i) (fits .rows i e .form) (row-at i e) (omega arith) (omega (arith, entries-fit i e))))
+        ap sum (map-from-take (rowEntries t a) entries Row.nop 0 (rowsOf f) r c
+        (λ i d. let e : i < length (rowsOf f) = omega arith in
+        row-entries-back a (entryStart f i) (getD (rowsOf f) i Row.nop) (0 + i) (fits .rows i e .form) (row-at i e) (omega arith) (omega (arith, entries-fit i e))))
 
-    block-count-back : blockCount t a ≡ length (f .blocks)
+    pub block-count-back : blockCount t a ≡ length (f .blocks)
     unfolding headCells
     block-count-back = at-cell 0 head-at 6 (rw length-head (lit< tt)) refl
 
-    row-count-back : rowCount t a ≡ length rows
+    pub row-count-back : rowCount t a ≡ length (rowsOf f)
     row-count-back = rw block-count-back (rows-before-back (length (f .blocks)) (le-refl (length (f .blocks))) ∙ ap (λ bs. sum (map height bs)) (take-length (f .blocks)) ∙ rows-total)
 
     blocks-placed-back : blocksPlaced t a ≡ true
@@ -208,17 +211,17 @@ module _ (f : Func) (fits : FunctionFits f) where
         rw block-count-back
         (all-from (λ b. eqb (blockFirst t a b) (rowsBefore t a b)) 0 (length (f .blocks))
         (λ i c.
-        let first : blockFirst t a i ≡ rowPlace i = block-first-back a (rowPlace i) (blockAt f i) i (block-at i c) refl (omega (arith, rows-fit i c, fits .rowCount)) in
+        let first : blockFirst t a i ≡ rowStart f i = block-first-back a (rowStart f i) (blockAt f i) i (block-at i c) refl (omega (arith, rows-fit i c, fits .rowCount)) in
         rw (zero-add i) (eq-eqb (blockFirst t a i) (rowsBefore t a i) (omega (arith, first, rows-before-back i (le-of-lt c))))))
 
     phis-placed-back : phisPlaced t a ≡ true
     unfolding phisPlaced
     phis-placed-back =
         rw row-count-back
-        (all-from (λ r. cond (eqb (rowOp t a r) 31) (eqb (phiFirst t a r) (entriesBefore t a r)) true) 0 (length rows)
+        (all-from (λ r. cond (eqb (rowOp t a r) 31) (eqb (phiFirst t a r) (entriesBefore t a r)) true) 0 (length (rowsOf f))
         (λ i c.
-        let before : entriesBefore t a i ≡ entryPlace i = omega (arith, entries-before-back i (le-of-lt c)) in
-        rw (zero-add i, before) (phi-placed-back a (entryPlace i) (getD rows i Row.nop) i (fits .rows i c .form) (row-at i c) refl (omega (arith, entries-fit i c)))))
+        let before : entriesBefore t a i ≡ entryStart f i = omega (arith, entries-before-back i (le-of-lt c)) in
+        rw (zero-add i, before) (phi-placed-back a (entryStart f i) (getD (rowsOf f) i Row.nop) i (fits .rows i c .form) (row-at i c) refl (omega (arith, entries-fit i c)))))
 
     -- ---- the function
 
@@ -232,12 +235,12 @@ module _ (f : Func) (fits : FunctionFits f) where
     from-counts : At t (a + 2 + 2) behindParams
     from-counts = at-right (twoBytes (f .params)) behindParams from-params
 
-    from-name : At t (a + 2 + 2 + 2 + 2) (nameCells (f .name))
+    pub from-name : At t (a + 2 + 2 + 2 + 2) (nameCells (f .name))
     from-name =
         at-right (length (f .blocks) ∷ f .entry ∷ []) (nameCells (f .name))
         (at-right (twoBytes (length (f .registers))) (length (f .blocks) ∷ f .entry ∷ nameCells (f .name)) from-counts)
 
-    register-count-back : registerCount t a ≡ length (f .registers)
+    pub register-count-back : registerCount t a ≡ length (f .registers)
     register-count-back =
         two-back (length (f .registers)) (at-left (twoBytes (length (f .registers))) (length (f .blocks) ∷ f .entry ∷ nameCells (f .name)) from-counts) (omega arith)
         ∙ mod-eq-of-lt (omega (arith, fits .registerCount))

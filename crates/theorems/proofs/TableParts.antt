@@ -16,7 +16,9 @@ use Rattle.laws.proofs.Sections.{at-left, at-right, at-cell, at-part, at-pad}
 use Rattle.language.specs.Instructions.{Form, formOf}
 use Rattle.language.specs.Programs.{Row, Register, Block, entriesOf, opOf, formIn, isPhi}
 use Rattle.language.specs.Table.{two, four, eight, nameAt, twoBytes, fourBytes, eightBytes, nameCells, registerCells, blockCells, rowCells}
-use Rattle.language.specs.Table.{decodeRegister, decodeRow, decodeAs, decodeBlock, registerType, registerName, blockFirst, blockRows, blockName, rowEntries, rowOp, rowTarget, rowLeft, rowRight, loadNumber, jumpFirst, jumpSecond, phiFirst, phiCount, phiEntry}
+use Rattle.language.specs.Table.{decodeRegister, decodeRow, decodeAs, decodeBlock, registerType, registerName, blockFirst, blockRows}
+use Rattle.language.specs.Table.{blockName, rowEntries, rowOp, rowTarget, rowLeft, rowRight, loadNumber, jumpFirst, jumpSecond, phiFirst}
+use Rattle.language.specs.Table.{phiCount, phiEntry}
 use Rattle.theorems.specs.TableLaw.{RowFits, numberOf}
 
 -- ---- the cells of a row
@@ -48,7 +50,7 @@ first-cell n Row.leave = refl
 first-cell n (Row.unknown op) = refl
 
 -- a row is a phi, or has no entries
-by-phi : (P : Row → Type 0) → ((u : ℕ) (es : List ℕ) → P (Row.phi u es)) → ((row : Row) → isPhi row ≡ false → entriesOf row ≡ [] → P row)
+pub by-phi : (P : Row → Type 0) → ((u : ℕ) (es : List ℕ) → P (Row.phi u es)) → ((row : Row) → isPhi row ≡ false → entriesOf row ≡ [] → P row)
     → (row : Row) → P row
 by-phi P p q Row.nop = q Row.nop refl refl
 by-phi P p q (Row.load op t x) = q (Row.load op t x) refl refl
@@ -101,12 +103,15 @@ module _ {t : List ℕ} where
 
   -- ---- names
 
+  pub name-length-back : {k : ℕ} (name : List ℕ) → At t k (nameCells name) → {m : ℕ} → m ≡ k → getD t m 0 ≡ length name
+  unfolding nameCells
+  name-length-back name h e = at-cell 0 h 0 (zero-lt-suc (length (pad 64 name))) (omega arith)
+
   pub name-back : {k : ℕ} (name : List ℕ) → At t k (nameCells name) → {m : ℕ} → m ≡ k → nameAt t m ≡ name
   unfolding nameCells
   name-back {k} name h {m} e =
-      let count : getD t m 0 ≡ length name = at-cell 0 h 0 (zero-lt-suc (length (pad 64 name))) (omega arith) in
       let bytes : At t (k + 1) name = at-pad 64 name (at-right (length name ∷ []) (pad 64 name) h) in
-      at-part bytes {m = m + 1} (omega arith) count
+      at-part bytes {m = m + 1} (omega arith) (name-length-back name h e)
 
 module _ {t : List ℕ} (a : ℕ) where
   pub register-back : {k : ℕ} (r : Register) (i : ℕ) → At t k (registerCells r) → k ≡ a + 73 + 66 * i → decodeRegister t a i ≡ r

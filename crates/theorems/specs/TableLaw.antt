@@ -7,8 +7,9 @@ use Prim.Native.Nat.{ℕ, _^_, _≤_, _<_}
 use lib.ListN.{length, getD}
 use Rattle.laws.specs.Sections.{Bytes}
 use Rattle.language.specs.Instructions.{formOf}
-use Rattle.language.specs.Programs.{Row, Register, Func, Program, opOf, formIn, targetsOf, sourcesOf, entriesOf, namedBy, rowsOf, entryCount, blockAt, noRegister, noFunction}
-use Rattle.language.specs.Programs.{maxFunctions, maxRegisters, maxBlocks, maxRows, maxEntries, maxName}
+use Rattle.language.specs.Programs.{Row, Register, Func, Program, opOf, formIn, targetsOf, sourcesOf, entriesOf, namedBy, rowsOf}
+use Rattle.language.specs.Programs.{entryCount, blockAt, noRegister, noFunction, maxFunctions, maxRegisters, maxBlocks, maxRows, maxEntries}
+use Rattle.language.specs.Programs.{maxName}
 use Rattle.language.specs.Table.{tableLength, cells, decode}
 
 -- The number a row loads.

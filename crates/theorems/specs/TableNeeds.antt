@@ -1,0 +1,56 @@
+-- Which cells of a table are needed (document 01, "cells not needed are 0 in an output and ignored in an input").
+-- Assumes nothing.
+use mathlib.Core.Logic.{_⊎_}
+use mathlib.Core.Path.{_≡_}
+use mathlib.Core.List.{List, [], _∷_}
+use Prim.Native.Nat.{ℕ, suc, _+_, _*_, _<_}
+use lib.Dec.{T}
+use lib.ListN.{length, getD}
+use Rattle.laws.specs.Lists.{member}
+use Rattle.language.specs.Instructions.{Form, formOf}
+use Rattle.language.specs.Programs.{Program}
+use Rattle.language.specs.Table.{functionCount, functionAt, registerCount, blockCount, blockFirst, blockRows, rowCount, rowOp, phiFirst}
+use Rattle.language.specs.Table.{phiCount, cells, decode}
+use Rattle.theorems.specs.TableLaw.{Fits}
+
+-- The needed ones of a row's 12 cells, by its form.
+abbrev pub usedCells : Form → List ℕ
+usedCells Form.nop = 0 ∷ []
+usedCells Form.load = 0 ∷ 1 ∷ 4 ∷ 5 ∷ 6 ∷ 7 ∷ 8 ∷ 9 ∷ 10 ∷ 11 ∷ []
+usedCells Form.unary = 0 ∷ 1 ∷ 2 ∷ []
+usedCells Form.binary = 0 ∷ 1 ∷ 2 ∷ 3 ∷ []
+usedCells Form.phi = 0 ∷ 1 ∷ 4 ∷ 5 ∷ 6 ∷ 7 ∷ []
+usedCells Form.jump = 0 ∷ 4 ∷ []
+usedCells Form.branch = 0 ∷ 2 ∷ 4 ∷ 5 ∷ []
+usedCells Form.return = 0 ∷ 2 ∷ []
+usedCells Form.leave = 0 ∷ []
+usedCells Form.unknown = 0 ∷ []
+
+-- Row r of the function at cell a is needed: as one of the rows the counts give, or as one a block's stored first row gives.
+-- Where the stored positions are right these are the same rows.
+pub data NeededRow (t : List ℕ) (a r : ℕ) : Type 0 where
+  counted : r < rowCount t a → NeededRow t a r
+  stored : (b j : ℕ) → b < blockCount t a → j < blockRows t a b → r ≡ blockFirst t a b + j → NeededRow t a r
+
+-- Cell k is needed by the function at cell a. A name is its length cell and as many bytes.
+pub data NeededIn (t : List ℕ) (a k : ℕ) : Type 0 where
+  head : (j : ℕ) → j < 8 → k ≡ a + j → NeededIn t a k
+  name : (j : ℕ) → j < suc (getD t (a + 8) 0) → k ≡ a + 8 + j → NeededIn t a k
+  registerType : (r : ℕ) → r < registerCount t a → k ≡ a + 73 + 66 * r → NeededIn t a k
+  registerName : (r j : ℕ) → r < registerCount t a → j < suc (getD t (a + 74 + 66 * r) 0) → k ≡ a + 74 + 66 * r + j → NeededIn t a k
+  blockPlace : (b j : ℕ) → b < blockCount t a → j < 4 → k ≡ a + 16969 + 69 * b + j → NeededIn t a k
+  blockName : (b j : ℕ) → b < blockCount t a → j < suc (getD t (a + 16973 + 69 * b) 0) → k ≡ a + 16973 + 69 * b + j → NeededIn t a k
+  row : (r j : ℕ) → NeededRow t a r → T (member j (usedCells (formOf (rowOp t a r)))) → k ≡ a + 21385 + 12 * r + j → NeededIn t a k
+  entry : (r j : ℕ) → NeededRow t a r → formOf (rowOp t a r) ≡ Form.phi → j < phiCount t a r → k ≡ a + 33673 + (phiFirst t a r + j) → NeededIn t a k
+
+pub data Needed (t : List ℕ) (k : ℕ) : Type 0 where
+  count : k ≡ 0 → Needed t k
+  function : (i : ℕ) → i < functionCount t → NeededIn t (functionAt i) k → Needed t k
+
+-- "ignored in an input": tables that agree on the needed cells hold the same program.
+abbrev pub IgnoredLaw : Type 0
+IgnoredLaw = (t u : List ℕ) → length t ≡ length u → ((k : ℕ) → Needed t k → getD t k 0 ≡ getD u k 0) → decode t ≡ decode u
+
+-- "0 in an output": a cell that is written is 0 or needed.
+abbrev pub ZeroLaw : Type 0
+ZeroLaw = (p : Program) → Fits p → (k : ℕ) → (getD (cells p) k 0 ≡ 0) ⊎ Needed (cells p) k
