@@ -5,6 +5,7 @@ pub mod TokenFacts
 pub mod ReadingFacts
 pub mod SizeFacts
 pub mod ReadingLaws
+pub mod NameLaws
 pub mod TableFacts
 pub mod Paths
 pub mod CheckFacts

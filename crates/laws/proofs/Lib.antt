@@ -1,3 +1,4 @@
 pub mod Ranges
 pub mod Searching
 pub mod Sections
+pub mod All
