@@ -1,13 +1,13 @@
 -- Every name that the lexer finds is spelled: what it keeps of a name so far is what `spell` makes of the same bytes.
 -- Assumes nothing.
-use mathlib.Core.Bool.{Bool, true, false, cond, _&&_, and-true}
+use mathlib.Core.Bool.{Bool, true, false, cond, and-true}
 use mathlib.Core.List.{List, [], _∷_, _++_, foldl, foldl-append}
-use mathlib.Core.Path.{_≡_, refl, sym, _∙_, ap, subst, subst⁻¹}
-use Prim.Native.Nat.{ℕ, zero, suc, _+_, _≤_, _<_}
+use mathlib.Core.Path.{_≡_, refl, _∙_, ap, subst, subst⁻¹}
+use Prim.Native.Nat.{ℕ, _≤_, _<_}
 use native.Mathlib.Omega.{arith}
-use lib.Dec.{T, eqb, ltb, leb, lit≤, eqb→eq}
+use lib.Dec.{T, eqb, ltb, lit≤, eqb→eq}
 use lib.ListN.{length, length-append}
-use mir.Facts.{and-yes, yes-and}
+use mir.Facts.{yes-and}
 use borrow.Author.Tests.{ltb-true, lt-ltb, le-leb, eqb-true, eq-eqb, ne-eqb}
 use Rattle.laws.specs.Lists.{all}
 use Rattle.laws.specs.Sections.{Bytes}

@@ -1,6 +1,6 @@
 -- `all` over lists put together.
 -- Assumes nothing.
-use mathlib.Core.Bool.{Bool, true, false, _&&_}
+use mathlib.Core.Bool.{Bool}
 use mathlib.Core.List.{List, [], _∷_, _++_}
 use lib.Dec.{T}
 use mir.Facts.{and-yes, yes-and}
