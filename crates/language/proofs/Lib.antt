@@ -5,6 +5,8 @@ pub mod TokenFacts
 pub mod ReadingFacts
 pub mod SizeFacts
 pub mod ReadingLaws
+pub mod NameLaws
+pub mod SpelledNames
 pub mod TableFacts
 pub mod Paths
 pub mod CheckFacts

@@ -1,12 +1,12 @@
 -- Laws of reading: a text is read by its tokens, in parts as in one piece, and the first refusal stands. Assumes nothing.
 use mathlib.Core.List.{List, [], _∷_, _++_, foldl, foldl-append}
-use mathlib.Core.Path.{_≡_, refl, sym, _∙_, ap}
+use mathlib.Core.Path.{_≡_, refl}
 use Prim.Native.Nat.{ℕ, _≤_}
 use lib.ListN.{length}
 use borrow.Author.Tests.{le-ltb}
 use Rattle.language.specs.Programs.{maxText}
-use Rattle.language.specs.Tokens.{Found, Lexed, quiet, lexer₀, lexMore, lexEnd, tokensOf}
-use Rattle.language.specs.Reading.{Parse, Reader, Reading, take, parse₀, readByte, reader₀, finish, readEnd, read}
+use Rattle.language.specs.Tokens.{Found, Lexed, quiet, lexer₀, lexMore, tokensOf}
+use Rattle.language.specs.Reading.{Parse, Reader, take, parse₀, readByte, finish, readEnd, read}
 
 -- once refused, a reading stays refused
 pub refusal-stands : (n p : ℕ) (found : List Found) → foldl take (Parse.refused n p) found ≡ Parse.refused n p

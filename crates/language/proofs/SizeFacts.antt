@@ -4,12 +4,11 @@ use mathlib.Core.Bool.{Bool, true}
 use mathlib.Core.List.{List, [], _∷_, foldl}
 use mathlib.Core.Path.{_≡_, refl}
 use Prim.Native.Nat.{ℕ, _<_}
-use Prim.Native.String.{String}
 use lib.ListN.{length, replicate}
 use borrow.Author.Tests.{lt-ltb}
 use Rattle.laws.specs.Lists.{all}
 use Rattle.language.specs.Bytes.{bytesOf}
-use Rattle.language.specs.Programs.{Row, Register, Block, Func, noBlock, maxText}
+use Rattle.language.specs.Programs.{Row, Block, Func, noBlock, maxText}
 use Rattle.language.specs.Tokens.{lexer₀}
 use Rattle.language.specs.Grammar.{Stage}
 use Rattle.language.specs.Reading.{Reading, Reader, Parse, Parts, partsOf, functionOf, draftOf, noParts, read, readByte, readEnd}

@@ -1,11 +1,11 @@
 -- The grammar of a text as a machine over tokens (document 01, "The text"). It keeps no program: a move names the stage that
 -- comes next and what is to be done about the token, and a token that may not stand there is `wrong`, answer 3.
 -- Assumes nothing.
-use mathlib.Core.Bool.{Bool, true, false, cond, not, _&&_}
-use mathlib.Core.List.{List, [], _∷_}
+use mathlib.Core.Bool.{Bool, cond, not, _&&_}
+use mathlib.Core.List.{List, []}
 use Prim.Native.Nat.{ℕ, zero, suc}
 use lib.Dec.{eqb}
-use Rattle.language.specs.Instructions.{Form, Operand, formOf, hasTarget, sourceCount, operandOf, void}
+use Rattle.language.specs.Instructions.{Operand, formOf, hasTarget, sourceCount, operandOf, void}
 use Rattle.language.specs.Bytes.{leftParen, rightParen, leftBrace, rightBrace, comma, semicolon, equals}
 use Rattle.language.specs.Words.{isType, typeOf, isInstruction, instructionOf, functionWord, ssaWord, voidWord, registerWord, blockWord, entryWord}
 use Rattle.language.specs.Tokens.{Token}

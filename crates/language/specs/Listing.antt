@@ -1,6 +1,6 @@
 -- The listing: "A program prints a line for each function, tabs between: name, ssa, registers, blocks, instructions; or `refused`,
 -- number, place." Every line is ended by LF. Assumes nothing.
-use mathlib.Core.Bool.{Bool, true, false}
+use mathlib.Core.Bool.{true, false}
 use mathlib.Core.List.{List, [], _∷_, _++_}
 use Prim.Native.Nat.{ℕ, zero, suc, _+_, _/_, _%_}
 use lib.Dec.{ltb}

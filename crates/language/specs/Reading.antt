@@ -2,7 +2,7 @@
 -- "Order: 1 first; then the earliest byte, lowest number there." Tokens come in the order of their bytes, so the first answer
 -- given stands; at one token the tests come in the order of their numbers.
 -- Assumes nothing.
-use mathlib.Core.Bool.{Bool, true, false, cond}
+use mathlib.Core.Bool.{Bool, true, cond}
 use mathlib.Core.List.{List, [], _∷_, _++_, map, foldl}
 use Prim.Native.Nat.{ℕ, _+_, _-_, _*_, _%_, _^_}
 use lib.Dec.{eqb, ltb, leb}

@@ -7,3 +7,4 @@ pub mod Sums
 pub mod Ranges
 pub mod Searching
 pub mod Sections
+pub mod All
