@@ -71,11 +71,6 @@ all-from-at p k (suc n) h zero b = ap p (add-zero k) ∙ and-eq-true-iff (p k) (
 all-from-at p k (suc n) h (suc i) b =
     ap p (add-suc k i ∙ sym (suc-add k i)) ∙ all-from-at p (suc k) n (and-eq-true-iff (p k) (all p (from (suc k) n)) .0 h .1) i (le-of-suc-le-suc b)
 
--- the elements before i, and element i, are a part of the sum
-pub sum-take : {A : Type 0} (s : A → ℕ) (d : A) (xs : List A) (i : ℕ) → i < length xs → sum (map s (take i xs)) + s (getD xs i d) ≤ sum (map s xs)
-sum-take s d [] i h = absurd (not-suc-le-zero h)
-sum-take s d (x ∷ xs) zero h = omega arith
-sum-take s d (x ∷ xs) (suc i) h = omega (arith, sum-take s d xs i (le-of-suc-le-suc h))
 
 -- parts of a range, each beginning where the sizes before it say, are the range
 pub gather-from : {A : Type 0} (f : ℕ → A) (start size : ℕ → ℕ) (s k n : ℕ) → ((i : ℕ) → i < n → start (k + i) ≡ s + sum (map size (from k i)))

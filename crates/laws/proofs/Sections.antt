@@ -77,10 +77,6 @@ module _ {A B : Type 0} where
   gather-is-from f n [] = refl
   gather-is-from f n (x ∷ xs) = ap (λ (r : List A). f x ++ r) (gather-is-from f (n + 0) xs)
 
-  pub gather-map : {C : Type 0} (f : B → List A) (g : C → B) (xs : List C) → gather f (map g xs) ≡ gather (λ x. f (g x)) xs
-  gather-map f g [] = refl
-  gather-map f g (x ∷ xs) = ap (λ (r : List A). f (g x) ++ r) (gather-map f g xs)
-
   pub length-gather : (f : B → List A) (xs : List B) → length (gather f xs) ≡ sum (map (λ x. length (f x)) xs)
   length-gather f [] = refl
   length-gather f (x ∷ xs) = length-append (f x) (gather f xs) ∙ ap (λ (n : ℕ). length (f x) + n) (length-gather f xs)

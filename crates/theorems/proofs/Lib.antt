@@ -13,6 +13,7 @@ pub mod AcceptanceRows
 pub mod AcceptanceNumbers
 pub mod AcceptanceBlocks
 pub mod Acceptance
+pub mod TableSound
 pub mod SimulationRuns
 pub mod SimulationRows
 pub mod SimulationBlocks

@@ -12,7 +12,8 @@ use lib.Seq.{take-length}
 use borrow.Author.Tests.{eq-eqb}
 use Rattle.laws.specs.Lists.{gather, sum, below}
 use Rattle.laws.specs.Sections.{At, gatherFrom}
-use Rattle.laws.proofs.Ranges.{map-from, map-from-take, all-from, sum-take}
+use Rattle.laws.proofs.Ranges.{map-from, map-from-take, all-from}
+use Rattle.laws.proofs.Gather.{sum-take-le}
 use Rattle.laws.proofs.Sections.{at-move, at-self, at-left, at-right, at-cell, at-pad, at-gather, at-stride, gather-is-from, length-gather}
 use Rattle.laws.proofs.Sections.{length-gatherFrom, length-pad}
 use Rattle.language.specs.Programs.{Row, Register, Block, Func, entriesOf, rowsOf, entryCount, blockAt, noRegister, noBlock}
@@ -151,7 +152,7 @@ module _ (f : Func) (fits : FunctionFits f) where
 
     pub entries-fit : (r : ℕ) → r < length (rowsOf f) → sum (map entries (take r (rowsOf f))) + length (entriesOf (getD (rowsOf f) r Row.nop)) ≤ 1024
     unfolding entryCount
-    entries-fit r b = omega (arith, sum-take entries Row.nop (rowsOf f) r b, fits .entryCount)
+    entries-fit r b = omega (arith, sum-take-le entries (rowsOf f) r Row.nop b, fits .entryCount)
 
     rows-back : (r : ℕ) → r < length (rowsOf f) → decodeRow t a r ≡ getD (rowsOf f) r Row.nop
     rows-back r b =
@@ -171,7 +172,7 @@ module _ (f : Func) (fits : FunctionFits f) where
     rows-total = sym (length-gather (λ b. b .rows) (f .blocks))
 
     rows-fit : (b : ℕ) → b < length (f .blocks) → sum (map height (take b (f .blocks))) + height (blockAt f b) ≤ length (rowsOf f)
-    rows-fit b c = omega (arith, sum-take height noBlock (f .blocks) b c, rows-total)
+    rows-fit b c = omega (arith, sum-take-le height (f .blocks) b noBlock c, rows-total)
 
     -- row j of block b is row `rowStart f b + j` of the function
     block-row : (b : ℕ) → b < length (f .blocks) → (j : ℕ) → j < height (blockAt f b) → getD (rowsOf f) (rowStart f b + j) Row.nop ≡ getD (blockAt f b .rows) j Row.nop

@@ -11,7 +11,7 @@ use lib.ListN.{length, getD, take}
 use borrow.Author.Tests.{eqb-true}
 use Rattle.laws.specs.Lists.{below, sum}
 use Rattle.laws.proofs.Ranges.{length-map-from, getD-map-from, gather-from, all-from-at, map-from-take}
-use Rattle.laws.proofs.Sections.{gather-map}
+use Rattle.laws.proofs.Sums.{gather-map}
 use Rattle.language.specs.Programs.{Row, Block, typeAt, blockAt, rowsAt, rowsOf, firstRow, noRegister, noBlock, noFunction}
 use Rattle.language.specs.Table.{functionCount, functionAt, registerCount, registerType, blockCount, blockFirst, blockRows, rowsBefore}
 use Rattle.language.specs.Table.{rowCount, phiFirst, entriesBefore, rowOp, decodeRegister, decodeRow, decodeBlock, decodeFunction, decode}
