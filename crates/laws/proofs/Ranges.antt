@@ -71,7 +71,6 @@ all-from-at p k (suc n) h zero b = ap p (add-zero k) ∙ and-eq-true-iff (p k) (
 all-from-at p k (suc n) h (suc i) b =
     ap p (add-suc k i ∙ sym (suc-add k i)) ∙ all-from-at p (suc k) n (and-eq-true-iff (p k) (all p (from (suc k) n)) .0 h .1) i (le-of-suc-le-suc b)
 
-
 -- parts of a range, each beginning where the sizes before it say, are the range
 pub gather-from : {A : Type 0} (f : ℕ → A) (start size : ℕ → ℕ) (s k n : ℕ) → ((i : ℕ) → i < n → start (k + i) ≡ s + sum (map size (from k i)))
     → gather (λ b. map f (from (start b) (size b))) (from k n) ≡ map f (from s (sum (map size (from k n))))

@@ -9,6 +9,7 @@ use Rattle.laws.specs.Lists.{gather, below, sum}
 use Rattle.laws.proofs.Gather.{length-gather, keep-gather}
 use Rattle.laws.proofs.Indexing.{length-from, length-below}
 use Rattle.laws.proofs.Sums.{gather-append, gather-map, gather-gather, length-keeps, length-together, sum-const, sum-same, map-getD}
+use Rattle.theorems.specs.Statements.{SizeLaw}
 use Rattle.language.specs.Programs.{Row, Func, noBlock, rowsAt, rowsOf, isPhi}
 use Rattle.language.specs.Checking.{predecessors}
 use Rattle.language.specs.Running.{phisOf}
@@ -63,3 +64,6 @@ phis-apart f = length-keeps isPhi (rowsOf f)
 pub size-rows : (f : Func) → length (rowsOf (translation f)) ≡ translatedRows f
 unfolding translation translatedRows rowsOf
 size-rows f = simp (gather-append, length-append) (omega (arith, kept-rows f, phis-apart f, size-edges f))
+
+pub sizes : SizeLaw
+sizes f = (size-registers f, size-blocks f, size-rows f)

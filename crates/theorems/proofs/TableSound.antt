@@ -19,6 +19,7 @@ use Rattle.language.specs.Instructions.{Form, formOf, formNumber, width, loadTy
 use Rattle.language.specs.Names.{Spelling, spell, nextSpelled, whole, spelled}
 use Rattle.language.specs.Programs.{Row, Register, Block, Func, Program, noRegister, noBlock, noFunction, blockAt, rowsOf, opOf, formIn, targetsOf, sourcesOf, entriesOf, namedBy}
 use Rattle.language.specs.Checking.{Verdict, check, judgeFrom, shaped, inRange, numberFits, spelledOrNone}
+use Rattle.theorems.specs.Statements.{AcceptedBack}
 use Rattle.theorems.specs.TableLaw.{NameFits, RegisterFits, RowFits, FunctionFits, Fits, Held, numberOf}
 use Rattle.theorems.proofs.AcceptanceCheck.{clean-of-check, Sound, sound-parts}
 use Rattle.theorems.proofs.AcceptanceRows.{InRange, range-parts}
@@ -118,14 +119,14 @@ row-fits f r s h =
     let ts = targetsOf r in
     let rest = sourcesOf r ++ entriesOf r in
     let l = bytes-under {xs = rest} (s .registers) (every-right ts rest (q .registers)) in
-    record
-    { form = same-form (formOf (opOf r)) (formIn r) (eqb→eq _ _ (and-r (ltb (opOf r) 36) _ (q .shape)))
-    ; op = lt-of-lt-of-le (ltb→lt (opOf r) 36 (and-l (ltb (opOf r) 36) _ (q .shape))) (lit≤ tt)
-    ; targets = bytes-under (s .registers) (every-left ts rest (q .registers))
-    ; sources = bytes-under (s .registers) (every-left (sourcesOf r) (entriesOf r) (every-right ts rest (q .registers)))
-    ; entries = bytes-under (s .registers) (every-right (sourcesOf r) (entriesOf r) (every-right ts rest (q .registers)))
-    ; blocks = bytes-under (omega (arith, s .blocks)) (q .blocks)
-    ; number = number-fits r (q .number)
+    record {
+      form = same-form (formOf (opOf r)) (formIn r) (eqb→eq _ _ (and-r (ltb (opOf r) 36) _ (q .shape)));
+      op = lt-of-lt-of-le (ltb→lt (opOf r) 36 (and-l (ltb (opOf r) 36) _ (q .shape))) (lit≤ tt);
+      targets = bytes-under (s .registers) (every-left ts rest (q .registers));
+      sources = bytes-under (s .registers) (every-left (sourcesOf r) (entriesOf r) (every-right ts rest (q .registers)));
+      entries = bytes-under (s .registers) (every-right (sourcesOf r) (entriesOf r) (every-right ts rest (q .registers)));
+      blocks = bytes-under (omega (arith, s .blocks)) (q .blocks);
+      number = number-fits r (q .number);
     }
 
 -- ---- functions and programs
@@ -136,39 +137,41 @@ true-of false t = absurd t
 
 pub sound-fits : (f : Func) → Sound f → FunctionFits f
 sound-fits f s =
-    record
-    { name = spelled-fits (f .name) (s .name)
-    ; ssa = omega (arith, s .mark)
-    ; result = omega (arith, s .result)
-    ; params = omega (arith, s .params, s .registers)
-    ; entry = omega (arith, s .entry, s .blocks)
-    ; placed = true-of (f .placed) (s .placed)
-    ; registerCount = s .registers
-    ; blockCount = s .blocks
-    ; rowCount = s .rows
-    ; entryCount = s .entries
-    ; registers =
-        λ r h.
-        record
-        { type = lt-of-lt-of-le (ltb→lt _ _ (every-at (every-all _ (f .registers) (s .types)) noRegister r h)) (lit≤ tt)
-        ; name = or-none-fits _ (every-at (every-all _ (f .registers) (s .registerNames)) noRegister r h)
-        }
-    ; blockNames = λ b h. or-none-fits _ (every-at (every-all _ (f .blocks) (s .blockNames)) noBlock b h)
-    ; rows = λ r h. row-fits f _ s (every-at (every-all _ (rowsOf f) (s .ranges)) Row.nop r h)
+    record {
+      name = spelled-fits (f .name) (s .name);
+      ssa = omega (arith, s .mark);
+      result = omega (arith, s .result);
+      params = omega (arith, s .params, s .registers);
+      entry = omega (arith, s .entry, s .blocks);
+      placed = true-of (f .placed) (s .placed);
+      registerCount = s .registers;
+      blockCount = s .blocks;
+      rowCount = s .rows;
+      entryCount = s .entries;
+      registers =
+          λ r h.
+          record {
+            type = lt-of-lt-of-le (ltb→lt _ _ (every-at (every-all _ (f .registers) (s .types)) noRegister r h)) (lit≤ tt);
+            name = or-none-fits _ (every-at (every-all _ (f .registers) (s .registerNames)) noRegister r h);
+          };
+      blockNames = λ b h. or-none-fits _ (every-at (every-all _ (f .blocks) (s .blockNames)) noBlock b h);
+      rows = λ r h. row-fits f _ s (every-at (every-all _ (rowsOf f) (s .ranges)) Row.nop r h);
     }
 
 pub accepted-fits : (p : Program) → check p ≡ Verdict.accepted → Fits p
 unfolding check
 accepted-fits p e =
-    record
-    { functionCount = count (leb (length p) 16) refl e
-    ; functions = λ i h. sound-fits (getD p i noFunction) (sound-parts [] (getD p i noFunction) (clean-of-check p i e h .head))
+    record {
+      functionCount = count (leb (length p) 16) refl e;
+      functions = λ i h. sound-fits (getD p i noFunction) (sound-parts [] (getD p i noFunction) (clean-of-check p i e h .head));
     }
   where
     count : (b : Bool) → leb (length p) 16 ≡ b → cond b (judgeFrom [] zero p) (Verdict.refused 9 0) ≡ Verdict.accepted → length p ≤ 16
     count true l e = leb→le (length p) 16 (subst⁻¹ (λ (c : Bool). T c) l tt)
     count false l e = let z : _≡_ {A = ℕ} 0 1 = cc in absurd (omega arith)
 
--- Decoding the cells of an accepted program gives it back.
 pub accepted-held : (p : Program) → check p ≡ Verdict.accepted → Held p
 accepted-held p e = table p (accepted-fits p e)
+
+pub accepted-back : AcceptedBack
+accepted-back p e = accepted-held p e .back

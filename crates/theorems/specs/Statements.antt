@@ -8,10 +8,11 @@ use lib.Dec.{T}
 use lib.ListN.{length, getD}
 use Rattle.laws.specs.Lists.{any}
 use Rattle.language.specs.Programs.{Func, Program, noFunction, isSsa, isPhi, rowsOf}
+use Rattle.language.specs.Table.{cells, decode}
 use Rattle.language.specs.Checking.{Verdict, check}
 use Rattle.language.specs.Running.{Place, Outcome, Run, runOf, Ends, NotEnded, argumentsFit}
 use Rattle.language.specs.Answers.{Ran, ranAs}
-use Rattle.language.specs.Translating.{translation, translationFits, stepFormula}
+use Rattle.language.specs.Translating.{translation, translationFits, translatedRegisters, translatedBlocks, translatedRows, stepFormula}
 
 -- Demand 3 of one function f and arguments: its translation has "no phi", is "accepted without ssa", ends "exactly if the source
 -- does, with the same outcome, after exactly the steps of document 01's formula, at least n and at most 3n; not ended after n if the
@@ -35,6 +36,14 @@ Demand3 =
     → i < length p
     → (let f = getD p i noFunction in T (isSsa f) → T (translationFits f) → T (argumentsFit f args) → Translates f args)
 
+-- "Translated size": the formula counts what the translation has.
+abbrev pub SizeLaw : Type 0
+SizeLaw =
+    (f : Func)
+    → (length (translation f .registers) ≡ translatedRegisters f)
+    × (length (translation f .blocks) ≡ translatedBlocks f)
+    × (length (rowsOf (translation f)) ≡ translatedRows f)
+
 -- ---- budgets
 
 -- A larger budget changes no ended run.
@@ -54,3 +63,9 @@ ranOf (Outcome.stopped k) p n = Ran.stopped k p n
 pub record BudgetAgrees (i : ℕ) (f : Func) (args : List ℕ) (budget : ℕ) : Type 0 where
   pub ended : (n : ℕ) (o : Outcome) → n ≤ budget → Ends f args n o → (p : ℕ) × (ranAs i f (runOf f args budget) ≡ ranOf o p n)
   pub going : NotEnded f args budget → (p : ℕ) × (ranAs i f (runOf f args budget) ≡ Ran.stopped 43 p budget)
+
+-- ---- tables
+
+-- Decoding the cells of an accepted program gives it back. (TableLaw says it of every program that fits the cells.)
+abbrev pub AcceptedBack : Type 0
+AcceptedBack = (p : Program) → check p ≡ Verdict.accepted → decode (cells p) ≡ p
