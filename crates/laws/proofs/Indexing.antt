@@ -4,7 +4,7 @@ use mathlib.Core.Path.{_≡_, refl, sym, ap, _∙_}
 use mathlib.Core.Bool.{Bool, true, false, cond, _||_, true≢false, false≢true, or-true}
 use mathlib.Core.List.{List, [], _∷_, _++_, map, append-assoc}
 use Prim.Native.Nat.{ℕ, zero, suc, _+_, _≤_, _<_, suc-le-suc}
-use native.Mathlib.Nat.{not-suc-le-zero, le-of-suc-le-suc, zero-lt-suc, zero-add, add-zero, add-suc, suc-add}
+use native.Mathlib.Nat.{le-refl, not-suc-le-zero, le-of-suc-le-suc, zero-lt-suc, zero-add, add-zero, add-suc, suc-add}
 use native.Mathlib.Numerals.{add-one}
 use native.Mathlib.Omega.{arith}
 use lib.Dec.{T, ltb, ltb→lt}
@@ -132,8 +132,23 @@ module _ {A : Type 0} (p : A → Bool) where
       first true later e = zero-lt-suc (length xs)
       first false later e = suc-le-suc (later e)
 
+  -- and it is no further than the end in any case
+  pub position-le : (xs : List A) → position p xs ≤ length xs
+  position-le [] = le-refl zero
+  position-le (x ∷ xs) = first (p x) (position-le xs)
+    where
+      first : (b : Bool) → position p xs ≤ length xs → cond b zero (suc (position p xs)) ≤ suc (length xs)
+      first true later = omega arith
+      first false later = suc-le-suc later
+
 -- an element of a list of numbers below n, or a default below n
 pub getD-lt : (n : ℕ) (xs : List ℕ) (i d : ℕ) → T (all (λ x. ltb x n) xs) → d < n → getD xs i d < n
 getD-lt n [] i d t h = h
 getD-lt n (x ∷ xs) zero d t h = ltb→lt x n (and-l (ltb x n) (all (λ x. ltb x n) xs) t)
 getD-lt n (x ∷ xs) (suc i) d t h = getD-lt n xs i d (and-r (ltb x n) (all (λ x. ltb x n) xs) t) h
+
+-- the same of the images under a function whose values are below n
+pub getD-map-lt : {A : Type 0} (f : A → ℕ) (n : ℕ) (xs : List A) (i d : ℕ) → ((x : A) → f x < n) → d < n → getD (map f xs) i d < n
+getD-map-lt f n [] i d h l = l
+getD-map-lt f n (x ∷ xs) zero d h l = h x
+getD-map-lt f n (x ∷ xs) (suc i) d h l = getD-map-lt f n xs i d h l

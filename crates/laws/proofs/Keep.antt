@@ -5,7 +5,7 @@ use mathlib.Core.Bool.{Bool, true, false, cond, not, _||_, true≢false, false�
 use mathlib.Core.List.{List, [], _∷_, _++_}
 use Prim.Native.Nat.{ℕ, zero, suc, _<_, suc-le-suc}
 use native.Mathlib.Nat.{not-suc-le-zero, le-of-suc-le-suc, zero-lt-suc}
-use lib.ListN.{length, getD, take}
+use lib.ListN.{length, getD, take, drop}
 use Rattle.laws.specs.Lists.{any, keep}
 
 module _ {A : Type 0} (p : A → Bool) where
@@ -51,6 +51,18 @@ module _ {A : Type 0} (p : A → Bool) where
   keep-all (x ∷ xs) d h =
       keep-pass x xs (h zero (zero-lt-suc (length xs)))
       ∙ ap (λ (r : List A). x ∷ r) (keep-all xs d (λ i l. h (suc i) (suc-le-suc l)))
+
+  -- the first element that passes is the first kept
+  pub keep-first :
+      (xs : List A) (i : ℕ) (d : A)
+      → i < length xs
+      → ((j : ℕ) → j < i → p (getD xs j d) ≡ false)
+      → p (getD xs i d) ≡ true
+      → keep p xs ≡ getD xs i d ∷ keep p (drop (suc i) xs)
+  keep-first [] i d l h e = absurd (not-suc-le-zero l)
+  keep-first (x ∷ xs) zero d l h e = keep-pass x xs e
+  keep-first (x ∷ xs) (suc i) d l h e =
+      keep-fail x xs (h zero (zero-lt-suc i)) ∙ keep-first xs i d (le-of-suc-le-suc l) (λ j m. h (suc j) (suc-le-suc m)) e
 
   -- each kept element passes
   pub keep-passes : (xs : List A) (i : ℕ) (d : A) → i < length (keep p xs) → p (getD (keep p xs) i d) ≡ true

@@ -1,0 +1,89 @@
+-- Laws of `position` and `same`: a search from the front, and two lists compared element by element.
+-- Assumes nothing.
+use mathlib.Core.Path.{_≡_, refl, sym, ap, _∙_}
+use mathlib.Core.Bool.{Bool, true, false, cond}
+use mathlib.Core.List.{List, [], _∷_}
+use Prim.Native.Nat.{ℕ, zero, suc, _+_, _≤_, _<_, zero-le, suc-le-suc}
+use native.Mathlib.Nat.{not-suc-le-zero, le-of-suc-le-suc, zero-lt-suc, add-zero, zero-add}
+use native.Mathlib.Omega.{arith}
+use lib.Dec.{T, eqb, eqb→eq}
+use borrow.Author.Tests.{eq-eqb}
+use mir.Facts.{and-yes}
+use lib.ListN.{length, getD}
+use Rattle.laws.specs.Lists.{from, below, position, same}
+
+-- the first number from k on that passes is r steps on, or there is none among the n
+position-from : (p : ℕ → Bool) (k n r : ℕ) → r ≤ n → ((i : ℕ) → i < r → p (k + i) ≡ false) → (r < n → p (k + r) ≡ true)
+    → r ≡ position p (from k n)
+position-from p k zero r h b f = omega arith
+position-from p k (suc n) zero h b f = rw (ap p (sym (add-zero k)) ∙ f (zero-lt-suc n))
+position-from p k (suc n) (suc r) h b f =
+    let here : p k ≡ false = ap p (sym (add-zero k)) ∙ b zero (zero-lt-suc r) in
+    let next : (i : ℕ) → k + suc i ≡ suc k + i = λ i. omega arith in
+    rw here
+    (ap suc
+    (position-from p (suc k) n r (le-of-suc-le-suc h) (λ i c. ap p (sym (next i)) ∙ b (suc i) (suc-le-suc c))
+    (λ c. ap p (sym (next r)) ∙ f (suc-le-suc c))))
+
+-- the first number below n that passes is r, or none does and r is n
+pub position-below : (p : ℕ → Bool) (n r : ℕ) → r ≤ n → ((i : ℕ) → i < r → p i ≡ false) → (r < n → p r ≡ true) → r ≡ position p (below n)
+position-below p n r h b f =
+    position-from p zero n r h (λ i c. ap p (zero-add i) ∙ b i c) (λ c. ap p (zero-add r) ∙ f c)
+
+module _ {A : Type 0} (p : A → Bool) (q : ℕ → Bool) (d : A) where
+  -- a search by numbers is one of the elements they stand for
+  position-of-from : (k : ℕ) (xs : List A) → ((i : ℕ) → i < length xs → q (k + i) ≡ p (getD xs i d)) → position q (from k (length xs)) ≡ position p xs
+  position-of-from k [] h = refl
+  position-of-from k (x ∷ xs) h =
+      let here : q k ≡ p x = ap q (sym (add-zero k)) ∙ h zero (zero-lt-suc (length xs)) in
+      let next : position q (from (suc k) (length xs)) ≡ position p xs = position-of-from (suc k) xs (λ i c. ap q (omega arith) ∙ h (suc i) (suc-le-suc c)) in
+      rw (here, next)
+
+  pub position-of : (xs : List A) → ((i : ℕ) → i < length xs → q i ≡ p (getD xs i d)) → position q (below (length xs)) ≡ position p xs
+  position-of xs h = position-of-from zero xs (λ i c. ap q (zero-add i) ∙ h i c)
+
+module _ {A : Type 0} (p : A → Bool) where
+  pub position-le : (xs : List A) → position p xs ≤ length xs
+  position-le [] = zero-le
+  position-le (x ∷ xs) = by (p x) (position-le xs)
+    where
+      by : (b : Bool) → position p xs ≤ length xs → cond b zero (suc (position p xs)) ≤ suc (length xs)
+      by true h = zero-le
+      by false h = suc-le-suc h
+
+  -- the element at the place found passes
+  pub position-hit : (d : A) (xs : List A) → position p xs < length xs → p (getD xs (position p xs) d) ≡ true
+  position-hit d [] h = absurd (not-suc-le-zero h)
+  position-hit d (x ∷ xs) h = by (p x) refl h (position-hit d xs)
+    where
+      by :
+          (b : Bool) → p x ≡ b → cond b zero (suc (position p xs)) < suc (length xs)
+          → (position p xs < length xs → p (getD xs (position p xs) d) ≡ true) → p (getD (x ∷ xs) (cond b zero (suc (position p xs))) d) ≡ true
+      by true e l ih = e
+      by false e l ih = ih (le-of-suc-le-suc l)
+
+-- ---- same
+
+pub same-refl : (a : List ℕ) → same a a ≡ true
+same-refl [] = refl
+same-refl (x ∷ xs) = rw (eq-eqb x x refl) (same-refl xs)
+
+pub same-is : (a b : List ℕ) → a ≡ b → same a b ≡ true
+same-is a b e = ap (λ (l : List ℕ). same a l) (sym e) ∙ same-refl a
+
+pub same-eq : (a b : List ℕ) → T (same a b) → a ≡ b
+same-eq [] [] t = refl
+same-eq [] (y ∷ ys) t = absurd t
+same-eq (x ∷ xs) [] t = absurd t
+same-eq (x ∷ xs) (y ∷ ys) t =
+    let both = and-yes (eqb x y) (same xs ys) t in
+    let here : x ≡ y = eqb→eq x y (both .0) in
+    let later : xs ≡ ys = same-eq xs ys (both .1) in
+    λ j. here j ∷ later j
+
+pub same-not : (a b : List ℕ) → (a ≡ b → ⊥) → same a b ≡ false
+same-not a b h = by (same a b) (λ t. h (same-eq a b t))
+  where
+    by : (c : Bool) → (T c → ⊥) → c ≡ false
+    by true n = absurd (n tt)
+    by false n = refl
