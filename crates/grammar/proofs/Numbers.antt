@@ -1,0 +1,110 @@
+-- The grammar's small definitions at the numbers that the code tests. Assumes nothing.
+use mathlib.Core.Path.{_≡_, refl, ap, _∙_, sym}
+use mathlib.Core.Bool.{Bool, true, false, cond, not, _&&_}
+use mathlib.Core.List.{List, [], _∷_}
+use Prim.Native.Nat.{ℕ, zero, suc, _-_, _≤_}
+use native.Mathlib.Omega.{arith}
+use lib.Dec.{leb, ltb}
+use borrow.Author.Tests.{leb-true, not-true, not-false}
+use Rattle.language.specs.Words.{isType, isInstruction, firstType, firstInstruction, instructionOf}
+use Rattle.language.specs.Instructions.{Operand}
+use Rattle.language.specs.Grammar.{Stage as Stageᴸ, Act as Actᴸ, Move as Moveᴸ, to, wrongMove, afterWord, wordAlone, wordWithTarget, afterSources, afterSource, afterMention, sources, inOperand}
+use Rattle.instructions.specs.Shapes.{operandNumber, shapeOf}
+use Rattle.instructions.specs.declared.Shape.{Shape}
+use Rattle.grammar.specs.Meaning.{operandFrom}
+
+and-left : (b c : Bool) → b && c ≡ true → b ≡ true
+and-left true c h = refl
+and-left false c h = h
+
+pub type-word : (w : ℕ) (r : Bool) → r ≡ isType w → r ≡ true → firstType ≤ w
+type-word w r e h = leb-true firstType w (and-left (leb firstType w) (ltb w firstInstruction) (sym e ∙ h))
+
+pub instruction-word : (w : ℕ) (r : Bool) → r ≡ isInstruction w → r ≡ true → firstInstruction ≤ w
+instruction-word w r e h = leb-true firstInstruction w (and-left (leb firstInstruction w) (ltb w 52) (sym e ∙ h))
+
+pub operand-number : (o : Operand) → operandFrom (operandNumber o) ≡ o
+operand-number Operand.none = refl
+operand-number Operand.number = refl
+operand-number Operand.registers = refl
+operand-number Operand.block = refl
+operand-number Operand.blocks = refl
+
+-- What follows, where there is none more and where there is: as a rule for a stage that is to be it.
+module _ (x : Stageᴸ) where
+  pub after-sources-none : (d : ℕ) → d ≡ 0 → x ≡ Stageᴸ.instructionEnd → x ≡ afterSources (operandFrom d)
+  after-sources-none d e p = rw e p
+
+  pub after-sources-some : (d : ℕ) → (d ≡ 0 → ⊥) → x ≡ Stageᴸ.operand (operandFrom d) → x ≡ afterSources (operandFrom d)
+  after-sources-some zero n p = absurd (n refl)
+  after-sources-some (suc zero) n p = p
+  after-sources-some (suc (suc zero)) n p = p
+  after-sources-some (suc (suc (suc zero))) n p = p
+  after-sources-some (suc (suc (suc (suc d)))) n p = p
+
+  pub after-source-none : (k : ℕ) (o : Operand) → k ≡ 0 → x ≡ afterSources o → x ≡ afterSource k o
+  after-source-none k o e p = rw e p
+
+  pub after-source-more : (k : ℕ) (o : Operand) → (k ≡ 0 → ⊥) → x ≡ Stageᴸ.sourceComma (k - 1) o → x ≡ afterSource k o
+  after-source-more zero o n p = absurd (n refl)
+  after-source-more (suc k) o n p = p ∙ ap (λ (j : ℕ). Stageᴸ.sourceComma j o) (omega arith)
+
+  pub sources-none : (k : ℕ) (o : Operand) → k ≡ 0 → x ≡ afterSources o → x ≡ sources k o
+  sources-none k o e p = rw e p
+
+  pub sources-more : (k : ℕ) (o : Operand) → (k ≡ 0 → ⊥) → x ≡ Stageᴸ.source (k - 1) o → x ≡ sources k o
+  sources-more zero o n p = absurd (n refl)
+  sources-more (suc k) o n p = p ∙ ap (λ (j : ℕ). Stageᴸ.source j o) (omega arith)
+
+  pub after-mention-none : (k : ℕ) → k ≡ 0 → x ≡ Stageᴸ.operandEnd → x ≡ afterMention k
+  after-mention-none k e p = rw e p
+
+  pub after-mention-more : (k : ℕ) → (k ≡ 0 → ⊥) → x ≡ Stageᴸ.mentionComma (k - 1) → x ≡ afterMention k
+  after-mention-more zero n p = absurd (n refl)
+  after-mention-more (suc k) n p = p ∙ ap Stageᴸ.mentionComma (omega arith)
+
+  pub in-operand : (d j : ℕ) → d ≡ j → x ≡ inOperand (operandFrom j) → x ≡ inOperand (operandFrom d)
+  in-operand d j e p = rw e p
+
+  pub in-operand-blocks : (d : ℕ) → (d ≡ 0 → ⊥) → (d ≡ 1 → ⊥) → (d ≡ 2 → ⊥) → (d ≡ 3 → ⊥) → x ≡ Stageᴸ.mention 1 → x ≡ inOperand (operandFrom d)
+  in-operand-blocks zero a b c e p = absurd (a refl)
+  in-operand-blocks (suc zero) a b c e p = absurd (b refl)
+  in-operand-blocks (suc (suc zero)) a b c e p = absurd (c refl)
+  in-operand-blocks (suc (suc (suc zero))) a b c e p = absurd (e refl)
+  in-operand-blocks (suc (suc (suc (suc d)))) a b c e p = p
+
+-- An instruction word, by what it is and by the shape of its instruction.
+module _ (w : ℕ) (r : Bool) (e : r ≡ isInstruction w) where
+  module _ (h : Shape) (q : h ≡ shapeOf (instructionOf w)) where
+    abbrev next : Stageᴸ
+    next = sources (h .sources) (operandFrom (h .operand))
+
+    with-target : wordWithTarget w ≡ cond (r && h .target) (to next (Actᴸ.setInstruction (instructionOf w))) wrongMove
+    unfolding wordWithTarget afterWord shapeOf
+    with-target = rw (e, q, operand-number)
+
+    alone : wordAlone w ≡ cond (r && not (h .target)) (to next (Actᴸ.beginInstruction (instructionOf w))) wrongMove
+    unfolding wordAlone afterWord shapeOf
+    alone = rw (e, q, operand-number)
+
+  module _ (x : Moveᴸ) where
+    pub with-target-none : not r ≡ true → x ≡ wrongMove → x ≡ wordWithTarget w
+    with-target-none n p = p ∙ sym (with-target (shapeOf (instructionOf w)) refl ∙ simp (not-true r n))
+
+    pub alone-none : not r ≡ true → x ≡ wrongMove → x ≡ wordAlone w
+    alone-none n p = p ∙ sym (alone (shapeOf (instructionOf w)) refl ∙ simp (not-true r n))
+
+    module _ (n : not r ≡ false) (h : Shape) (q : h ≡ shapeOf (instructionOf w)) where
+      pub with-target-yes : h .target ≡ true → x ≡ to (next h q) (Actᴸ.setInstruction (instructionOf w)) → x ≡ wordWithTarget w
+      with-target-yes t p = p ∙ sym (with-target h q ∙ simp (not-false r n, t))
+
+      pub with-target-no : h .target ≡ false → x ≡ wrongMove → x ≡ wordWithTarget w
+      with-target-no t p = p ∙ sym (with-target h q ∙ simp (not-false r n, t))
+
+      pub alone-yes : h .target ≡ false → x ≡ to (next h q) (Actᴸ.beginInstruction (instructionOf w)) → x ≡ wordAlone w
+      alone-yes t p = p ∙ sym (alone h q ∙ simp (not-false r n, t))
+
+      pub alone-no : h .target ≡ true → x ≡ wrongMove → x ≡ wordAlone w
+      alone-no t p = p ∙ sym (alone h q ∙ simp (not-false r n, t))
+
+pub ruleset numbers = (type-word, instruction-word, not-false, after-sources-none, after-sources-some, after-source-none, after-source-more, sources-none, sources-more, after-mention-none, after-mention-more, in-operand, in-operand-blocks, with-target-none, with-target-yes, with-target-no, alone-none, alone-yes, alone-no)

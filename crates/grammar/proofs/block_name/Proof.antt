@@ -1,0 +1,19 @@
+-- `grammar::block_name`: the name of a block is taken apart.
+use borrow.Author.Needs.{needs}
+use Rattle.language.specs.Grammar.{gram}
+use Rattle.grammar.proofs.Taken.{taken}
+use Rattle.grammar.proofs.block_name.Statement.{statement}
+use Rattle.grammar.proofs.block_name.Tie as tie
+
+pub block-name-spec : {M : Type 1} → statement M
+unfolding gram
+block-name-spec =
+    tie.close
+    (tie.spec
+    (λ c κs. search needs)
+    (λ c. search needs)
+    (λ c. search needs)
+    (λ c κs. search needs)
+    (λ c s. search (taken, needs))
+    (λ c κs. search needs)
+    (λ c s. search (taken, needs)))

@@ -1,0 +1,17 @@
+-- `grammar::entry`: the name is taken apart.
+use borrow.Author.Needs.{needs}
+use Rattle.language.specs.Grammar.{gram}
+use Rattle.grammar.proofs.Taken.{taken}
+use Rattle.grammar.proofs.entry.Statement.{statement}
+use Rattle.grammar.proofs.entry.Tie as tie
+
+pub entry-spec : {M : Type 1} → statement M
+unfolding gram
+entry-spec =
+    tie.close
+    (tie.spec
+    (λ c. search needs)
+    (λ c κs. search needs)
+    (λ c s. search (taken, needs))
+    (λ c κs. search needs)
+    (λ c s. search (taken, needs)))

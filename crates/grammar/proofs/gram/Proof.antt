@@ -1,0 +1,86 @@
+-- `grammar::gram`: at each kind the helper of that stage.
+use borrow.Author.Needs.{needs}
+use lib.ListN.{List·getD-eq-default}
+use Rattle.laws.proofs.Matches.{past}
+use Rattle.language.specs.Grammar.{Stage, gram}
+use Rattle.grammar.specs.Meaning.{stages}
+use Rattle.grammar.proofs.gram.Statement.{statement}
+use Rattle.grammar.proofs.gram.Tie as tie
+
+pub gram-spec : {M : Type 1} → statement M
+unfolding gram
+gram-spec =
+    tie.close
+    (tie.spec
+    (λ c κs. search needs)
+    (λ c κs. search needs)
+    (λ c κs. search needs)
+    (λ c κs. search needs)
+    (λ c κs. search needs)
+    (λ c κs. search needs)
+    (λ c κs. search needs)
+    (λ c κs. search needs)
+    (λ c κs. search needs)
+    (λ c κs. search needs)
+    (λ c κs. search needs)
+    (λ c κs. search needs)
+    (λ c κs. search needs)
+    (λ c κs. search needs)
+    (λ c κs. search needs)
+    (λ c κs. search needs)
+    (λ c κs. search needs)
+    (λ c κs. search needs)
+    (λ c κs. search needs)
+    (λ c κs. search needs)
+    (λ c κs. search needs)
+    (λ c κs. search needs)
+    (λ c κs. search needs)
+    (λ c κs. search needs)
+    (λ c κs. search needs)
+    (λ c κs. search needs)
+    (λ c κs. search needs)
+    (λ c κs. search needs)
+    (λ c κs. search needs)
+    (λ c κs. search needs)
+    (λ c κs. search needs)
+    (λ c κs. search needs)
+    (λ c κs. search needs)
+    (λ c κs. search needs)
+    (λ c κs. search needs)
+    (λ c κs. search needs)
+    (λ c κs. search needs)
+    (λ c κs. search needs)
+    (λ c s. rw (c .before .match .keys1) (c .top .ensures s))
+    (λ c s. rw (c .before .match .keys2) (c .header .ensures s))
+    (λ c s. rw (c .before .match .keys3) (c .result .ensures s))
+    (λ c s. rw (c .before .match .keys4) (c .function-name .ensures s))
+    (λ c s. rw (c .before .before .match .keys5) (rw (c .before .to .ensures) at (c .mark .ensures s)))
+    (λ c s. rw (c .before .match .keys6) (c .first-parameter .ensures s))
+    (λ c s. rw (c .before .match .keys7) (c .parameter .ensures s))
+    (λ c s. rw (c .before .match .keys8) (c .parameter-end .ensures s))
+    (λ c s. rw (c .before .match .keys9) (c .parameter-name .ensures s))
+    (λ c s. rw (c .before .before .match .keys10) (rw (c .before .to2 .ensures) at (c .mark2 .ensures s)))
+    (λ c s. rw (c .before .match .keys11) (c .declarations .ensures s))
+    (λ c s. rw (c .before .match .keys12) (c .register-type .ensures s))
+    (λ c s. rw (c .before .before .match .keys13) (rw (c .before .to3 .ensures) at (c .mark3 .ensures s)))
+    (λ c s. rw (c .before .match .keys14) (c .register-name .ensures s))
+    (λ c s. rw (c .before .match .keys15) (c .blocks2 .ensures s))
+    (λ c s. rw (c .before .match .keys16) (c .block-name .ensures s))
+    (λ c s. rw (c .before .before .match .keys17) (rw (c .before .to4 .ensures) at (c .mark4 .ensures s)))
+    (λ c s. rw (c .before .match .keys18) (c .first-instruction .ensures s))
+    (λ c s. rw (c .before .match .keys19) (c .next-instruction .ensures s))
+    (λ c s. rw (c .before .before .match .keys20) (rw (c .before .to5 .ensures) at (c .mark5 .ensures s)))
+    (λ c s. rw (c .before .match .keys21) (c .instruction .ensures s))
+    (λ c s. rw (c .before .match .keys22) (c .source .ensures s))
+    (λ c s. rw (c .before .match .keys23) (c .source-comma .ensures s))
+    (λ c s. rw (c .before .match .keys24) (c .operand .ensures s))
+    (λ c s. rw (c .before .match .keys25) (c .number .ensures s))
+    (λ c s. rw (c .before .match .keys26) (c .entry .ensures s))
+    (λ c s. rw (c .before .match .keys27) (c .entry-end .ensures s))
+    (λ c s. rw (c .before .match .keys28) (c .mention .ensures s))
+    (λ c s. rw (c .before .match .keys29) (c .mention-comma .ensures s))
+    (λ c s. rw (c .before .before .match .keys30) (rw (c .before .to6 .ensures) at (c .mark6 .ensures s)))
+    (λ c s.
+    let x = c .before .before .before .args .stage in
+    let e = List·getD-eq-default (stages (x .more) (x .detail)) Stage.instructionEnd (past 30 (x .kind) (c .before .before .match .rest)) in
+    rw e (rw (c .before .to7 .ensures) at (c .mark7 .ensures s))))

@@ -1,0 +1,19 @@
+-- `grammar::header`: the word is taken apart, and then tested as the definition does.
+use borrow.Author.Needs.{needs}
+use Rattle.language.specs.Grammar.{gram}
+use Rattle.grammar.proofs.Taken.{taken}
+use Rattle.grammar.proofs.header.Statement.{statement}
+use Rattle.grammar.proofs.header.Tie as tie
+
+pub header-spec : {M : Type 1} → statement M
+unfolding gram
+header-spec =
+    tie.close
+    (tie.spec
+    (λ c. search needs)
+    (λ c κs. search needs)
+    (λ c s. search (taken, needs))
+    (λ c κs. search needs)
+    (λ c s. search (taken, needs))
+    (λ c κs. search needs)
+    (λ c s. search (taken, c .result-word .ensures, needs)))

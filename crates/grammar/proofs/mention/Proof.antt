@@ -1,0 +1,19 @@
+-- `grammar::mention`: the name of a block is taken apart.
+use borrow.Author.Needs.{needs}
+use Rattle.language.specs.Grammar.{gram}
+use Rattle.grammar.proofs.Taken.{taken}
+use Rattle.grammar.proofs.mention.Statement.{statement}
+use Rattle.grammar.proofs.mention.Tie as tie
+
+pub mention-spec : {M : Type 1} → statement M
+unfolding gram
+mention-spec =
+    tie.close
+    (tie.spec
+    (λ c κs. search needs)
+    (λ c. search needs)
+    (λ c. search needs)
+    (λ c κs. search needs)
+    (λ c s. search (taken, needs))
+    (λ c κs. search needs)
+    (λ c s. search (taken, needs)))
