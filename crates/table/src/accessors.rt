@@ -1,0 +1,179 @@
+// The accessors of `language`'s Table, each under its definition's name. Counts, registers, blocks and rows are `usize` with
+// their bound, instructions, types and the ssa mark `u8`.
+ghost use mathlib.Core.Path.{_≡_};
+ghost use Prim.Native.Nat.{_+_, _<_, _≤_};
+ghost use lib.ListN.{length};
+ghost use Rattle.language.specs.Table.{functionCount, functionSsa, functionResult, functionParams, registerCount, blockCount, functionEntry, functionName};
+ghost use Rattle.language.specs.Table.{registerType, registerName, blockFirst, blockRows, blockName};
+ghost use Rattle.language.specs.Table.{rowOp, rowTarget, rowLeft, rowRight, loadNumber, jumpFirst, jumpSecond, phiFirst, phiCount, phiEntry};
+use crate::cells::eight_at;
+use crate::cells::name_at;
+use crate::cells::two_at;
+use crate::cells::wide;
+
+pub fn function_count(t: &[u8]) -> usize
+    requires { ⌜ 1 ≤ length (now t) ⌝ }
+    ensures { λ r. ⌜ (r ≡ functionCount (now (t .entry))) × (r < 256) ⌝ }
+{
+    wide(t[0])
+}
+
+pub fn function_ssa(t: &[u8], a: usize) -> u8
+    requires { ⌜ a + 34697 ≤ length (now t) ⌝ }
+    ensures { λ r. ⌜ r ≡ functionSsa (now (t .entry)) a ⌝ }
+{
+    t[a]
+}
+
+pub fn function_result(t: &[u8], a: usize) -> u8
+    requires { ⌜ a + 34697 ≤ length (now t) ⌝ }
+    ensures { λ r. ⌜ r ≡ functionResult (now (t .entry)) a ⌝ }
+{
+    t[a + 1]
+}
+
+pub fn function_params(t: &[u8], a: usize) -> usize
+    requires { ⌜ a + 34697 ≤ length (now t) ⌝ }
+    ensures { λ r. ⌜ (r ≡ functionParams (now (t .entry)) a) × (r < 65536) ⌝ }
+{
+    two_at(t, a + 2)
+}
+
+pub fn register_count(t: &[u8], a: usize) -> usize
+    requires { ⌜ a + 34697 ≤ length (now t) ⌝ }
+    ensures { λ r. ⌜ (r ≡ registerCount (now (t .entry)) a) × (r < 65536) ⌝ }
+{
+    two_at(t, a + 4)
+}
+
+pub fn block_count(t: &[u8], a: usize) -> usize
+    requires { ⌜ a + 34697 ≤ length (now t) ⌝ }
+    ensures { λ r. ⌜ (r ≡ blockCount (now (t .entry)) a) × (r < 256) ⌝ }
+{
+    wide(t[a + 6])
+}
+
+pub fn function_entry(t: &[u8], a: usize) -> usize
+    requires { ⌜ a + 34697 ≤ length (now t) ⌝ }
+    ensures { λ r. ⌜ (r ≡ functionEntry (now (t .entry)) a) × (r < 256) ⌝ }
+{
+    wide(t[a + 7])
+}
+
+pub fn function_name(t: &[u8], a: usize) -> &[u8]
+    requires { ⌜ a + 34697 ≤ length (now t) ⌝ }
+    ensures { λ r. ⌜ now r ≡ functionName (now (t .entry)) a ⌝ }
+{
+    name_at(t, a + 8)
+}
+
+// Registers.
+
+pub fn register_type(t: &[u8], a: usize, r: usize) -> u8
+    requires { ⌜ (a + 34697 ≤ length (now t)) × (r < 256) ⌝ }
+    ensures { λ n. ⌜ n ≡ registerType (now (t .entry)) a r ⌝ }
+{
+    t[a + 73 + 66 * r]
+}
+
+pub fn register_name(t: &[u8], a: usize, r: usize) -> &[u8]
+    requires { ⌜ (a + 34697 ≤ length (now t)) × (r < 256) ⌝ }
+    ensures { λ n. ⌜ now n ≡ registerName (now (t .entry)) a r ⌝ }
+{
+    name_at(t, a + 74 + 66 * r)
+}
+
+// Blocks.
+
+pub fn block_first(t: &[u8], a: usize, b: usize) -> usize
+    requires { ⌜ (a + 34697 ≤ length (now t)) × (b < 64) ⌝ }
+    ensures { λ r. ⌜ (r ≡ blockFirst (now (t .entry)) a b) × (r < 65536) ⌝ }
+{
+    two_at(t, a + 16969 + 69 * b)
+}
+
+pub fn block_rows(t: &[u8], a: usize, b: usize) -> usize
+    requires { ⌜ (a + 34697 ≤ length (now t)) × (b < 64) ⌝ }
+    ensures { λ r. ⌜ (r ≡ blockRows (now (t .entry)) a b) × (r < 65536) ⌝ }
+{
+    two_at(t, a + 16971 + 69 * b)
+}
+
+pub fn block_name(t: &[u8], a: usize, b: usize) -> &[u8]
+    requires { ⌜ (a + 34697 ≤ length (now t)) × (b < 64) ⌝ }
+    ensures { λ r. ⌜ now r ≡ blockName (now (t .entry)) a b ⌝ }
+{
+    name_at(t, a + 16973 + 69 * b)
+}
+
+// Rows, and the three readings of their eight operand cells: a load's number, the blocks of a jump, where a phi's entries stand.
+
+pub fn row_op(t: &[u8], a: usize, r: usize) -> u8
+    requires { ⌜ (a + 34697 ≤ length (now t)) × (r < 1024) ⌝ }
+    ensures { λ n. ⌜ n ≡ rowOp (now (t .entry)) a r ⌝ }
+{
+    t[a + 21385 + 12 * r]
+}
+
+pub fn row_target(t: &[u8], a: usize, r: usize) -> usize
+    requires { ⌜ (a + 34697 ≤ length (now t)) × (r < 1024) ⌝ }
+    ensures { λ n. ⌜ (n ≡ rowTarget (now (t .entry)) a r) × (n < 256) ⌝ }
+{
+    wide(t[a + 21386 + 12 * r])
+}
+
+pub fn row_left(t: &[u8], a: usize, r: usize) -> usize
+    requires { ⌜ (a + 34697 ≤ length (now t)) × (r < 1024) ⌝ }
+    ensures { λ n. ⌜ (n ≡ rowLeft (now (t .entry)) a r) × (n < 256) ⌝ }
+{
+    wide(t[a + 21387 + 12 * r])
+}
+
+pub fn row_right(t: &[u8], a: usize, r: usize) -> usize
+    requires { ⌜ (a + 34697 ≤ length (now t)) × (r < 1024) ⌝ }
+    ensures { λ n. ⌜ (n ≡ rowRight (now (t .entry)) a r) × (n < 256) ⌝ }
+{
+    wide(t[a + 21388 + 12 * r])
+}
+
+pub fn load_number(t: &[u8], a: usize, r: usize) -> u64
+    requires { ⌜ (a + 34697 ≤ length (now t)) × (r < 1024) ⌝ }
+    ensures { λ n. ⌜ n ≡ loadNumber (now (t .entry)) a r ⌝ }
+{
+    eight_at(t, a + 21389 + 12 * r)
+}
+
+pub fn jump_first(t: &[u8], a: usize, r: usize) -> usize
+    requires { ⌜ (a + 34697 ≤ length (now t)) × (r < 1024) ⌝ }
+    ensures { λ n. ⌜ (n ≡ jumpFirst (now (t .entry)) a r) × (n < 256) ⌝ }
+{
+    wide(t[a + 21389 + 12 * r])
+}
+
+pub fn jump_second(t: &[u8], a: usize, r: usize) -> usize
+    requires { ⌜ (a + 34697 ≤ length (now t)) × (r < 1024) ⌝ }
+    ensures { λ n. ⌜ (n ≡ jumpSecond (now (t .entry)) a r) × (n < 256) ⌝ }
+{
+    wide(t[a + 21390 + 12 * r])
+}
+
+pub fn phi_first(t: &[u8], a: usize, r: usize) -> usize
+    requires { ⌜ (a + 34697 ≤ length (now t)) × (r < 1024) ⌝ }
+    ensures { λ n. ⌜ (n ≡ phiFirst (now (t .entry)) a r) × (n < 65536) ⌝ }
+{
+    two_at(t, a + 21389 + 12 * r)
+}
+
+pub fn phi_count(t: &[u8], a: usize, r: usize) -> usize
+    requires { ⌜ (a + 34697 ≤ length (now t)) × (r < 1024) ⌝ }
+    ensures { λ n. ⌜ (n ≡ phiCount (now (t .entry)) a r) × (n < 65536) ⌝ }
+{
+    two_at(t, a + 21391 + 12 * r)
+}
+
+pub fn phi_entry(t: &[u8], a: usize, k: usize) -> usize
+    requires { ⌜ (a + 34697 ≤ length (now t)) × (k < 1024) ⌝ }
+    ensures { λ r. ⌜ (r ≡ phiEntry (now (t .entry)) a k) × (r < 256) ⌝ }
+{
+    wide(t[a + 33673 + k])
+}
