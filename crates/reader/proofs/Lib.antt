@@ -1,0 +1,16 @@
+pub mod Acting
+pub mod ActsLaws
+pub mod DraftActs
+pub mod DraftBlocks
+pub mod DraftEnd
+pub mod DraftNames
+pub mod DraftPatch
+pub mod DraftRows
+pub mod DraftSections
+pub mod DraftStages
+pub mod DraftSteps
+pub mod EndingLaws
+pub mod Performing
+pub mod RowsLaws
+pub mod StateLaws
+pub mod TextLaws

@@ -1,0 +1,662 @@
+-- What the acts on the instruction in hand come to: the numbers of the draft after each, and its cells.
+-- Assumes nothing.
+use mathlib.Core.Bool.{Bool, true, false, cond}
+use mathlib.Core.Path.{_≡_, refl, sym, ap, _∙_, subst}
+use mathlib.Core.List.{List, [], _∷_, _++_}
+use Prim.Native.Nat.{ℕ, zero, suc, _+_, _-_, _*_, _/_, _%_, _^_, _≤_, _<_, min}
+use native.Mathlib.Nat.{zero-lt-suc, mod-lt, mod-self, mod-eq-of-lt}
+use native.Mathlib.Numerals.{add-one}
+use native.Mathlib.Decide.{decLt}
+use native.Mathlib.Omega.{arith}
+use lib.Dec.{T, eqb, leb, ltb, eqb→eq, leb→le, leb·suc-suc, lit<, lit≤}
+use lib.ListN.{length, getD, length-append, List·getD-append, List·getD-eq-default}
+use lib.Seq.{sets, length-sets, getD-append-seam}
+use borrow.Author.Tests.{lt-ltb, le-ltb, lt-leb, ne-eqb}
+use Rattle.laws.specs.Sections.{At}
+use Rattle.laws.proofs.Sections.{at-right, at-cell, at-part}
+use Rattle.laws.proofs.Cells.{getD-sets-before, part-sets-before, at-sets, at-sets-before}
+use Rattle.language.specs.Instructions.{Operand, formOf, operandOf, width, signed, loadType}
+use Rattle.language.specs.Programs.{Block, entriesOf, entryCount}
+use Rattle.language.specs.Table.{functionAt, nameAt, four, fourBytes, eightBytes}
+use Rattle.language.specs.Reading.{Draft, Parts, Mention, Outcome, partsOf, draftOf, noParts, withParts, openFunction, rowCount, phiEntries, registerNumber, rowOf}
+use Rattle.language.specs.Reading.{beginInstruction, setTarget, setInstruction, addSource, addEntry, addMention, inRange, bitsOf, setNumber, endInstruction}
+use Rattle.grammar.specs.Meaning.{operandFrom}
+use Rattle.instructions.specs.Shapes.{shapeOf, operandNumber as shapeOperand}
+use Rattle.instructions.specs.declared.Shape.{Shape}
+use Rattle.table.specs.Named.{firstNamed}
+use Rattle.reader.specs.Draft.{Within, Stores, operandNumber, instructionCells, openRows}
+use Rattle.reader.specs.State.{Bounded, Counts, Holds, Pending, Comes, Acts, Always, MentionKept, partsAt, operandAt, rowAt}
+use Rattle.lexer.specs.Numbers.{amountFrom, amountOf}
+use Rattle.lexer.specs.declared.numbers.Amount.{Amount}
+use Rattle.reader.specs.declared.state.Reader.{Reader}
+use Rattle.reader.specs.declared.state.Taken.the-variants as taken
+use Rattle.reader.proofs.DraftActs.{keeps-entries, adds-mention, adds-entry, entered, mentioned, written}
+use Rattle.reader.proofs.DraftNames.{register-search}
+use Rattle.reader.proofs.DraftRows.{more-rows, more-entries, ends-instruction}
+use Rattle.reader.proofs.DraftSteps.{entry-added, mention-added, instruction-ended}
+
+-- ---- the first two of a list, as a state holds them, and how many they are
+
+pub record Firsts (xs : List ℕ) (a b k : ℕ) : Type 0 where
+  pub first : a ≡ getD xs 0 0
+  pub second : b ≡ getD xs 1 0
+  pub count : k ≡ min (length xs) 2
+
+none : Firsts [] 0 0 0
+none = record { first = refl; second = refl; count = refl }
+
+-- one more element r takes a, b and k to a′, b′ and k′
+abbrev pub Pushed : (r a b k a′ b′ k′ : ℕ) → Type 0
+Pushed r a b k a′ b′ k′ = (xs : List ℕ) → Firsts xs a b k → Firsts (xs ++ (r ∷ [])) a′ b′ k′
+
+module _ (r a b k : ℕ) where
+  pub first-pushed : k ≡ 0 → Pushed r a b k r b 1
+  first-pushed e [] f = record { first = refl; second = f .second; count = refl }
+  first-pushed e (x ∷ xs) f = absurd (omega (arith, f .count))
+
+  pub second-pushed : k ≡ 1 → Pushed r a b k a r 2
+  second-pushed e [] f = absurd (omega (arith, f .count))
+  second-pushed e (x ∷ []) f = record { first = f .first; second = refl; count = refl }
+  second-pushed e (x ∷ y ∷ xs) f = absurd (omega (arith, f .count))
+
+  pub none-pushed : (k ≡ 0 → ⊥) → (k ≡ 1 → ⊥) → Pushed r a b k a b k
+  none-pushed n m [] f = absurd (n (f .count))
+  none-pushed n m (x ∷ []) f = absurd (m (f .count))
+  none-pushed n m (x ∷ y ∷ xs) f = record { first = f .first; second = f .second; count = omega (arith, f .count, length-append xs (r ∷ [])) }
+
+-- ---- the state with other numbers of the instruction in hand
+
+abbrev held : Reader → (rows entries mentions op target left right sources number own here there named : ℕ) → Reader
+held s w e m op t l r k n o h g j =
+    record {
+      stage = s .stage;
+      functions = s .functions;
+      ssa = s .ssa;
+      result = s .result;
+      params = s .params;
+      registers = s .registers;
+      blocks = s .blocks;
+      rows = w;
+      first = s .first;
+      entries = e;
+      mentions = m;
+      op = op;
+      target = t;
+      left = l;
+      right = r;
+      sources = k;
+      number = n;
+      own = o;
+      here = h;
+      there = g;
+      named = j;
+    }
+
+-- other sources, one entry more, one mention more, another number, one row more
+abbrev sourced : Reader → (left right sources : ℕ) → Reader
+sourced s l r k = held s (s .rows) (s .entries) (s .mentions) (s .op) (s .target) l r k (s .number) (s .own) (s .here) (s .there) (s .named)
+
+abbrev enteredAt : Reader → Reader
+enteredAt s =
+    held s (s .rows) (s .entries + 1) (s .mentions) (s .op) (s .target) (s .left) (s .right) (s .sources) (s .number) (s .own + 1) (s .here) (s .there) (s .named)
+
+abbrev mentionedAt : Reader → (here there named : ℕ) → Reader
+mentionedAt s h g j =
+    held s (s .rows) (s .entries) (s .mentions + 1) (s .op) (s .target) (s .left) (s .right) (s .sources) (s .number) (s .own) h g j
+
+abbrev numbered : Reader → ℕ → Reader
+numbered s n = held s (s .rows) (s .entries) (s .mentions) (s .op) (s .target) (s .left) (s .right) (s .sources) n (s .own) (s .here) (s .there) (s .named)
+
+abbrev writtenAt : Reader → Reader
+writtenAt s = held s (s .rows + 1) (s .entries) (s .mentions) 0 0 0 0 0 0 0 0 0 0
+
+-- its bounds, and below its counts, by those of the numbers that changed
+bounded : {s : Reader} → Bounded s → {w e m op t l r k n o h g j : ℕ} → s .rows ≤ w → w ≤ 1024 → e ≤ 1024 → m ≤ 2048 → t < 256 → l < 256 → r < 256 → o ≤ e
+    → h < 2048 → g < 2048 → Bounded (held s w e m op t l r k n o h g j)
+bounded b more bw be bm bt bl br bo bh bg =
+    record {
+      functions = b .functions;
+      registers = b .registers;
+      params = b .params;
+      blocks = b .blocks;
+      rows = bw;
+      first = omega (arith, b .first);
+      entries = be;
+      own = bo;
+      mentions = bm;
+      target = bt;
+      left = bl;
+      right = br;
+      here = bh;
+      there = bg;
+    }
+
+module _ {d : Draft} {s : Reader} (h : Counts d s) where
+  sources-in : Firsts (d .parts .sources) (s .left) (s .right) (s .sources)
+  sources-in = record { first = h .left; second = h .right; count = h .sources }
+
+  mentions-in : Firsts (d .parts .mentions) (s .here) (s .there) (s .named)
+  mentions-in = record { first = h .here; second = h .there; count = h .named }
+
+  -- other rows, entries, mentions and parts, the rest as it was
+  counted : (ms : List Mention) (v : Block) (x : Parts) {w e m op t l r k n o a b j : ℕ}
+      → w ≡ length (openRows (draftOf (d .functions) (d .function) ms v x)) → e ≡ entryCount (openFunction (draftOf (d .functions) (d .function) ms v x)) + length (x .entries)
+      → m ≡ length ms → op ≡ x .op → t ≡ x .target → Firsts (x .sources) l r k → n ≡ x .number → o ≡ length (x .entries) → Firsts (x .mentions) a b j
+      → Counts (draftOf (d .functions) (d .function) ms v x) (held s w e m op t l r k n o a b j)
+  counted ms v x cw ce cm cop ct cs cn co cj =
+      record {
+        functions = h .functions;
+        ssa = h .ssa;
+        result = h .result;
+        params = h .params;
+        registers = h .registers;
+        blocks = h .blocks;
+        rows = cw;
+        first = h .first;
+        entries = ce;
+        mentions = cm;
+        op = cop;
+        target = ct;
+        left = cs .first;
+        right = cs .second;
+        sources = cs .count;
+        number = cn;
+        own = co;
+        here = cj .first;
+        there = cj .second;
+        named = cj .count;
+      }
+
+-- ---- what an act comes to
+
+-- by the definition's answer, or by the draft it proceeds to
+refusing : {t : List ℕ} {o : Outcome} (n p : ℕ) → o ≡ Outcome.refuse n p → Comes t o (taken.Refused n p)
+refusing n p e = rw e (Comes.refuses n p)
+
+proceeding : {t : List ℕ} {o : Outcome} {d : Draft} {s : Reader} → o ≡ Outcome.proceed d → Holds d s t → Comes t o (taken.Reading s)
+proceeding {d = d} {s} e h = rw e (Comes.proceeds d s h)
+
+-- what the table stands for after the store of an act
+stored : {d d′ : Draft} {s s′ : Reader} {t t′ : List ℕ} {k : ℕ} {vs : List ℕ} → Holds d s t → Stores d d′ k vs → t′ ≡ sets t k vs → Counts d′ s′ → Holds d′ s′ t′
+stored {k = k} {vs} h st e c =
+    record {
+      counts = c;
+      within = st .within;
+      table = e ∙ ap (λ (l : List ℕ). sets l k vs) (h .table) ∙ sym (st .cells);
+    }
+
+-- an act that is refused, whatever the draft
+refused : {Fit : Draft → Type 0} {act : Draft → Outcome} {s : Reader} {t : List ℕ} (n p : ℕ)
+    → ((d : Draft) → Holds d s t → act d ≡ Outcome.refuse n p) → Acts Fit act s t (taken.Refused n p) t
+refused n p f = record { kept = tt; size = refl; meaning = λ d h fit. refusing n p (f d h) }
+
+-- ---- an instruction begins
+
+abbrev pub NoEntries : Draft → Type 0
+NoEntries d = d .parts .entries ≡ []
+
+-- new parts stand for an instruction that has only its number and target so far
+bounded-parts : {s : Reader} → Bounded s → (op target : ℕ) → target < 256 → Bounded (partsAt s op target)
+bounded-parts b op target small = bounded b (omega arith) (b .rows) (b .entries) (b .mentions) small (lit< tt) (lit< tt) (omega arith) (lit< tt) (lit< tt)
+
+holds-parts : {d : Draft} {s : Reader} {t : List ℕ} → Holds d s t → NoEntries d → (op target : ℕ)
+    → Holds (withParts d (partsOf op target [] 0 [] [])) (partsAt s op target) t
+holds-parts {d} {s} h free op target =
+    let e : length (d .parts .entries) ≡ 0 = ap length free in
+    stored h (keeps-entries d (h .within) (partsOf op target [] 0 [] []) (sym free) tt) refl
+    (counted (h .counts) (d .mentions) (d .block) (partsOf op target [] 0 [] []) (h .counts .rows) (omega (arith, h .counts .entries)) (h .counts .mentions) refl refl
+    none refl refl none)
+
+module _ {s : Reader} (b : Bounded s) (p : ℕ) (t : List ℕ) where
+  pub begin-refused : (op : ℕ) → 1024 ≤ s .rows → Acts NoEntries (beginInstruction op p) s t (taken.Refused 5 p) t
+  unfolding beginInstruction rowCount
+  begin-refused op full = refused 5 p (λ d h. rw (le-ltb (length (openRows d)) 1024 (omega (arith, h .counts .rows))))
+
+  pub begin-proceeds : (op : ℕ) → s .rows < 1024 → Acts NoEntries (beginInstruction op p) s t (taken.Reading (partsAt s op 0)) t
+  unfolding beginInstruction rowCount
+  begin-proceeds op room =
+      record {
+        kept = (bounded-parts b op 0 (lit< tt), refl);
+        size = refl;
+        meaning = λ d h free. proceeding (rw (lt-ltb (length (openRows d)) 1024 (omega (arith, h .counts .rows)))) (holds-parts h free op 0);
+      }
+
+  pub instruction-proceeds : (op : ℕ) → Acts NoEntries (setInstruction op) s t (taken.Reading (partsAt s op (s .target))) t
+  unfolding setInstruction
+  instruction-proceeds op =
+      record {
+        kept = (bounded-parts b op (s .target) (b .target), refl);
+        size = refl;
+        meaning = λ d h free. proceeding (rw (← h .counts .target)) (holds-parts h free op (s .target));
+      }
+
+-- ---- a name among the registers of the function in hand
+
+-- a search among the cells finds the number of the name
+pub register-found : {d : Draft} {s : Reader} {t : List ℕ} → Holds d s t → s .functions < 16 → (n : List ℕ) {a : ℕ} → a ≡ functionAt (s .functions)
+    → firstNamed t (a + 74) 66 (s .registers) n ≡ registerNumber (d .function) n
+unfolding firstNamed
+register-found {d} {s} h less n e =
+    rw (h .table, h .counts .registers)
+    (register-search d (h .within) (omega (arith, h .counts .functions)) n (e ∙ ap functionAt (h .counts .functions)))
+
+-- r is the number of the name n, whatever the draft
+abbrev pub Numbers : Reader → List ℕ → List ℕ → ℕ → Type 0
+Numbers s t n r = (d : Draft) → Holds d s t → r ≡ registerNumber (d .function) n
+
+module _ {s : Reader} (b : Bounded s) (n : List ℕ) (p : ℕ) (t : List ℕ) where
+  pub target-refused : 1024 ≤ s .rows → Acts NoEntries (setTarget n p) s t (taken.Refused 5 p) t
+  unfolding setTarget rowCount
+  target-refused full = refused 5 p (λ d h. rw (le-ltb (length (openRows d)) 1024 (omega (arith, h .counts .rows))))
+
+  pub entry-refused : 1024 ≤ s .entries → Acts Always (addEntry n p) s t (taken.Refused 5 p) t
+  unfolding addEntry phiEntries
+  entry-refused full = refused 5 p (λ d h. rw (le-ltb (entryCount (openFunction d) + length (d .parts .entries)) 1024 (omega (arith, h .counts .entries))))
+
+  module _ {r : ℕ} (f : Numbers s t n r) where
+    unknown : s .registers ≤ r → (d : Draft) → Holds d s t → ltb (registerNumber (d .function) n) (length (d .function .registers)) ≡ false
+    unknown out d h = le-ltb (registerNumber (d .function) n) (length (d .function .registers)) (omega (arith, h .counts .registers, f d h))
+
+    known : r < s .registers → (d : Draft) → Holds d s t → registerNumber (d .function) n < length (d .function .registers)
+    known less d h = omega (arith, h .counts .registers, f d h)
+
+    pub target-unknown : s .rows < 1024 → s .registers ≤ r → Acts NoEntries (setTarget n p) s t (taken.Refused 7 p) t
+    unfolding setTarget rowCount
+    target-unknown room out = refused 7 p (λ d h. rw (lt-ltb (length (openRows d)) 1024 (omega (arith, h .counts .rows)), unknown out d h))
+
+    pub target-proceeds : s .rows < 1024 → r < s .registers → Acts NoEntries (setTarget n p) s t (taken.Reading (partsAt s 0 r)) t
+    unfolding setTarget rowCount
+    target-proceeds room less =
+        record {
+          kept = (bounded-parts b 0 r (omega (arith, b .registers)), refl);
+          size = refl;
+          meaning =
+              λ d h free.
+              proceeding
+              (rw (lt-ltb (length (openRows d)) 1024 (omega (arith, h .counts .rows)), lt-ltb (registerNumber (d .function) n) (length (d .function .registers)) (known less d h), ← f d h))
+              (holds-parts h free 0 r);
+        }
+
+    pub source-unknown : s .registers ≤ r → Acts Always (addSource n p) s t (taken.Refused 7 p) t
+    unfolding addSource
+    source-unknown out = refused 7 p (λ d h. rw (unknown out d h))
+
+    pub source-proceeds : r < s .registers → {l m k : ℕ} → Pushed r (s .left) (s .right) (s .sources) l m k → l < 256 → m < 256
+        → Acts Always (addSource n p) s t (taken.Reading (sourced s l m k)) t
+    unfolding addSource
+    source-proceeds less {l} {m} {k} push bl bm =
+        record {
+          kept = (bounded b (omega arith) (b .rows) (b .entries) (b .mentions) (b .target) bl bm (b .own) (b .here) (b .there), refl);
+          size = refl;
+          meaning =
+              λ d h fit.
+              let x = d .parts in
+              let y = partsOf (x .op) (x .target) (x .sources ++ (r ∷ [])) (x .number) (x .entries) (x .mentions) in
+              let c = h .counts in
+              proceeding
+              (rw (lt-ltb (registerNumber (d .function) n) (length (d .function .registers)) (known less d h), ← f d h))
+              (stored h (keeps-entries d (h .within) y refl (h .within .inParts)) refl
+              (counted c (d .mentions) (d .block) y (c .rows) (c .entries) (c .mentions) (c .op) (c .target) (push (x .sources) (sources-in c)) (c .number) (c .own) (mentions-in c)));
+        }
+
+    pub entry-unknown : s .entries < 1024 → s .registers ≤ r → Acts Always (addEntry n p) s t (taken.Refused 7 p) t
+    unfolding addEntry phiEntries
+    entry-unknown room out =
+        refused 7 p
+        (λ d h. rw (lt-ltb (entryCount (openFunction d) + length (d .parts .entries)) 1024 (omega (arith, h .counts .entries)), unknown out d h))
+
+    pub entry-proceeds : s .entries < 1024 → r < s .registers → s .functions < 16 → {t′ : List ℕ} {k : ℕ} → k ≡ functionAt (s .functions) + 33673 + s .entries → t′ ≡ sets t k (r ∷ [])
+        → Acts Always (addEntry n p) s t (taken.Reading (enteredAt s)) t′
+    entry-proceeds room less few {t′} {k} place e =
+        record {
+          kept = (bounded b (omega arith) (b .rows) (omega arith) (b .mentions) (b .target) (b .left) (b .right) (omega (arith, b .own)) (b .here) (b .there), refl);
+          size = rw e (length-sets t k (r ∷ []));
+          meaning =
+              λ d h fit.
+              let c = h .counts in
+              let q : functionAt (s .functions) ≡ functionAt (length (d .functions)) = ap functionAt (c .functions) in
+              let l : length (d .parts .entries ++ (r ∷ [])) ≡ length (d .parts .entries) + 1 = length-append (d .parts .entries) (r ∷ []) in
+              proceeding
+              (entry-added d p n (omega (arith, c .entries)) (known less d h) ∙ rw (← f d h))
+              (stored h (adds-entry d (h .within) (omega (arith, c .functions)) r (omega (arith, c .entries)) (omega (arith, c .entries))) e
+              (counted c (d .mentions) (d .block) (entered d r .parts) (c .rows) (omega (arith, c .entries)) (c .mentions) (c .op) (c .target) (sources-in c) (c .number) (omega (arith, c .own)) (mentions-in c)));
+        }
+
+-- ---- a block is mentioned
+
+module _ {s : Reader} (b : Bounded s) (n : List ℕ) (p : ℕ) (t : List ℕ) where
+  pub mention-refused : 2048 ≤ s .mentions → Acts Always (addMention n p) s t (taken.Refused 5 p) t
+  unfolding addMention
+  mention-refused full = refused 5 p (λ d h. rw (le-ltb (length (d .mentions)) 2048 (omega (arith, h .counts .mentions))))
+
+  mention-proceeds : s .mentions < 2048 → {h g j : ℕ} → Pushed (s .mentions) (s .here) (s .there) (s .named) h g j → h < 2048 → g < 2048
+      → Acts Always (addMention n p) s t (taken.Reading (mentionedAt s h g j)) t
+  mention-proceeds less {h} {g} {j} push bh bg =
+      record {
+        kept = (bounded b (omega arith) (b .rows) (b .entries) (omega arith) (b .target) (b .left) (b .right) (b .own) bh bg, refl);
+        size = refl;
+        meaning =
+            λ d m fit.
+            let c = m .counts in
+            let few : length (d .mentions) < 2048 = omega (arith, c .mentions) in
+            let l : length (d .mentions ++ (record { name = n; place = p } ∷ [])) ≡ length (d .mentions) + 1 =
+            length-append (d .mentions) (record { name = n; place = p } ∷ []) in
+            proceeding (mention-added d p n few)
+            (stored m (adds-mention d (m .within) n p few) refl
+            (counted c (d .mentions ++ (record { name = n; place = p } ∷ [])) (d .block) (mentioned d n p .parts) (c .rows) (c .entries) (omega (arith, c .mentions)) (c .op) (c .target)
+            (sources-in c) (c .number) (c .own) (rw (← c .mentions) (push (d .parts .mentions) (mentions-in c)))));
+      }
+
+-- ---- mentions in the lent scratch
+
+module _ (s : Reader) (name : List ℕ) (p : ℕ) (pend : List ℕ) where
+  pub scratch-full : 2048 ≤ s .mentions → MentionKept s name p pend pend
+  scratch-full full = record { size = refl; all = λ ms e less kept. absurd (omega arith) }
+
+  module _ (whole : length pend ≡ 141312) (less : s .mentions < 2048) (short : length name ≤ 64) (low : p < 4294967296) where
+    abbrev here : ℕ
+    here = 69 * s .mentions
+
+    abbrev once : List ℕ
+    once = sets pend here (length name ∷ name)
+
+    abbrev twice : List ℕ
+    twice = sets once (here + 65) (fourBytes p)
+
+    at-name : At twice here (length name ∷ name)
+    at-name =
+        at-sets-before (length name ∷ name) (fourBytes p) once (here + 65) (omega arith)
+        (at-sets (length name ∷ name) pend here (omega arith))
+
+    new-count : getD twice here 0 ≡ length name
+    new-count = at-cell 0 at-name 0 (zero-lt-suc (length name)) (omega arith)
+
+    new-name : nameAt twice here ≡ name
+    new-name = at-part (at-right (length name ∷ []) name at-name) {m = here + 1} (omega arith) new-count
+
+    new-place : four twice (here + 65) ≡ p
+    new-place =
+        let h : At twice (here + 65) (fourBytes p) = at-sets (fourBytes p) once (here + 65) (rw (length-sets pend here (length name ∷ name)) (omega arith)) in
+        let c₀ : getD twice (here + 65) 0 ≡ p % 256 = at-cell 0 h 0 (lit< tt) (omega arith) in
+        let c₁ : getD twice (here + 65 + 1) 0 ≡ p / 256 % 256 = at-cell 0 h 1 (lit< tt) (omega arith) in
+        let c₂ : getD twice (here + 65 + 2) 0 ≡ p / 65536 % 256 = at-cell 0 h 2 (lit< tt) (omega arith) in
+        let c₃ : getD twice (here + 65 + 2 + 1) 0 ≡ p / 65536 / 256 % 256 = at-cell 0 h 3 (lit< tt) (omega arith) in
+        rw (c₀, c₁, c₂, c₃) (omega arith)
+
+    module _ (i : ℕ) (before : i < s .mentions) where
+      old-cell : (j : ℕ) → j < here → getD twice j 0 ≡ getD pend j 0
+      old-cell j h = getD-sets-before 0 (fourBytes p) once (here + 65) j (omega arith) ∙ getD-sets-before 0 (length name ∷ name) pend here j h
+
+      old-name : getD pend (69 * i) 0 ≤ 64 → nameAt twice (69 * i) ≡ nameAt pend (69 * i)
+      old-name small =
+          rw (old-cell (69 * i) (omega arith))
+          (part-sets-before (69 * i + 1) (getD pend (69 * i) 0) (fourBytes p) once (here + 65) (omega arith)
+          ∙ part-sets-before (69 * i + 1) (getD pend (69 * i) 0) (length name ∷ name) pend here (omega arith))
+
+      old-place : four twice (69 * i + 65) ≡ four pend (69 * i + 65)
+      old-place =
+          rw (old-cell (69 * i + 65) (omega arith), old-cell (69 * i + 65 + 1) (omega arith), old-cell (69 * i + 65 + 2) (omega arith), old-cell (69 * i + 65 + 2 + 1) (omega arith))
+
+    scratch-kept : MentionKept s name p pend twice
+    scratch-kept =
+        record {
+          size = length-sets once (here + 65) (fourBytes p) ∙ length-sets pend here (length name ∷ name);
+          all = λ ms e room held i b. by ms e held i b (decLt i (length ms));
+        }
+      where
+        absent : Mention
+        absent = record { name = []; place = 0 }
+
+        new : Mention
+        new = record { name = name; place = p }
+
+        by : (ms : List Mention) → s .mentions ≡ length ms → Pending ms pend → (i : ℕ) → i < length (ms ++ (new ∷ [])) → Dec (i < length ms)
+            → (nameAt twice (69 * i) ≡ getD (ms ++ (new ∷ [])) i absent .name)
+            × (four twice (69 * i + 65) ≡ getD (ms ++ (new ∷ [])) i absent .place)
+            × (getD twice (69 * i) 0 ≤ 64)
+        by ms e held i b (yes q) =
+            let h = held i q in
+            let r : i < s .mentions = rw e q in
+            let g : getD (ms ++ (new ∷ [])) i absent ≡ getD ms i absent = List·getD-append ms (new ∷ []) absent i q in (
+              old-name i r (h .2) ∙ h .0 ∙ ap (λ (m : Mention). m .name) (sym g),
+              old-place i r ∙ h .1 ∙ ap (λ (m : Mention). m .place) (sym g),
+              rw (old-cell i r (69 * i) (omega arith)) (h .2),
+            )
+        by ms e held i b (no q) =
+            let r : i ≡ s .mentions = omega (arith, length-append ms (new ∷ [])) in
+            let g : getD (ms ++ (new ∷ [])) (s .mentions) absent ≡ new = rw e (getD-append-seam ms new [] absent) in
+            rw r (
+              new-name ∙ ap (λ (m : Mention). m .name) (sym g),
+              new-place ∙ ap (λ (m : Mention). m .place) (sym g),
+              rw new-count short,
+            )
+
+    scratch-stored : {m r : List ℕ} → m ≡ once → r ≡ sets m (here + 65) (fourBytes p) → MentionKept s name p pend r
+    scratch-stored f g = rw (g, f) scratch-kept
+
+-- both at once
+pub mention-put : {s : Reader} → Bounded s → (n : List ℕ) (p : ℕ) (pend : List ℕ) → (length pend ≡ 141312) × (length n ≤ 64) × (p < 4294967296) → s .mentions < 2048
+    → {h g j : ℕ} → Pushed (s .mentions) (s .here) (s .there) (s .named) h g j → h < 2048 → g < 2048
+    → {m r : List ℕ} → m ≡ sets pend (69 * s .mentions) (length n ∷ n) → r ≡ sets m (69 * s .mentions + 65) (fourBytes p)
+    → ((t : List ℕ) → Acts Always (addMention n p) s t (taken.Reading (mentionedAt s h g j)) t) × MentionKept s n p pend r
+mention-put {s} b n p pend fit less push bh bg f g =
+    (λ t. mention-proceeds b n p t less push bh bg, scratch-stored s n p pend (fit .0) less (fit .1) (fit .2) f g)
+
+-- ---- a load's number
+
+-- a type has one of four widths
+widths : (P : ℕ → Type 0) → P 8 → P 16 → P 32 → P 64 → (t : ℕ) → P (width t)
+unfolding width
+widths P a b c d t = by (ltb t 8) (t % 4) (mod-lt t (zero-lt-suc 3))
+  where
+    by : (g : Bool) (k : ℕ) → k < 4 → P (cond g (8 * 2 ^ k) 64)
+    by true zero l = a
+    by true (suc zero) l = b
+    by true (suc (suc zero)) l = c
+    by true (suc (suc (suc zero))) l = d
+    by true (suc (suc (suc (suc k)))) l = absurd (omega arith)
+    by false k l = d
+
+-- 2 to the width of a type, and half of it
+record Powers (t : ℕ) : Type 0 where
+  half : 2 * 2 ^ (width t - 1) ≡ 2 ^ width t
+  low : 256 ≤ 2 ^ width t
+  high : 2 ^ width t ≤ 18446744073709551616
+
+powers : (t : ℕ) → Powers t
+powers t =
+    record {
+      half = widths (λ w. 2 * 2 ^ (w - 1) ≡ 2 ^ w) refl refl refl refl t;
+      low = widths (λ w. 256 ≤ 2 ^ w) (lit≤ tt) (lit≤ tt) (lit≤ tt) (lit≤ tt) t;
+      high = widths (λ w. 2 ^ w ≤ 18446744073709551616) (lit≤ tt) (lit≤ tt) (lit≤ tt) (lit≤ tt) t;
+    }
+
+-- a width that is none of the smaller three
+pub width-last : (t : ℕ) → (width t ≡ 8 → ⊥) → (width t ≡ 16 → ⊥) → (width t ≡ 32 → ⊥) → width t ≡ 64
+width-last t =
+    widths (λ w. (w ≡ 8 → ⊥) → (w ≡ 16 → ⊥) → (w ≡ 32 → ⊥) → w ≡ 64)
+    (λ a b c. absurd (a refl))
+    (λ a b c. absurd (b refl))
+    (λ a b c. absurd (c refl))
+    (λ a b c. refl)
+    t
+
+module _ (t v most : ℕ) (e : most + 1 ≡ 2 ^ width t) where
+  pub signed-negative : signed t ≡ true → leb v (most / 2 + 1) ≡ inRange t true v
+  unfolding inRange
+  signed-negative g =
+      let h : 2 ^ (width t - 1) ≡ most / 2 + 1 = omega (arith, powers t) in
+      rw (g, h)
+
+  pub signed-positive : signed t ≡ true → leb v (most / 2) ≡ inRange t false v
+  unfolding inRange
+  signed-positive g =
+      let h : 2 ^ (width t - 1) ≡ most / 2 + 1 = omega (arith, powers t) in
+      rw (g, h, add-one) (sym (leb·suc-suc v (most / 2)))
+
+  pub unsigned-negative : signed t ≡ false → eqb v 0 ≡ inRange t true v
+  unfolding inRange
+  unsigned-negative g = rw g
+
+  pub unsigned-positive : signed t ≡ false → leb v most ≡ inRange t false v
+  unfolding inRange
+  unsigned-positive g = rw (g, ← e, add-one) (sym (leb·suc-suc v most))
+
+-- no number from 2^64 on is in range
+range-large : (t : ℕ) (neg : Bool) (n : ℕ) → 18446744073709551616 ≤ n → inRange t neg n ≡ false
+unfolding inRange
+range-large t neg n h = by (signed t) neg
+  where
+    p : Powers t
+    p = powers t
+
+    by : (g neg : Bool) → cond g (cond neg (leb n (2 ^ (width t - 1))) (ltb n (2 ^ (width t - 1)))) (cond neg (eqb n 0) (ltb n (2 ^ width t))) ≡ false
+    by true true = lt-leb n (2 ^ (width t - 1)) (omega (arith, p))
+    by true false = le-ltb n (2 ^ (width t - 1)) (omega (arith, p))
+    by false true = ne-eqb n 0 (λ e. omega arith)
+    by false false = le-ltb n (2 ^ width t) (omega (arith, p))
+
+-- a negative number in range is at most 2^w
+pub range-most : (t v : ℕ) → T (inRange t true v) → v ≤ 2 ^ width t
+unfolding inRange
+range-most t v h = by (signed t) h
+  where
+    p : Powers t
+    p = powers t
+
+    by : (g : Bool) → T (cond g (leb v (2 ^ (width t - 1))) (eqb v 0)) → v ≤ 2 ^ width t
+    by true k = omega (arith, p, leb→le v (2 ^ (width t - 1)) k)
+    by false k = omega (arith, eqb→eq v 0 k)
+
+-- what a register holds of -v
+pub bits-zero : (t : ℕ) → 0 ≡ bitsOf t true 0
+unfolding bitsOf
+bits-zero t = let e : 2 ^ width t - 0 ≡ 2 ^ width t = omega arith in rw e (sym (mod-self (2 ^ width t)))
+
+pub bits-negative : (t v most : ℕ) → most + 1 ≡ 2 ^ width t → (v ≡ 0 → ⊥) → v ≤ 2 ^ width t → most - (v - 1) ≡ bitsOf t true v
+unfolding bitsOf
+bits-negative t v most e some h =
+    let small : 2 ^ width t - v < 2 ^ width t = omega arith in
+    let same : most - (v - 1) ≡ 2 ^ width t - v = omega arith in
+    same ∙ sym (mod-eq-of-lt small)
+
+-- the number n, as the code holds it: its value, or that it is 2^64 or more
+data Amounts (n : ℕ) : (v : ℕ) (o : Bool) → Type 0 where
+  exact : Amounts n n false
+  over : {v : ℕ} → 18446744073709551616 ≤ n → Amounts n v true
+
+amounts : (n v : ℕ) (o : Bool) → amountFrom v o ≡ amountOf n → Amounts n v o
+unfolding amountOf
+amounts n v o e = by (decLt n 18446744073709551616)
+  where
+    by : Dec (n < 18446744073709551616) → Amounts n v o
+    by (yes q) =
+        let f : amountFrom v o ≡ amountFrom n false = e ∙ ap (λ (c : Bool). cond c (amountFrom n false) (amountFrom 0 true)) (lt-ltb n 18446744073709551616 q) in
+        rw (ap (λ (a : Amount). a .value) f, ap (λ (a : Amount). a .over) f) exact
+    by (no q) =
+        let f : amountFrom v o ≡ amountFrom 0 true = e ∙ ap (λ (c : Bool). cond c (amountFrom n false) (amountFrom 0 true)) (le-ltb n 18446744073709551616 (omega arith)) in
+        rw (ap (λ (a : Amount). a .over) f) (over (omega arith))
+
+range-is : {n v : ℕ} {o : Bool} (k : ℕ) (neg : Bool) → Amounts n v o → cond o false (inRange k neg v) ≡ inRange k neg n
+range-is k neg exact = refl
+range-is {n} k neg (over h) = sym (range-large k neg n h)
+
+bits-is : {n v : ℕ} {o : Bool} (k : ℕ) (neg : Bool) → Amounts n v o → T (cond o false (inRange k neg v)) → bitsOf k neg v ≡ bitsOf k neg n
+bits-is k neg exact q = refl
+bits-is k neg (over h) q = absurd q
+
+pub range-exact : (k : ℕ) (neg : Bool) (v : ℕ) (o : Bool) → cond o false (inRange k neg v) ≡ true → T (inRange k neg v)
+range-exact k neg v true e = absurd (subst (λ (c : Bool). T c) (sym e) tt)
+range-exact k neg v false e = rw e tt
+
+module _ {s : Reader} (b : Bounded s) (neg : Bool) (v : ℕ) (o : Bool) (p : ℕ) {k : ℕ} (kind : k ≡ loadType (s .op)) (t : List ℕ) (n : ℕ) (a : amountFrom v o ≡ amountOf n) where
+  kind-is : (d : Draft) → Holds d s t → k ≡ loadType (d .parts .op)
+  kind-is d h = kind ∙ ap loadType (h .counts .op)
+
+  pub number-refused : cond o false (inRange k neg v) ≡ false → Acts Always (setNumber neg n p) s t (taken.Refused 4 p) t
+  unfolding setNumber
+  number-refused q = refused 4 p (λ d h. rw (← kind-is d h, ← range-is k neg (amounts n v o a), q))
+
+  pub number-proceeds : cond o false (inRange k neg v) ≡ true → {r : ℕ} → r ≡ bitsOf k neg v
+      → Acts Always (setNumber neg n p) s t (taken.Reading (numbered s r)) t
+  unfolding setNumber
+  number-proceeds q {r} e =
+      record {
+        kept = (bounded b (omega arith) (b .rows) (b .entries) (b .mentions) (b .target) (b .left) (b .right) (b .own) (b .here) (b .there), refl);
+        size = refl;
+        meaning =
+            λ d h fit.
+            let x = d .parts in
+            let y = partsOf (x .op) (x .target) (x .sources) (bitsOf (loadType (x .op)) neg n) (x .entries) (x .mentions) in
+            let c = h .counts in
+            let m : r ≡ bitsOf (loadType (x .op)) neg n = e ∙ bits-is k neg (amounts n v o a) (rw q tt) ∙ ap (λ (j : ℕ). bitsOf j neg n) (kind-is d h) in
+            proceeding
+            (rw (← kind-is d h, ← range-is k neg (amounts n v o a), q))
+            (stored h (keeps-entries d (h .within) y refl (h .within .inParts)) refl
+            (counted c (d .mentions) (d .block) y (c .rows) (c .entries) (c .mentions) (c .op) (c .target) (sources-in c) m (c .own) (mentions-in c)));
+      }
+
+-- ---- a row is put down
+
+-- the operand's kind by its number, and back
+pub operand-last : (k : ℕ) → (k ≡ 0 → ⊥) → (k ≡ 1 → ⊥) → (k ≡ 2 → ⊥) → (k ≡ 3 → ⊥) → operandFrom k ≡ Operand.blocks
+operand-last k a b c d = List·getD-eq-default (Operand.none ∷ Operand.number ∷ Operand.registers ∷ Operand.block ∷ []) Operand.blocks {n = k} (omega arith)
+
+operand-from : (o : Operand) → operandFrom (shapeOperand o) ≡ o
+operand-from Operand.none = refl
+operand-from Operand.number = refl
+operand-from Operand.registers = refl
+operand-from Operand.block = refl
+operand-from Operand.blocks = refl
+
+-- the cells that go by the shape are those that go by the form
+pub row-put : (s : Reader) (u : List ℕ) (k : ℕ) {x : Shape} → x ≡ shapeOf (s .op) → {t l r o : ℕ} → t ≡ cond (x .target) (s .target) 0
+    → l ≡ cond (ltb 0 (x .sources)) (s .left) 0 → r ≡ cond (ltb 1 (x .sources)) (s .right) 0 → o ≡ operandAt (operandFrom (x .operand)) s
+    → {u′ : List ℕ} → u′ ≡ sets u k (s .op ∷ t ∷ l ∷ r ∷ eightBytes o) → u′ ≡ sets u k (rowAt s)
+unfolding shapeOf
+row-put s u k {x} e {t} {l} {r} {o} et el er eo put = put ∙ ap (λ (v : List ℕ). sets u k v) row
+  where
+    row : s .op ∷ t ∷ l ∷ r ∷ eightBytes o ≡ rowAt s
+    row = rw (et, el, er, eo, e, operand-from (operandOf (formOf (s .op))))
+
+module _ {d : Draft} {s : Reader} (c : Counts d s) where
+  operand-is : (o : Operand) → operandAt o s ≡ operandNumber o (entryCount (openFunction d)) (d .parts)
+  operand-is Operand.none = refl
+  operand-is Operand.number = c .number
+  operand-is Operand.registers = omega (arith, c .entries, c .own)
+  operand-is Operand.block = c .here
+  operand-is Operand.blocks = rw (c .here, c .there)
+
+  row-is : rowAt s ≡ instructionCells (entryCount (openFunction d)) (d .parts)
+  unfolding instructionCells
+  row-is = rw (operand-is (operandOf (formOf (s .op))), c .op, c .target, c .left, c .right)
+
+-- the entries in hand are those of the row
+abbrev pub OwnEntries : Draft → Type 0
+OwnEntries d = entriesOf (rowOf (d .parts)) ≡ d .parts .entries
+
+counts-written : {d : Draft} {s : Reader} → Counts d s → Within d → OwnEntries d → Counts (written d) (writtenAt s)
+counts-written {d} {s} c w own =
+    counted c (d .mentions) (written d .block) noParts (rw (more-rows d) (simp length-append (omega (arith, c .rows)))) (omega (arith, more-entries d w own, c .entries)) (c .mentions)
+    refl refl none refl refl none
+
+module _ {s : Reader} (b : Bounded s) (p : ℕ) (t : List ℕ) where
+  pub row-refused : 1024 ≤ s .rows → Acts OwnEntries (endInstruction p) s t (taken.Refused 5 p) t
+  unfolding endInstruction rowCount
+  row-refused full = refused 5 p (λ d h. rw (le-ltb (length (openRows d)) 1024 (omega (arith, h .counts .rows))))
+
+  pub row-proceeds : s .rows < 1024 → s .functions < 16 → {t′ : List ℕ} {k : ℕ} → k ≡ functionAt (s .functions) + 21385 + 12 * s .rows → t′ ≡ sets t k (rowAt s)
+      → Acts OwnEntries (endInstruction p) s t (taken.Reading (writtenAt s)) t′
+  row-proceeds room few {t′} {k} place e =
+      record {
+        kept = (bounded b (omega arith) (omega arith) (b .entries) (b .mentions) (lit< tt) (lit< tt) (lit< tt) (omega arith) (lit< tt) (lit< tt), refl);
+        size = rw e (length-sets t k (rowAt s));
+        meaning =
+            λ d h own.
+            let c = h .counts in
+            let q : functionAt (s .functions) ≡ functionAt (length (d .functions)) = ap functionAt (c .functions) in
+            let room′ : length (openRows d) < 1024 = omega (arith, c .rows) in
+            proceeding (instruction-ended d p room′)
+            (stored h (ends-instruction d (h .within) own (omega (arith, c .functions)) room′ (omega (arith, c .rows))) (e ∙ ap (λ (r : List ℕ). sets t k r) (row-is c))
+            (counts-written c (h .within) own));
+      }

@@ -1,0 +1,4 @@
+pub mod Draft
+pub mod Ending
+pub mod Parse
+pub mod State

@@ -1,0 +1,143 @@
+// Declarations: functions, registers, blocks. Each tests 5, then 6, and puts the name down in the table.
+use crate::state::Reader;
+use crate::state::Taken;
+use table::find_name;
+use table::put_name;
+use table::put_register;
+use table::put_two;
+ghost use mathlib.Core.Path.{_≡_};
+ghost use mathlib.Core.List.{List, []};
+ghost use Prim.Native.Nat.{ℕ, _<_, _≤_};
+ghost use lib.ListN.{length};
+ghost use Rattle.language.specs.Programs.{noBlock};
+ghost use Rattle.language.specs.Reading.{markSsa, setResult, nameFunction, nameRegister, nameBlock, endBlock};
+ghost use Rattle.reader.specs.State.{Bounded, Acts, Always, ifRoomAt};
+
+impl Reader {
+    // `function`: 5 for one too many.
+    pub fn begin_function(self, p: usize) -> Taken
+        ensures { λ r. ⌜ r ≡ ifRoomAt (self .functions) 16 p self ⌝ }
+    {
+        if self.functions < 16 {
+            return Taken::Reading(self);
+        }
+        Taken::Refused(5, p)
+    }
+
+    pub fn mark_ssa(mut self) -> Taken
+        requires { ⌜ Bounded self ⌝ }
+        ensures { λ r. ⌜ ((t : List ℕ) → Acts Always markSsa self t r t) ⌝ }
+    {
+        self.ssa = 1;
+        Taken::Reading(self)
+    }
+
+    pub fn set_result(mut self, kind: u8) -> Taken
+        requires { ⌜ Bounded self ⌝ }
+        ensures { λ r. ⌜ ((t : List ℕ) → Acts Always (setResult kind) self t r t) ⌝ }
+    {
+        self.result = kind;
+        Taken::Reading(self)
+    }
+
+    // The function's name: 6 if a function has it.
+    pub fn name_function(self, t: &mut [u8], name: &[u8], p: usize) -> Taken
+        requires { ⌜ Bounded self ⌝ }
+        requires { ⌜ (length (now t) ≡ 555153) × (length (now name) ≤ 64) ⌝ }
+        ensures { λ r. ⌜ Acts (λ d. d .function .name ≡ []) (nameFunction (now (name .entry)) p) self (now (t .entry)) r (now (t .exit)) ⌝ }
+    {
+        let n = self.functions;
+        if 16 <= n {
+            return Taken::Refused(5, p);
+        }
+        if find_name(t, 9, 34697, n, name) < n {
+            return Taken::Refused(6, p);
+        }
+        put_name(t, self.base() + 8, name);
+        Taken::Reading(self)
+    }
+
+    // A parameter's type, or `register`: 5 for one too many.
+    pub fn begin_register(self, p: usize) -> Taken
+        ensures { λ r. ⌜ r ≡ ifRoomAt (self .registers) 256 p self ⌝ }
+    {
+        if self.registers < 256 {
+            return Taken::Reading(self);
+        }
+        Taken::Refused(5, p)
+    }
+
+    // A register's name: 6 if a register has it. `more` is 1 for a parameter and 0 for another.
+    pub fn name_register(
+        mut self,
+        t: &mut [u8],
+        more: usize,
+        kind: u8,
+        name: &[u8],
+        p: usize,
+    ) -> Taken
+        requires { ⌜ Bounded self ⌝ }
+        requires { ⌜ (self .functions < 16) × (length (now t) ≡ 555153) × (length (now name) ≤ 64) ⌝ }
+        requires { ⌜ more ≤ 1 ⌝ }
+        ensures { λ r. ⌜ Acts Always (nameRegister more kind (now (name .entry)) p) self (now (t .entry)) r (now (t .exit)) ⌝ }
+    {
+        let n = self.registers;
+        let a = self.base();
+        if 256 <= n {
+            return Taken::Refused(5, p);
+        }
+        if find_name(t, a + 74, 66, n, name) < n {
+            return Taken::Refused(6, p);
+        }
+        put_register(t, a, n, kind, name);
+        self.registers = n + 1;
+        self.params = self.params + more;
+        Taken::Reading(self)
+    }
+
+    // `block`: 5 for one too many.
+    pub fn begin_block(self, p: usize) -> Taken
+        ensures { λ r. ⌜ r ≡ ifRoomAt (self .blocks) 64 p self ⌝ }
+    {
+        if self.blocks < 64 {
+            return Taken::Reading(self);
+        }
+        Taken::Refused(5, p)
+    }
+
+    // A block's name, of no bytes for entry: 6 if a block has it.
+    pub fn name_block(self, t: &mut [u8], name: &[u8], p: usize) -> Taken
+        requires { ⌜ Bounded self ⌝ }
+        requires { ⌜ (self .functions < 16) × (length (now t) ≡ 555153) × (length (now name) ≤ 64) ⌝ }
+        ensures { λ r. ⌜ Acts (λ d. d .block ≡ noBlock) (nameBlock (now (name .entry)) p) self (now (t .entry)) r (now (t .exit)) ⌝ }
+    {
+        let n = self.blocks;
+        let a = self.base();
+        if 64 <= n {
+            return Taken::Refused(5, p);
+        }
+        if find_name(t, a + 16973, 69, n, name) < n {
+            return Taken::Refused(6, p);
+        }
+        put_name(t, a + 16973 + 69 * n, name);
+        Taken::Reading(self)
+    }
+
+    // A block's closing brace: its first row and its count of rows are put down.
+    pub fn end_block(mut self, t: &mut [u8], p: usize) -> Taken
+        requires { ⌜ Bounded self ⌝ }
+        requires { ⌜ (self .functions < 16) × (length (now t) ≡ 555153) ⌝ }
+        ensures { λ r. ⌜ Acts Always (endBlock p) self (now (t .entry)) r (now (t .exit)) ⌝ }
+    {
+        let n = self.blocks;
+        let k = self.base() + 16969 + 69 * n;
+        if 64 <= n {
+            return Taken::Refused(5, p);
+        }
+        put_two(t, k, self.first);
+        put_two(t, k + 2, self.rows - self.first);
+        self.blocks = n + 1;
+        self.first = self.rows;
+        Taken::Reading(self)
+    }
+}
