@@ -1,0 +1,32 @@
+-- `read_into`: the scratch has its lengths, and the reader's answer is the verdict.
+use mathlib.Core.Path.{ap, _∙_}
+use Prim.Native.Nat.{ℕ}
+use lib.ListN.{length, length-replicate}
+use borrow.Author.Needs.{needs}
+use Rattle.reader.specs.Parse.{Lent}
+use Rattle.ial.proofs.ReadLaws.{length-zeros, into-refused, into-read}
+use Rattle.ial.proofs.read_into.Statement.{statement}
+use Rattle.ial.proofs.read_into.Tie as tie
+
+pub read-into-spec : {M : Type 1} → statement M
+read-into-spec =
+    tie.close
+    (tie.spec
+    (λ c. search needs)
+    (λ c. search needs)
+    (λ c κs.
+    let pre = c .before .before .before .before .before .pre in (
+      record {
+        size = pre .0;
+        table = ap length (pre .1) ∙ length-zeros 555153;
+        pending = length-replicate {A = ℕ} 141312 0;
+        blocks = length-replicate {A = ℕ} 2048 0;
+      },
+      pre .1,
+    ))
+    (λ c. search needs)
+    (λ c. search needs)
+    (λ c. search needs)
+    (λ c. into-refused (c .before .before .before .before .before .before .before .read-text .ensures) (c .before .n .given .1))
+    (λ c. search needs)
+    (λ c. into-read (c .before .before .before .before .before .before .read-text .ensures) (c .enum-told .given .1)))

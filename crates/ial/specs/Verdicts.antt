@@ -1,0 +1,29 @@
+-- The answers of the entry points in document 01's numbers, with every cell that was lent. Assumes nothing.
+use mathlib.Core.Path.{_≡_}
+use mathlib.Core.List.{List}
+use Prim.Native.Nat.{ℕ}
+use Rattle.language.specs.Programs.{Program}
+use Rattle.language.specs.Table.{tableLength, cells}
+use Rattle.language.specs.Checking.{Verdict as Verdictᴸ}
+use Rattle.language.specs.Reading.{Reading}
+use Rattle.language.specs.Answers.{Filled, filledFrom, zeros}
+use Rattle.ial.specs.declared.Verdict.{Verdict}
+use Rattle.ial.specs.declared.Verdict.the-variants as verdicts
+
+-- "The definition gives this paper's number and values for each of the enum's cases."
+abbrev pub verdictOf : Verdict → Verdictᴸ
+verdictOf verdicts.Accepted = Verdictᴸ.accepted
+verdictOf (verdicts.Refused n p) = Verdictᴸ.refused n p
+
+-- An answer with the lent table as it is afterwards.
+abbrev pub filledOf : Verdict → List ℕ → Filled
+filledOf r t = record { answer = verdictOf r; table = t }
+
+-- A text read into a table: its answer, or the table of its program. A refusal leaves cells to be zeroed.
+pub data Into (t : List ℕ) : Reading → Verdict → Type 0 where
+  refused : (n p : ℕ) → Into t (Reading.refused n p) (verdicts.Refused n p)
+  program : (p : Program) → t ≡ cells p → Into t (Reading.program p) verdicts.Accepted
+
+-- The answer for an output of n cells, which is another length than a table's.
+abbrev pub Aside : Reading → Verdict → Type 0
+Aside x r = (n : ℕ) → (n ≡ tableLength → ⊥) → filledOf r (zeros n) ≡ filledFrom n x

@@ -1,0 +1,72 @@
+// The library: its entry points take any input and refuse what is wrong; none asks anything of its caller.
+use reader::Taken;
+
+mod c;
+
+pub use c::Answer;
+pub use c::ial_read;
+use reader::read_text;
+use table::zero;
+ghost use mathlib.Core.Path.{_≡_};
+ghost use Prim.Native.Nat.{_≤_};
+ghost use lib.ListN.{length};
+ghost use Rattle.language.specs.Reading.{read as readOf};
+ghost use Rattle.language.specs.Answers.{zeros, readAnswer};
+ghost use Rattle.ial.specs.Verdicts.{filledOf, Into, Aside};
+
+// The cells of a table, and of the scratch that reading needs: 2,048 mentions of blocks, 69 cells each.
+const TABLE: usize = 555153;
+
+const PENDING: usize = 141312;
+
+const MENTIONS: usize = 2048;
+
+// What an entry point answers that fills a table or judges one: done, or refused with a number of document 01 and its place.
+pub enum Verdict {
+    Accepted,
+    Refused(u8, usize),
+}
+
+// The text read into a table of the right length that is all zero.
+fn read_into(text: &[u8], t: &mut [u8]) -> Verdict
+    requires { ⌜ (length (now text) ≤ 65536) × (now t ≡ zeros 555153) ⌝ }
+    ensures { λ r. ⌜ Into (now (t .exit)) (readOf (now (text .entry))) r ⌝ }
+{
+    let mut pend = [0u8; PENDING];
+    let mut found = [0u8; MENTIONS];
+    match read_text(text, t, &mut pend, &mut found) {
+        Taken::Refused(n, p) => Verdict::Refused(n, p),
+        Taken::Reading(_) => Verdict::Accepted,
+    }
+}
+
+// A text for an output that has another length than a table's: 1 to 8 come first, then 22.
+fn read_aside(text: &[u8]) -> Verdict
+    requires { ⌜ length (now text) ≤ 65536 ⌝ }
+    ensures { λ r. ⌜ Aside (readOf (now (text .entry))) r ⌝ }
+{
+    let mut aside = [0u8; TABLE];
+    match read_into(text, &mut aside) {
+        Verdict::Accepted => Verdict::Refused(22, 0),
+        Verdict::Refused(n, p) => Verdict::Refused(n, p),
+    }
+}
+
+// Reads a text into a lent table: 1 to 8, and 22 last. After a refusal the table is all zero.
+pub fn read(text: &[u8], out: &mut [u8]) -> Verdict
+    ensures { λ r. ⌜ filledOf r (now (out .exit)) ≡ readAnswer (now (text .entry)) (length (now (out .entry))) ⌝ }
+{
+    zero(out);
+    if 65536 < text.len() {
+        return Verdict::Refused(1, 0);
+    }
+    if out.len() != TABLE {
+        return read_aside(text);
+    }
+    let r = read_into(text, out);
+    let Verdict::Refused(n, p) = r else {
+        return Verdict::Accepted;
+    };
+    zero(out);
+    Verdict::Refused(n, p)
+}
