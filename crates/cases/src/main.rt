@@ -1,0 +1,8 @@
+// Runs the library on the outside vectors and on texts made here, and prints what it answers.
+mod made;
+mod vectors;
+
+fn main() {
+    vectors::all();
+    made::all();
+}
