@@ -1,8 +1,9 @@
 // The outside vectors: a text, and the cells its table must have.
 use ial::Verdict;
 use libc::STDOUT_FILENO;
+ghost use mathlib.Core.Path.{_≡_};
 ghost use Prim.Native.Nat.{_+_, _≤_};
-ghost use lib.ListN.{length};
+ghost use lib.ListN.{length, take};
 
 fn say(s: &[u8]) {
     io::write_all(STDOUT_FILENO, s);
@@ -42,7 +43,9 @@ fn load(name: &[u8], into: &mut [u8]) -> usize
 }
 
 // The first n bytes, or all where there are fewer.
-pub fn upto(s: &[u8], n: usize) -> &[u8] {
+pub fn upto(s: &[u8], n: usize) -> &[u8]
+    ensures { λ r. ⌜ now r ≡ take n (now (s .entry)) ⌝ }
+{
     if s.len() < n {
         return s;
     }

@@ -2,7 +2,7 @@
 use borrow.Author.Needs.{needs}
 use mathlib.Core.Path.{sym}
 use native.Mathlib.Omega.{arith}
-use lib.Seq.{length-take-le}
+use lib.Seq.{length-take-le, take-all}
 use Rattle.cases.proofs.vectors.upto.Statement.{statement}
 use Rattle.cases.proofs.vectors.upto.Tie as tie
 
@@ -10,6 +10,6 @@ pub upto-spec : {M : Type 1} → statement M
 upto-spec =
     tie.close
     (tie.spec
-    (λ c. search needs)
+    (λ c. sym (take-all (c .before .args .n) (c .before .args .s .now) (omega arith)))
     (λ c. sym (length-take-le (c .before .before .args .n) (c .before .before .args .s .now) (omega arith)))
     (λ c. search needs))
