@@ -2,7 +2,7 @@
 -- Assumes nothing.
 use mathlib.Core.Path.{_≡_, refl, ap, _∙_}
 use mathlib.Core.Bool.{Bool, true, false, cond}
-use mathlib.Core.List.{List, [], _∷_, _++_, map}
+use mathlib.Core.List.{List, [], _∷_, _++_, map, map-append}
 use Prim.Native.Nat.{ℕ, zero, suc, _+_, _≤_, _<_}
 use native.Mathlib.Nat.{not-suc-le-zero, le-of-suc-le-suc, zero-add, add-assoc}
 use native.Mathlib.Omega.{arith}
@@ -60,6 +60,11 @@ module _ {A : Type 0} where
   keep-gather p f [] = refl
   keep-gather p f (x ∷ xs) =
       keep-append p (f x) (gather f xs) ∙ ap (λ (r : List A). keep p (f x) ++ r) (keep-gather p f xs)
+
+-- f of each element of the parts
+pub map-gather : {A B C : Type 0} (f : B → C) (g : A → List B) (xs : List A) → map f (gather g xs) ≡ gather (λ x. map f (g x)) xs
+map-gather f g [] = refl
+map-gather f g (x ∷ xs) = map-append f (g x) (gather g xs) ∙ ap (λ r. map f (g x) ++ r) (map-gather f g xs)
 
 -- a running sum and its next term are within the whole
 pub sum-take-le :

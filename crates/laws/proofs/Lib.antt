@@ -1,3 +1,4 @@
+pub mod Agreeing
 pub mod All
 pub mod Appending
 pub mod Branches
@@ -5,8 +6,11 @@ pub mod Cells
 pub mod Every
 pub mod Gather
 pub mod Indexing
+pub mod Joining
 pub mod Keep
 pub mod Matches
+pub mod Modulo
+pub mod OneMore
 pub mod Positions
 pub mod Ranges
 pub mod Searching

@@ -1,16 +1,17 @@
 -- Laws of `position` and `same`: a search from the front, and two lists compared element by element.
 -- Assumes nothing.
 use mathlib.Core.Path.{_≡_, refl, sym, ap, _∙_}
-use mathlib.Core.Bool.{Bool, true, false, cond}
+use mathlib.Core.Bool.{Bool, true, false, cond, _||_}
 use mathlib.Core.List.{List, [], _∷_}
 use Prim.Native.Nat.{ℕ, zero, suc, _+_, _≤_, _<_, zero-le, suc-le-suc}
 use native.Mathlib.Nat.{not-suc-le-zero, le-of-suc-le-suc, zero-lt-suc, add-zero, zero-add}
 use native.Mathlib.Omega.{arith}
-use lib.Dec.{T, eqb, eqb→eq}
-use borrow.Author.Tests.{eq-eqb}
+use lib.Dec.{T, eqb, ltb, eqb→eq, leb·suc-suc}
+use borrow.Author.Tests.{eq-eqb, lt-ltb}
 use mir.Facts.{and-yes}
 use lib.ListN.{length, getD}
-use Rattle.laws.specs.Lists.{from, below, position, same}
+use Rattle.laws.specs.Lists.{any, from, below, position, same}
+use Rattle.laws.proofs.Tests.{both-ways}
 
 -- the first number from k on that passes is r steps on, or there is none among the n
 position-from : (p : ℕ → Bool) (k n r : ℕ) → r ≤ n → ((i : ℕ) → i < r → p (k + i) ≡ false) → (r < n → p (k + r) ≡ true)
@@ -62,6 +63,27 @@ module _ {A : Type 0} (p : A → Bool) where
       by true e l ih = e
       by false e l ih = ih (le-of-suc-le-suc l)
 
+  -- no element before it does
+  pub position-before : (d : A) (xs : List A) (i : ℕ) → i < position p xs → p (getD xs i d) ≡ false
+  position-before d [] i h = absurd (not-suc-le-zero h)
+  position-before d (x ∷ xs) i h = by (p x) refl i h (λ i h. position-before d xs i h)
+    where
+      by :
+          (b : Bool) → p x ≡ b → (i : ℕ) → i < cond b zero (suc (position p xs))
+          → ((i : ℕ) → i < position p xs → p (getD xs i d) ≡ false) → p (getD (x ∷ xs) i d) ≡ false
+      by true e i h ih = absurd (not-suc-le-zero h)
+      by false e zero h ih = e
+      by false e (suc i) h ih = ih i (le-of-suc-le-suc h)
+
+  -- some element passes exactly if one is found
+  pub any-position : (xs : List A) → any p xs ≡ ltb (position p xs) (length xs)
+  any-position [] = refl
+  any-position (x ∷ xs) = by (p x) (any-position xs)
+    where
+      by : (b : Bool) → any p xs ≡ ltb (position p xs) (length xs) → (b || any p xs) ≡ ltb (cond b zero (suc (position p xs))) (suc (length xs))
+      by true e = sym (lt-ltb zero (suc (length xs)) (zero-lt-suc (length xs)))
+      by false e = e ∙ sym (leb·suc-suc (suc (position p xs)) (length xs))
+
 -- ---- same
 
 pub same-refl : (a : List ℕ) → same a a ≡ true
@@ -87,3 +109,6 @@ same-not a b h = by (same a b) (λ t. h (same-eq a b t))
     by : (c : Bool) → (T c → ⊥) → c ≡ false
     by true n = absurd (n tt)
     by false n = refl
+
+pub same-sym : (a b : List ℕ) → same a b ≡ same b a
+same-sym a b = both-ways (same a b) (same b a) (λ h. rw (same-is b a (sym (same-eq a b h))) tt) (λ h. rw (same-is a b (sym (same-eq b a h))) tt)

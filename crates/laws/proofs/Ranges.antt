@@ -1,14 +1,14 @@
 -- Laws of the ranges of numbers and of sums.
 -- Assumes nothing.
-use mathlib.Core.Bool.{Bool, true, _&&_, and-eq-true-iff}
+use mathlib.Core.Bool.{Bool, true, false, _&&_, _||_, and-eq-true-iff, or-false, or-assoc, true≢false}
 use mathlib.Core.Path.{_≡_, refl, sym, ap, _∙_}
-use mathlib.Core.List.{List, [], _∷_, _++_, map}
+use mathlib.Core.List.{List, [], _∷_, _++_, map, foldl}
 use Prim.Native.Nat.{ℕ, zero, suc, _+_, _≤_, _<_, suc-le-suc}
 use native.Mathlib.Nat.{zero-lt-suc, add-zero, add-suc, suc-add, not-suc-le-zero, le-of-suc-le-suc, zero-add}
 use native.Mathlib.Omega.{arith}
 use lib.ListN.{length, getD, take, length-map, List·getD-map}
 use lib.Seq.{length-take-le, getD-take}
-use Rattle.laws.specs.Lists.{from, all, sum, gather}
+use Rattle.laws.specs.Lists.{from, below, any, all, sum, gather}
 
 pub length-map-from : {A : Type 0} (f : ℕ → A) (k n : ℕ) → length (map f (from k n)) ≡ n
 length-map-from f k zero = refl
@@ -70,6 +70,34 @@ all-from-at p k zero h i b = absurd (not-suc-le-zero b)
 all-from-at p k (suc n) h zero b = ap p (add-zero k) ∙ and-eq-true-iff (p k) (all p (from (suc k) n)) .0 h .0
 all-from-at p k (suc n) h (suc i) b =
     ap p (add-suc k i ∙ sym (suc-add k i)) ∙ all-from-at p (suc k) n (and-eq-true-iff (p k) (all p (from (suc k) n)) .0 h .1) i (le-of-suc-le-suc b)
+
+-- every number below n passes; one of them fails
+pub all-below : (p : ℕ → Bool) (n : ℕ) → ((i : ℕ) → i < n → p i ≡ true) → all p (below n) ≡ true
+all-below p n h = all-from p zero n (λ i b. ap p (zero-add i) ∙ h i b)
+
+pub all-below-not : (p : ℕ → Bool) (n i : ℕ) → i < n → p i ≡ false → all p (below n) ≡ false
+all-below-not p n i h e = by (all p (below n)) refl
+  where
+    by : (b : Bool) → all p (below n) ≡ b → b ≡ false
+    by true a = absurd (true≢false (sym (ap p (sym (zero-add i)) ∙ all-from-at p zero n a i h) ∙ e))
+    by false a = refl
+
+-- one number more
+any-from-suc : (p : ℕ → Bool) (k n : ℕ) → any p (from k (suc n)) ≡ (any p (from k n) || p (k + n))
+any-from-suc p k zero = rw (or-false, add-zero)
+any-from-suc p k (suc n) =
+    ap (λ b. p k || b) (any-from-suc p (suc k) n) ∙ sym (or-assoc (p k) (any p (from (suc k) n)) (p (suc k + n)))
+    ∙ ap (λ m. (p k || any p (from (suc k) n)) || p m) (suc-add k n ∙ sym (add-suc k n))
+
+pub any-below-suc : (p : ℕ → Bool) (n : ℕ) → any p (below (suc n)) ≡ (any p (below n) || p n)
+any-below-suc p n = any-from-suc p zero n ∙ ap (λ m. any p (below n) || p m) (zero-add n)
+
+foldl-from-suc : {A : Type 0} (f : A → ℕ → A) (x : A) (k n : ℕ) → foldl f x (from k (suc n)) ≡ f (foldl f x (from k n)) (k + n)
+foldl-from-suc f x k zero = rw add-zero
+foldl-from-suc f x k (suc n) = foldl-from-suc f (f x k) (suc k) n ∙ ap (f (foldl f (f x k) (from (suc k) n))) (suc-add k n ∙ sym (add-suc k n))
+
+pub foldl-below-suc : {A : Type 0} (f : A → ℕ → A) (x : A) (n : ℕ) → foldl f x (below (suc n)) ≡ f (foldl f x (below n)) n
+foldl-below-suc f x n = foldl-from-suc f x zero n ∙ ap (f (foldl f x (below n))) (zero-add n)
 
 -- parts of a range, each beginning where the sizes before it say, are the range
 pub gather-from : {A : Type 0} (f : ℕ → A) (start size : ℕ → ℕ) (s k n : ℕ) → ((i : ℕ) → i < n → start (k + i) ≡ s + sum (map size (from k i)))
