@@ -1,4 +1,5 @@
 pub mod Computing
+pub mod Widths
 pub mod Examples
 pub mod ByteFacts
 pub mod TokenFacts

@@ -34,6 +34,10 @@ pub record Spot : Type 0 where
   pub index : ℕ
   pub row : Row
 
+-- The row at place j of block b.
+abbrev pub spotAt : Func → ℕ → ℕ → Spot
+spotAt f b j = record { block = b; index = j; row = getD (rowsAt f b) j Row.nop }
+
 abbrev pub spotsFrom : ℕ → ℕ → List Row → List Spot
 spotsFrom b j [] = []
 spotsFrom b j (r ∷ rs) = record { block = b; index = j; row = r } ∷ spotsFrom b (suc j) rs
