@@ -17,10 +17,10 @@ use Rattle.laws.proofs.Every.{Every, none, more, every-append, every-at, every-
 use Rattle.laws.proofs.Sums.{sum-zero, map-getD}
 use Rattle.language.specs.Instructions.{typeCount}
 use Rattle.language.specs.Programs.{Row, Register, Block, Func, Program, noFunction, maxRegisters, maxBlocks, maxRows, noRegister, noBlock, isSsa, blockAt, rowsAt, rowsOf, isPhi, isTerminator, entriesOf, entryCount}
-use Rattle.language.specs.Checking.{Spot, Verdict, check, inRange, typed, breaks9, breaks10, breaks11, breaks12, breaks13, breaks14, breaks15, breaks16, breaks17, breaksRow, distinct, spelledOrNone}
+use Rattle.language.specs.Checking.{Spot, spotAt, Verdict, check, inRange, typed, breaks9, breaks10, breaks11, breaks12, breaks13, breaks14, breaks15, breaks16, breaks17, breaksRow, distinct, spelledOrNone}
 use Rattle.language.specs.Running.{phisOf, phiTarget}
 use Rattle.language.specs.Translating.{phiBlocks, edgesTo, keptBlock, registerFor, translation, translationFits}
-use Rattle.theorems.proofs.Clean.{Clean, spotAt}
+use Rattle.theorems.proofs.Clean.{Clean}
 use Rattle.theorems.proofs.Size.{size-registers, size-blocks, size-rows}
 use Rattle.theorems.proofs.AcceptanceCheck.{clean-of-check, check-of-clean, Sound, sound-parts, parts-sound, in-blocks, passes}
 use Rattle.theorems.proofs.AcceptanceRows.{phi-only, entries-none, range-parts, parts-range, Ended, ended-at, ended-filled}

@@ -1,7 +1,7 @@
 -- The check accepts a function exactly if it is clean: the verdict taken apart into the facts of `Clean`, and put together from them.
 -- Assumes nothing.
 use mathlib.Core.Path.{_≡_, refl, ap, _∙_, subst}
-use mathlib.Core.Bool.{Bool, true, false, cond}
+use mathlib.Core.Bool.{Bool, true, false, cond, not}
 use mathlib.Core.List.{List, [], _∷_, map, map-eq-nil-iff}
 use Prim.Native.Nat.{ℕ, zero, suc, _+_, _≤_, _<_, suc-le-suc}
 use native.Mathlib.Nat.{not-suc-le-zero, le-of-suc-le-suc, zero-add, add-zero, zero-lt-suc, add-suc, suc-add}
@@ -11,14 +11,14 @@ use lib.Dec.{T, leb, ltb, leb→le, le→leb, lit<}
 use lib.Ieee.Bits.{is-true}
 use lib.Ieee.Fits.{and-l, and-r, and-i}
 use lib.ListN.{length, getD, List·getD-eq-default}
-use Rattle.laws.specs.Lists.{all, keep, gather, below, empty}
+use Rattle.laws.specs.Lists.{any, all, keep, gather, below, empty, same}
 use Rattle.laws.proofs.Tests.{not-is-false}
 use Rattle.laws.proofs.Every.{Every, none, more, every-at, every-imp, every-gather, every-gathered, every-below, every-below-at, every-all, every-none, none-every, every-kept, kept-every, every-empty, empty-every}
 use Rattle.language.specs.Programs.{Row, Func, Program, noFunction, noBlock, maxRegisters, maxBlocks, maxRows, maxEntries, entryCount, blockAt, rowsAt, rowsOf, firstRow, maxFunctions}
-use Rattle.language.specs.Checking.{Spot, spotsFrom, spotsIn, spotsOf, inRange, breaks9, breaks10, breaks11, breaks12, breaks13, breaks14, breaks15, breaks16, breaks17, rowTests, breaksRow, Verdict, rowsThat, faults10, faults, firstFault, sizesRight, numbersRight, entryRight, namesRight, sound, judge, judgeFrom, check, rowNumber, spelledOrNone, distinct}
+use Rattle.language.specs.Checking.{Spot, spotAt, spotsFrom, spotsIn, spotsOf, inRange, breaks9, breaks10, breaks11, breaks12, breaks13, breaks14, breaks15, breaks16, breaks17, rowTests, breaksRow, Verdict, rowsThat, faults10, faults, firstFault, sizesRight, numbersRight, entryRight, namesRight, sound, judge, judgeFrom, check, rowNumber, spelledOrNone, distinct}
 use Rattle.language.specs.Instructions.{typeCount, void}
 use Rattle.language.specs.Names.{spelled}
-use Rattle.theorems.proofs.Clean.{Clean, spotAt}
+use Rattle.theorems.proofs.Clean.{Clean}
 
 -- ---- one row
 
@@ -121,7 +121,7 @@ every-spot f h =
 -- ---- the lists of faults
 
 -- The verdict on the lists of faults is `accepted` exactly if all are empty.
-no-faults : (i k : ℕ) (ls : List (List ℕ)) → firstFault i k ls ≡ Verdict.accepted → Every (λ l. l ≡ []) ls
+pub no-faults : (i k : ℕ) (ls : List (List ℕ)) → firstFault i k ls ≡ Verdict.accepted → Every (λ l. l ≡ []) ls
 no-faults i k [] e = none
 no-faults i k ([] ∷ ls) e = more refl (no-faults i (suc k) ls e)
 no-faults i k ((r ∷ rs) ∷ ls) e = absurd (let z : _≡_ {A = ℕ} 0 1 = cc in omega arith)
@@ -133,7 +133,7 @@ faults-none i k ((r ∷ rs) ∷ ls) (more p h) = absurd (let z : _≡_ {A = ℕ}
 
 -- No row at which a test fails: it fails nowhere.
 module _ (f : Func) (test : Spot → Bool) where
-  no-rows : rowsThat f test ≡ [] → (b j : ℕ) → j < length (rowsAt f b) → test (spotAt f b j) ≡ false
+  pub no-rows : rowsThat f test ≡ [] → (b j : ℕ) → j < length (rowsAt f b) → test (spotAt f b j) ≡ false
   unfolding rowsThat
   no-rows e = at-spots f (every-kept test (spotsOf f) (map-eq-nil-iff (rowNumber f) .0 e))
 
@@ -151,9 +151,9 @@ of-filled [] x ys l e = absurd (not-suc-le-zero l)
 of-filled (r ∷ rs) x ys l e = e
 
 -- Block b has rows, and none breaks 10.
-record Terminated (f : Func) (b : ℕ) : Type 0 where
-  filled : 0 < length (rowsAt f b)
-  rows : Every (λ s. breaks10 f s ≡ false) (spotsIn f b)
+pub record Terminated (f : Func) (b : ℕ) : Type 0 where
+  pub filled : 0 < length (rowsAt f b)
+  pub rows : Every (λ s. breaks10 f s ≡ false) (spotsIn f b)
 
 module _ (f : Func) where
   terminated : (b : ℕ) → faults10 f b ≡ [] → Terminated f b
@@ -162,7 +162,7 @@ module _ (f : Func) where
       let p = filled-of (rowsAt f b) (firstRow f b) (map (rowNumber f) (keep (breaks10 f) (spotsIn f b))) e in
       record { filled = p .0; rows = every-kept (breaks10 f) (spotsIn f b) (map-eq-nil-iff (rowNumber f) .0 (p .1)) }
 
-  no-faults10 : gather (faults10 f) (below (length (f .blocks))) ≡ [] → Every (Terminated f) (below (length (f .blocks)))
+  pub no-faults10 : gather (faults10 f) (below (length (f .blocks))) ≡ [] → Every (Terminated f) (below (length (f .blocks)))
   no-faults10 e = every-imp terminated (every-empty (faults10 f) (below (length (f .blocks))) e)
 
   faults10-none :
@@ -200,17 +200,24 @@ pub record Sound (f : Func) : Type 0 where
   pub registersDistinct : T (distinct (map (λ r. r .name) (f .registers)))
   pub blocksDistinct : T (distinct (map (λ b. b .name) (f .blocks)))
 
--- Other functions' names are left aside on the way out, and there are none on the way in.
+-- Other functions' names are a part of their own.
 pub sound-parts : (names : List (List ℕ)) (f : Func) → T (sound names f) → Sound f
 unfolding sound sizesRight numbersRight entryRight namesRight
 sound-parts names f h = search (and-l, and-r, leb→le) depth 9
 
-pub parts-sound : (f : Func) → Sound f → T (sound [] f)
+pub sound-apart : (names : List (List ℕ)) (f : Func) → T (sound names f) → T (not (any (same (f .name)) names))
+unfolding sound
+sound-apart names f h = search and-r
+
+pub parts-sound-among : (names : List (List ℕ)) (f : Func) → Sound f → T (not (any (same (f .name)) names)) → T (sound names f)
 unfolding sound sizesRight numbersRight entryRight namesRight
-parts-sound f h = search (and-i, le→leb, tt) depth 9
+parts-sound-among names f h g = search (and-i, le→leb) depth 9
+
+pub parts-sound : (f : Func) → Sound f → T (sound [] f)
+parts-sound f h = parts-sound-among [] f h tt
 
 -- 9 of a row is 9 of the function's rows.
-all-in-range :
+pub all-in-range :
     (f : Func)
     → T (all (inRange f) (rowsOf f))
     → (b j : ℕ)
@@ -224,7 +231,7 @@ all-in-range f h b j l =
 -- ---- one function
 
 -- 10 of every row, from 10 of every block.
-no-10 :
+pub no-10 :
     (f : Func)
     → Every (Terminated f) (below (length (f .blocks)))
     → (b j : ℕ)
@@ -266,7 +273,7 @@ faults-of-clean f c =
     (more (rows-none f (breaks17 f) (c .paths)) none)))))))
 
 -- A verdict behind a test, or behind another verdict.
-tested : (b : Bool) (v : Verdict) (k r : ℕ) → cond b v (Verdict.refused k r) ≡ Verdict.accepted → T b × (v ≡ Verdict.accepted)
+pub tested : (b : Bool) (v : Verdict) (k r : ℕ) → cond b v (Verdict.refused k r) ≡ Verdict.accepted → T b × (v ≡ Verdict.accepted)
 tested true v k r e = (tt, e)
 tested false v k r e = absurd (let z : _≡_ {A = ℕ} 0 1 = cc in omega arith)
 

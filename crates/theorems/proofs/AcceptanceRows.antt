@@ -16,10 +16,10 @@ use Rattle.laws.proofs.Tests.{of-not-false, beq-eq}
 use Rattle.laws.proofs.Every.{Every, none, more, every-append, every-of, every-imp, every-all, every-keep, every-under, all-under}
 use Rattle.laws.proofs.Gather.{keep-append}
 use Rattle.language.specs.Programs.{Row, Func, rowsAt, typeAt, isPhi, isTerminator, targetsOf, sourcesOf, entriesOf, namedBy}
-use Rattle.language.specs.Checking.{Spot, breaksRow, lastRow, predecessors, shaped, numberFits, inRange, typed, breaks9, breaks10, breaks11, breaks15}
+use Rattle.language.specs.Checking.{Spot, spotAt, breaksRow, lastRow, predecessors, shaped, numberFits, inRange, typed, breaks9, breaks10, breaks11, breaks15}
 use Rattle.language.specs.Running.{phiTarget, phisOf}
 use Rattle.language.specs.Translating.{keptOf}
-use Rattle.theorems.proofs.Clean.{Clean, spotAt}
+use Rattle.theorems.proofs.Clean.{Clean}
 use Rattle.theorems.proofs.AcceptanceCheck.{passes9, passes10, passes11, passes15}
 
 -- ---- phi and terminators

@@ -5,13 +5,9 @@ use mathlib.Core.Bool.{Bool, true, false}
 use mathlib.Core.List.{List, []}
 use Prim.Native.Nat.{ℕ, _<_}
 use lib.Dec.{T}
-use lib.ListN.{length, getD}
-use Rattle.language.specs.Programs.{Row, Func, rowsAt}
-use Rattle.language.specs.Checking.{Spot, sound, breaksRow, breaks17}
-
--- The row at place j of block b.
-abbrev pub spotAt : Func → ℕ → ℕ → Spot
-spotAt f b j = record { block = b; index = j; row = getD (rowsAt f b) j Row.nop }
+use lib.ListN.{length}
+use Rattle.language.specs.Programs.{Func, rowsAt}
+use Rattle.language.specs.Checking.{spotAt, sound, breaksRow, breaks17}
 
 -- The function breaks none of 9 to 17, the names of other functions apart.
 pub record Clean (f : Func) : Type 0 where

@@ -8,6 +8,7 @@ pub mod Table
 pub mod TableIgnored
 pub mod TableView
 pub mod AcceptanceCheck
+pub mod Spots
 pub mod Size
 pub mod AcceptanceRows
 pub mod AcceptanceNumbers
@@ -23,3 +24,6 @@ pub mod SimulationKept
 pub mod SimulationPhis
 pub mod Simulation
 pub mod Demand
+pub mod OverTables
+pub mod ReadMoves
+pub mod ReadFits

@@ -31,12 +31,16 @@ module _ (f : Func) where
   kept-count = length-map numbers (keptBlock f) ∙ length-below (length (f .blocks))
 
   -- block x keeps its number
+  pub kept-block : (x : ℕ) → x < length (f .blocks) → blockAt (translation f) x ≡ keptBlock f x
+  unfolding translation
+  kept-block x l =
+      List·getD-append keptBlocks edgeBlocks noBlock x (rw kept-count l)
+      ∙ getD-map (keptBlock f) numbers x 0 noBlock (rw length-below l)
+      ∙ ap (keptBlock f) (getD-below (length (f .blocks)) x 0 l)
+
   pub kept-rows : (x : ℕ) → x < length (f .blocks) → rowsAt (translation f) x ≡ map (retarget f x) (keptOf (rowsAt f x))
-  unfolding translation keptBlock
-  kept-rows x l =
-      let first = List·getD-append keptBlocks edgeBlocks noBlock x (rw kept-count l) in
-      let block = getD-map (keptBlock f) numbers x 0 noBlock (rw length-below l) in
-      ap (λ (b : Block). b .rows) (first ∙ block ∙ ap (keptBlock f) (getD-below (length (f .blocks)) x 0 l))
+  unfolding keptBlock
+  kept-rows x l = ap (λ (b : Block). b .rows) (kept-block x l)
 
   -- the edge blocks of block y, none if it has no phi
   edgesOf : ℕ → List Block
@@ -87,14 +91,19 @@ module _ (f : Func) where
         ∙ ap edgeBlock (getD-below (length (predecessors f y)) k 0 m)
 
     -- "a block for each pair, by phi block, then predecessor"
-    pub edge-rows :
-        rowsAt (translation f) (length (f .blocks) + pairsBefore f y + k) ≡ edgeRows (newRegister f y) k y (phisOf (rowsAt f y))
+    pub edge-block :
+        blockAt (translation f) (length (f .blocks) + pairsBefore f y + k)
+        ≡ record { name = []; rows = edgeRows (newRegister f y) k y (phisOf (rowsAt f y)) }
     unfolding translation edgeBlock
-    edge-rows =
+    edge-block =
         let n = pairsBefore f y + k in
         let place : length (f .blocks) + pairsBefore f y + k ≡ length keptBlocks + n = omega (arith, kept-count) in
         let later = getD-append-add keptBlocks edgeBlocks n noBlock in
-        ap (λ (b : Block). b .rows) (ap (blockAt (translation f)) place ∙ later ∙ edge-at ∙ edge-is)
+        ap (blockAt (translation f)) place ∙ later ∙ edge-at ∙ edge-is
+
+    pub edge-rows :
+        rowsAt (translation f) (length (f .blocks) + pairsBefore f y + k) ≡ edgeRows (newRegister f y) k y (phisOf (rowsAt f y))
+    edge-rows = ap (λ (b : Block). b .rows) edge-block
 
   -- ---- registers
 

@@ -15,10 +15,10 @@ use Rattle.laws.specs.Lists.{any, all}
 use Rattle.laws.proofs.Indexing.{or-first, or-rest, none-at, all-append-left, all-append-right, getD-lt}
 use Rattle.laws.proofs.Keep.{keep-none, keep-leads, keep-passes}
 use Rattle.language.specs.Programs.{Row, Func, rowsAt, isPhi, isTerminator, targetsOf, sourcesOf, entriesOf, namedBy}
-use Rattle.language.specs.Checking.{inRange, rowTests, breaksRow, breaks9, breaks10, breaks14, sound, numbersRight, entryRight, lastRow}
+use Rattle.language.specs.Checking.{spotAt, inRange, rowTests, breaksRow, breaks9, breaks10, breaks14, sound, numbersRight, entryRight, lastRow}
 use Rattle.language.specs.Running.{Place, phisOf, phiTarget, entryAt, perform, performAt, step, rowHere}
 use Rattle.language.specs.Translating.{keptOf}
-use Rattle.theorems.proofs.Clean.{Clean, spotAt}
+use Rattle.theorems.proofs.Clean.{Clean}
 
 -- The row at place j of block b.
 abbrev pub rowOf : Func → ℕ → ℕ → Row
@@ -96,7 +96,7 @@ target-lt f r e t =
 
 -- ---- the rows of an accepted function
 
-lastRow-at : (rs : List Row) (j : ℕ) → suc j ≡ length rs → lastRow rs ≡ getD rs j Row.nop
+pub lastRow-at : (rs : List Row) (j : ℕ) → suc j ≡ length rs → lastRow rs ≡ getD rs j Row.nop
 lastRow-at [] j e = absurd (omega arith)
 lastRow-at (r ∷ []) zero e = refl
 lastRow-at (r ∷ []) (suc j) e = absurd (omega arith)

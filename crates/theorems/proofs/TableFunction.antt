@@ -87,7 +87,7 @@ module _ (f : Func) (fits : FunctionFits f) where
       (rw (length-gatherFrom entries rowCells 12 Row.nop 0 (rowsOf f) (λ m i b. length-row m (getD (rowsOf f) i Row.nop)))
       (omega (arith, fits .rowCount)))
 
-  length-entries : length (entrySection f) ≡ 1024
+  pub length-entries : length (entrySection f) ≡ 1024
   unfolding entrySection entryCount
   length-entries =
       length-pad 1024 (gather entriesOf (rowsOf f)) (rw (length-gather entriesOf (rowsOf f)) (omega (arith, fits .entryCount)))

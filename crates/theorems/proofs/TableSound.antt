@@ -49,7 +49,7 @@ spelled-bytes s (b ∷ n) h = by (ltb b 256) refl h (spelled-bytes (nextSpelled 
     by true e h ih = (ltb→lt b 256 (subst⁻¹ (λ (c : Bool). T c) e tt), ih h)
     by false e h ih = absurd (subst (λ (x : Spelling). T (whole x)) (wrong-stays n) h)
 
-spelled-fits : (n : List ℕ) → T (spelled n) → NameFits n
+pub spelled-fits : (n : List ℕ) → T (spelled n) → NameFits n
 unfolding spelled
 spelled-fits n h =
     record { short = search (and-l, and-r, leb→le); bytes = spelled-bytes Spelling.none n (search (and-l, and-r)) }
@@ -90,7 +90,7 @@ bytes-under : {n : ℕ} {xs : List ℕ} → n ≤ 256 → Every (λ x. x < n) xs
 bytes-under h none = tt
 bytes-under h (more p q) = (lt-of-lt-of-le p h, bytes-under h q)
 
-width-most : (t : ℕ) → width t ≤ 64
+pub width-most : (t : ℕ) → width t ≤ 64
 unfolding width
 width-most t = by (ltb t 8)
   where

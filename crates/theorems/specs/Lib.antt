@@ -1,3 +1,4 @@
 pub mod Statements
 pub mod TableLaw
 pub mod TableNeeds
+pub mod OverTables
