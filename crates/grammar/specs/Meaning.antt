@@ -1,6 +1,6 @@
 -- The language's stage, token, act and move of the numbers that stand for them here. Assumes nothing.
 use mathlib.Core.Path.{_≡_}
-use mathlib.Core.Bool.{Bool, true, false}
+use mathlib.Core.Bool.{Bool, true, false, cond}
 use mathlib.Core.List.{List, [], _∷_}
 use Prim.Native.Nat.{ℕ}
 use lib.Dec.{eqb}
@@ -127,6 +127,14 @@ isMark c (Word w) = false
 isMark c (Number neg v over) = false
 isMark c (Mark b) = eqb b c
 isMark c End = false
+
+-- The token ends the block at a stage of this kind: the one after an instruction.
+abbrev pub endsBlock : ℕ → Token → Bool
+endsBlock k t = cond (eqb k 18) (isMark 125 t) false
+
+-- The stage of this kind, where an instruction may stand.
+abbrev pub instructionAt : ℕ → Stageᴸ
+instructionAt k = cond (eqb k 18) Stageᴸ.nextInstruction Stageᴸ.firstInstruction
 
 -- The move that a block's name makes, if there is one.
 abbrev pub named : Spot → (List ℕ → Moveᴸ) → Named → Moveᴸ

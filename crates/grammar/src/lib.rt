@@ -11,7 +11,7 @@ ghost use mathlib.Core.List.{List};
 ghost use Prim.Native.Nat.{ℕ};
 ghost use Rattle.language.specs.Words.{isType, isInstruction};
 ghost use Rattle.language.specs.Grammar.{gram as gramOf, aResult, wordWithTarget, wordAlone, inOperand, onMark, onWord, onBlock, isWord, afterSources, afterSource, afterMention, Stage as Stageᴸ, Move as Moveᴸ, sources as sourcesᴸ};
-ghost use Rattle.grammar.specs.Meaning.{Spot, Moves, moveOf, tokenOf, moveTo, stageIs, stageFrom, operandFrom, isMark, named};
+ghost use Rattle.grammar.specs.Meaning.{Spot, Moves, moveOf, tokenOf, moveTo, stageIs, stageFrom, operandFrom, isMark, endsBlock, instructionAt, named};
 
 // What comes next: a kind, how many sources or blocks come after the next one, and a type or an operand's number.
 pub struct Stage {
@@ -393,11 +393,21 @@ fn first_instruction(token: Token) -> Move
     word_alone(w)
 }
 
-// An instruction, or the end of the block.
-fn next_instruction(token: Token) -> Move
-    ensures { λ r. ⌜ Moves (gramOf Stageᴸ.nextInstruction) token r ⌝ }
+// Whether the token ends the block at a stage of this kind: not before an instruction has stood in it.
+fn ends_block(kind: u8, token: Token) -> bool
+    ensures { λ r. ⌜ r ≡ endsBlock kind token ⌝ }
 {
-    if is_mark(token, b'}') {
+    if kind == NEXT_INSTRUCTION {
+        return is_mark(token, b'}');
+    }
+    false
+}
+
+// An instruction, or the end of the block.
+fn next_instruction(kind: u8, token: Token) -> Move
+    ensures { λ r. ⌜ Moves (gramOf (instructionAt kind)) token r ⌝ }
+{
+    if ends_block(kind, token) {
         return Move::to(BLOCKS, Act::EndBlock);
     }
     first_instruction(token)
@@ -556,8 +566,7 @@ pub fn gram(stage: Stage, token: Token) -> Move
         BLOCKS => blocks(token),
         BLOCK_NAME => block_name(token),
         BLOCK_BODY => mark(token, b'{', Move::to(FIRST_INSTRUCTION, Act::Pass)),
-        FIRST_INSTRUCTION => first_instruction(token),
-        NEXT_INSTRUCTION => next_instruction(token),
+        FIRST_INSTRUCTION | NEXT_INSTRUCTION => next_instruction(kind, token),
         ASSIGNMENT => mark(token, b'=', Move::to(INSTRUCTION, Act::Pass)),
         INSTRUCTION => instruction(token),
         SOURCE => source(token, more, detail),

@@ -23,7 +23,7 @@ use Rattle.lexer.specs.declared.numbers.Amount.{Amount}
 use Rattle.lexer.specs.Numbers.{amountFrom, amountOf, grownAt, beyond}
 use Rattle.lexer.specs.Actions.{modeNumber, beginsAt}
 use Rattle.lexer.specs.Lexing.{part, held, Stands, Means, tokenBytes, Finds, Gives, lexerFrom, lexedFrom}
-use Rattle.lexer.specs.Advancing.{nameOrWordAt, begunAt, enteredAt, singleAt, endedAt, longerAt, numberAt, advancedAt, endsAt, findingAt}
+use Rattle.lexer.specs.Advancing.{spellingAt, nameOrWordAt, begunAt, enteredAt, singleAt, endedAt, longerAt, numberAt, advancedAt, endsAt, findingAt}
 use Rattle.lexer.proofs.Amounts.{grown-amount}
 use Rattle.lexer.proofs.Acting.{Begins, Act, Named, begins-as}
 
@@ -223,7 +223,7 @@ module _ (text : List ℕ) (l : meaning.Lexer) (c : Lexer) (s : Stands text l c)
 
   named : l .bytes ≡ part text (c .start) (c .next)
       → Finds text (founds.Token (c .start) (nameOrWordAt (part text (c .start) (c .next)))) (meaning.Found.token (l .start) (nameOrWord (l .bytes)) ∷ [])
-  unfolding nameOrWordAt nameOrWord
+  unfolding spellingAt nameOrWord
   named h =
       rw (← s .start, h)
       (Finds.token (c .start) _ _ (name-or-word (eqb (wordOf (part text (c .start) (c .next))) wordCount) refl) (in-text (eqb (wordOf (part text (c .start) (c .next))) wordCount)))

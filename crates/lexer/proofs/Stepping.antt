@@ -5,19 +5,23 @@ use mathlib.Core.List.{List, [], _∷_, _++_, foldl, foldl-append, map}
 use Prim.Native.Nat.{ℕ, _+_, _-_, _≤_, _<_}
 use native.Mathlib.Nat.{le-refl, zero-add}
 use native.Mathlib.Omega.{arith}
+use borrow.Author.Tests.{eqb-true}
 use lib.Dec.{eqb, ltb, leb}
 use lib.ListN.{length, getD}
+use Rattle.laws.proofs.Branches.{branches}
 use Rattle.laws.proofs.Searching.{getD-range}
 use Rattle.language.specs.Bytes.{classOf, classNumber}
 use Rattle.language.specs.Tokens as meaning
 use Rattle.language.specs.Tokens.{Mode, quiet, lexStep, lexMore, lexEnd}
 use Rattle.lexer.specs.declared.Lexer.{Lexer}
 use Rattle.lexer.specs.declared.Lexed.{Lexed}
+use Rattle.lexer.specs.declared.Token.{Token}
+use Rattle.lexer.specs.declared.Token.the-variants as tokens
 use Rattle.lexer.specs.declared.Found.{Found}
 use Rattle.lexer.specs.declared.Found.the-variants as founds
-use Rattle.lexer.specs.Actions.{modeNumber, actionAt}
-use Rattle.lexer.specs.Lexing.{classTable, part, held, Stands, Finds, Gives, lexerFrom, lexedFrom, Stepped, Scanned, Finished}
-use Rattle.lexer.specs.Advancing.{begunAt, enteredAt, endedAt, longerAt, numberAt, advancedAt, endsAt, findingAt}
+use Rattle.lexer.specs.Actions.{modeNumber, beginsAt, inPlainAt, actionAt}
+use Rattle.lexer.specs.Lexing.{classTable, part, held, Stands, Finds, Gives, lexerFrom, lexedFrom, Passed, Onward, Stepped, Scanned, Finished}
+use Rattle.lexer.specs.Advancing.{freshAt, begunAt, enteredAt, singleAt, endedAt, longerAt, numberAt, advancedAt, endsAt, findingAt}
 use Rattle.lexer.proofs.Acting.{Act, Counted, acts}
 use Rattle.lexer.proofs.Standing.{part-more, part-none, length-part, advances, advances-quietly, finds-gives, ends-found}
 
@@ -113,14 +117,6 @@ module _ (text : List ℕ) (c : Lexer) (b k a : ℕ) (order : c .start ≤ c .ne
 
 -- ---- the bytes up to the first that finds something
 
--- the bytes from c on, up to d, found nothing
-pub record Passed (text : List ℕ) (c d : Lexer) : Type 0 where
-  pub forth : c .next ≤ d .next
-  pub within : d .next ≤ length text
-  pub order : d .start ≤ d .next
-  pub stands : (l : meaning.Lexer) → Stands text l c → Stands text (foldl lexMore (quiet l) (part text (c .next) (d .next)) .lexer) d
-  pub quietly : (l : meaning.Lexer) → Stands text l c → foldl lexMore (quiet l) (part text (c .next) (d .next)) .found ≡ []
-
 pub passed-none : (text : List ℕ) (c : Lexer) → c .next ≤ length text → c .start ≤ c .next → Passed text c c
 passed-none text c h o =
     let z = part-none text (c .next) in
@@ -169,16 +165,87 @@ module _ (text : List ℕ) (c d : Lexer) (p : Passed text c d) (b k a : ℕ) (wi
             (record { lexer = g .lexer; one = g .one; two = g .two; first = g .first; second = g .second; found = rw (p .quietly l s) (g .found) });
       }
 
-pub passed-all : (text : List ℕ) (c d : Lexer) → Passed text c d → length text ≤ d .next → Scanned text c (lexedFrom d founds.Nothing founds.Nothing)
+pub passed-all : (text : List ℕ) (c d : Lexer) → Passed text c d → (c .next < length text → c .next < d .next)
+    → Scanned text c (lexedFrom d founds.Nothing founds.Nothing)
 passed-all text c d p h =
     record {
       forth = p .forth;
-      moves = λ i. omega arith;
+      moves = h;
       within = p .within;
       order = p .order;
       gives =
           λ l s. record { lexer = p .stands l s; one = []; two = []; first = Finds.nothing; second = Finds.nothing; found = p .quietly l s };
     }
+
+-- ---- in a plain name
+
+in-plain : (k n : ℕ) → k < 2 → n < 64 → 1 ≡ inPlainAt k n
+unfolding inPlainAt
+in-plain k n t u = search branches
+
+past-plain : (k n : ℕ) → 2 ≤ k → 32 ≡ inPlainAt k n
+unfolding inPlainAt
+past-plain k n t = search branches
+
+-- ---- runs of bytes that leave the same kind of thing open
+
+pub onward-none : (text : List ℕ) (c : Lexer) → c .next ≤ length text → c .start ≤ c .next → Onward text c c
+onward-none text c h o = record { mode = refl; forth = le-refl (c .next); within = h; order = o; passed = λ o p. p }
+
+module _ (text : List ℕ) (c d : Lexer) (p : Onward text c d) (b k : ℕ) (within : d .next < length text)
+    (e : b ≡ getD text (d .next) 0) (small : b < 256) (class : k ≡ classNumber (classOf b)) where
+  onward-more : (a : ℕ) → a ≡ actionAt (d .mode) k b (d .next - d .start) → a < 32 → advancedAt d a b .mode ≡ d .mode
+      → Onward text c (advancedAt d a b)
+  onward-more a action h m =
+      let v = advanced-moved d (p .order) a b in
+      record {
+        mode = m ∙ p .mode;
+        forth = omega (arith, v .next, p .forth);
+        within = omega (arith, v .next);
+        order = v .order;
+        passed = λ o q. passed-more text o d (p .passed o q) b k a within e small class action h;
+      }
+
+  -- a space, with nothing open
+  pub space-on : c .mode ≡ 0 → k ≡ 2 → Onward text c (advancedAt d 16 b)
+  unfolding actionAt beginsAt advancedAt begunAt
+  space-on z t = onward-more 16 (rw (p .mode ∙ z, t)) (omega arith) (sym (p .mode ∙ z))
+
+  -- a name character, in a plain name that has room
+  pub letter-on : c .mode ≡ 1 → k < 2 → d .next - d .start < 64 → Onward text c (advancedAt d 1 b)
+  unfolding actionAt advancedAt
+  letter-on z t u = onward-more 1 (rw (p .mode ∙ z) (in-plain k (d .next - d .start) t u)) (omega arith) (sym (p .mode ∙ z))
+
+-- ---- marks and plain names
+
+pub fresh-is : (m k n : ℕ) → freshAt m k ≡ n → n < 7 → (m ≡ 0) × (k ≡ n)
+unfolding freshAt
+fresh-is m k n = by (eqb m 0) refl
+  where
+    by : (t : Bool) → eqb m 0 ≡ t → cond t k 7 ≡ n → n < 7 → (m ≡ 0) × (k ≡ n)
+    by true q e h = (eqb-true m 0 q, e)
+    by false q e h = absurd (omega (arith, e))
+
+module _ (text : List ℕ) (c d : Lexer) (p : Passed text c d) (b k : ℕ) (within : d .next < length text)
+    (e : b ≡ getD text (d .next) 0) (small : b < 256) (class : k ≡ classNumber (classOf b)) where
+  -- a mark, with nothing open
+  pub mark-found : d .mode ≡ 0 → k ≡ 6 → Scanned text c (lexedFrom (begunAt 0 (d .next) b) (founds.Token (d .next) (tokens.Mark b)) founds.Nothing)
+  unfolding actionAt beginsAt findingAt singleAt
+  mark-found z t = passed-found text c d p b k 35 within e small class (rw (z, t)) (omega arith)
+
+  -- a letter, with nothing open, begins a plain name
+  pub name-begun : d .mode ≡ 0 → k ≡ 0 → Passed text c (advancedAt d 17 b)
+  unfolding actionAt beginsAt
+  name-begun z t = passed-more text c d p b k 17 within e small class (rw (z, t)) (omega arith)
+
+  -- a byte that ends a plain name
+  pub name-ended : d .mode ≡ 1 → 2 ≤ k → Scanned text c (endsAt text d k b)
+  unfolding actionAt findingAt
+  name-ended z t = passed-found text c d p b k 32 within e small class (rw z (past-plain k (d .next - d .start) t)) (omega arith)
+
+pub plain-begun : (d : Lexer) (b : ℕ) → advancedAt d 17 b .mode ≡ 1
+unfolding advancedAt begunAt
+plain-begun d b = refl
 
 -- one byte, either way
 module _ (text : List ℕ) (c : Lexer) (b k a : ℕ) (order : c .start ≤ c .next) (within : c .next < length text)

@@ -17,8 +17,16 @@ use Rattle.lexer.specs.Numbers.{amountFrom, grownAt}
 use Rattle.lexer.specs.Actions.{beginsAt}
 use Rattle.lexer.specs.Lexing.{lexerFrom, lexedFrom, part}
 
-unfoldable pub nameOrWordAt : List ℕ → Token
-nameOrWordAt n = cond (eqb (wordOf n) wordCount) (tokens.Name (length n)) (tokens.Word (wordOf n))
+unfoldable pub spellingAt : (word bytes : ℕ) → Token
+spellingAt w n = cond (eqb w wordCount) (tokens.Name n) (tokens.Word w)
+
+-- The token of a plain spelling.
+abbrev pub nameOrWordAt : List ℕ → Token
+nameOrWordAt n = spellingAt (wordOf n) (length n)
+
+-- The class of a byte before which nothing is open; else 7.
+unfoldable pub freshAt : (mode class : ℕ) → ℕ
+freshAt m k = cond (eqb m 0) k 7
 
 unfoldable pub begunAt : (mode place byte : ℕ) → Lexer
 begunAt m p b =

@@ -91,6 +91,24 @@ pub record Gives (text : List ℕ) (x : meaning.Lexed) (r : Lexed) : Type 0 wher
 
 -- ---- what the functions promise
 
+-- The bytes from c's place up to d's find nothing, and bring c to d.
+pub record Passed (text : List ℕ) (c d : Lexer) : Type 0 where
+  pub forth : c .next ≤ d .next
+  pub within : d .next ≤ length text
+  pub order : d .start ≤ d .next
+  pub stands : (l : meaning.Lexer) → Stands text l c
+      → Stands text (foldl meaning.lexMore (meaning.quiet l) (part text (c .next) (d .next)) .lexer) d
+  pub quietly : (l : meaning.Lexer) → Stands text l c
+      → foldl meaning.lexMore (meaning.quiet l) (part text (c .next) (d .next)) .found ≡ []
+
+-- The same kind of thing goes on being open, and whatever passed up to c passed up to d.
+pub record Onward (text : List ℕ) (c d : Lexer) : Type 0 where
+  pub mode : d .mode ≡ c .mode
+  pub forth : c .next ≤ d .next
+  pub within : d .next ≤ length text
+  pub order : d .start ≤ d .next
+  pub passed : (o : Lexer) → Passed text o c → Passed text o d
+
 -- After one byte: whatever c stands for, the answer stands for what the definition's step gives.
 pub record Stepped (text : List ℕ) (c : Lexer) (r : Lexed) : Type 0 where
   pub next : r .lexer .next ≡ c .next + 1

@@ -9,7 +9,7 @@ ghost use Rattle.lexer.specs.Actions.{digitModeAt, beginsAt, inPlainAt, 
 const MAX_NAME: usize = 64;
 
 // Zero begins `0x` too.
-fn digit_mode(b: u8) -> u8
+fn digit_mode(b: u8) -> u16
     ensures { λ r. ⌜ r ≡ digitModeAt b ⌝ }
 {
     if b == 48 {
@@ -19,7 +19,7 @@ fn digit_mode(b: u8) -> u8
 }
 
 // With nothing open, by the byte's class.
-pub fn begins(class: u8, b: u8) -> u8
+pub fn begins(class: u8, b: u8) -> u16
     ensures { λ r. ⌜ r ≡ beginsAt class b ⌝ }
 {
     match class {
@@ -40,7 +40,7 @@ pub fn begins(class: u8, b: u8) -> u8
 }
 
 // In a plain name of this length.
-fn in_plain(class: u8, length: usize) -> u8
+fn in_plain(class: u8, length: usize) -> u16
     ensures { λ r. ⌜ r ≡ inPlainAt class length ⌝ }
 {
     if class < 2 {
@@ -53,7 +53,7 @@ fn in_plain(class: u8, length: usize) -> u8
 }
 
 // In quotes, at a byte that closes nothing. "a backslash directly before a quote makes that quote part of the name"
-fn in_quotes(b: u8, length: usize) -> u8
+fn in_quotes(b: u8, length: usize) -> u16
     ensures { λ r. ⌜ r ≡ inQuotesAt b length ⌝ }
 {
     if length < MAX_NAME {
@@ -66,7 +66,7 @@ fn in_quotes(b: u8, length: usize) -> u8
 }
 
 // In quotes, after something else than a backslash. "quote, one or more bytes, quote"
-fn in_quoted(b: u8, length: usize) -> u8
+fn in_quoted(b: u8, length: usize) -> u16
     ensures { λ r. ⌜ r ≡ inQuotedAt b length ⌝ }
 {
     if b != 39 {
@@ -82,7 +82,7 @@ fn in_quoted(b: u8, length: usize) -> u8
 }
 
 // After a number. "A name character directly after makes it no token."
-fn after_number(class: u8) -> u8
+fn after_number(class: u8) -> u16
     ensures { λ r. ⌜ r ≡ afterNumberAt class ⌝ }
 {
     if class < 2 {
@@ -92,7 +92,7 @@ fn after_number(class: u8) -> u8
 }
 
 // In or after decimal digits.
-fn in_decimal(class: u8) -> u8
+fn in_decimal(class: u8) -> u16
     ensures { λ r. ⌜ r ≡ inDecimalAt class ⌝ }
 {
     if class == 1 {
@@ -102,7 +102,7 @@ fn in_decimal(class: u8) -> u8
 }
 
 // After a sign, in a number, or after its prefix.
-fn in_number(mode: u8, class: u8, b: u8) -> u8
+fn in_number(mode: u16, class: u8, b: u8) -> u16
     ensures { λ r. ⌜ r ≡ inNumberAt mode class b ⌝ }
 {
     match mode {
@@ -135,7 +135,7 @@ fn in_number(mode: u8, class: u8, b: u8) -> u8
 }
 
 // In a mode, at a byte b of a class, after so many bytes of what is open.
-pub fn action(mode: u8, class: u8, b: u8, length: usize) -> u8
+pub fn action(mode: u16, class: u8, b: u8, length: usize) -> u16
     ensures { λ r. ⌜ r ≡ actionAt mode class b length ⌝ }
 {
     match mode {

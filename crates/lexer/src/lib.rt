@@ -11,18 +11,19 @@ ghost use mathlib.Core.Bool.{true, false};
 ghost use mathlib.Core.Path.{_≡_};
 ghost use Prim.Native.Nat.{_+_, _≤_, _<_};
 ghost use lib.ListN.{length};
-ghost use Rattle.lexer.specs.Lexing.{classTable, lexerFrom, Stepped, Scanned, Finished};
-ghost use Rattle.lexer.specs.Advancing.{nameOrWordAt, begunAt, enteredAt, singleAt, endedAt, longerAt, numberAt, advancedAt, endsAt, findingAt};
+ghost use Rattle.lexer.specs.Lexing.{classTable, lexerFrom, Passed, Onward, Stepped, Scanned, Finished};
+ghost use Rattle.lexer.specs.Advancing.{spellingAt, freshAt, begunAt, enteredAt, singleAt, endedAt, longerAt, numberAt, advancedAt, endsAt, findingAt};
 
 // What the bytes so far leave open (between 0, plain name 1, quoted name 2, escaping 3, slash 4, comment 5, sign 6, leading
 // zero 7, decimal 8, prefix 9, hexadecimal 10), the place of the next byte, the place where what is open began, and a
-// number's sign and value; `over` says that the value is 2^64 or more, and then `value` is 0.
+// number's sign and value; `over` says that the value is 2^64 or more, and then `value` is 0. The fields stand so that no odd
+// number of bytes lies between or behind them: such a gap is copied apart, at every token.
 pub struct Lexer {
-    pub mode: u8,
     pub next: usize,
     pub start: usize,
-    pub negative: bool,
     pub value: u64,
+    pub mode: u16,
+    pub negative: bool,
     pub over: bool,
 }
 
@@ -50,19 +51,28 @@ pub struct Lexed {
     pub second: Found,
 }
 
-// "A plain spelling of .. is a word and never a name."
-fn name_or_word(name: &[u8]) -> Token
-    ensures { λ r. ⌜ r ≡ nameOrWordAt (now (name .entry)) ⌝ }
+// "A plain spelling of .. is a word and never a name.": a spelling of so many bytes, whose word this is.
+fn name_or_word(word: u8, length: usize) -> Token
+    ensures { λ r. ⌜ r ≡ spellingAt word length ⌝ }
 {
-    let w = words::word(name);
-    if w == 52 {
-        return Token::Name(name.len());
+    if word == 52 {
+        return Token::Name(length);
     }
-    Token::Word(w)
+    Token::Word(word)
+}
+
+// The class of a byte before which nothing is open; else 7, which begins nothing.
+fn fresh(mode: u16, class: u8) -> u8
+    ensures { λ r. ⌜ r ≡ freshAt mode class ⌝ }
+{
+    if mode == 0 {
+        return class;
+    }
+    7
 }
 
 // The byte b at p begins a mode below 6, a sign, or a number's digits.
-fn begun(mode: u8, p: usize, b: u8) -> Lexer
+fn begun(mode: u16, p: usize, b: u8) -> Lexer
     requires { ⌜ p < 18446744073709551615 ⌝ }
     ensures { λ r. ⌜ r ≡ begunAt mode p b ⌝ }
 {
@@ -97,7 +107,7 @@ fn begun(mode: u8, p: usize, b: u8) -> Lexer
 }
 
 // The lexer past a byte at p that began something, or was a token or none by itself.
-fn entered(action: u8, p: usize, b: u8) -> Lexer
+fn entered(action: u16, p: usize, b: u8) -> Lexer
     requires { ⌜ (p < 18446744073709551615) × (16 ≤ action) ⌝ }
     ensures { λ r. ⌜ r ≡ enteredAt action p b ⌝ }
 {
@@ -108,7 +118,7 @@ fn entered(action: u8, p: usize, b: u8) -> Lexer
 }
 
 // What that byte was by itself.
-fn single(action: u8, p: usize, b: u8) -> Found
+fn single(action: u16, p: usize, b: u8) -> Found
     ensures { λ r. ⌜ r ≡ singleAt action p b ⌝ }
 {
     if action < 35 {
@@ -144,7 +154,8 @@ impl Lexer {
         let next = self.next;
         let mode = self.mode;
         if mode == 1 {
-            return Found::Token(start, name_or_word(&text[start..next]));
+            let name = &text[start..next];
+            return Found::Token(start, name_or_word(words::word(name), name.len()));
         }
         if mode == 0 {
             return Found::Nothing;
@@ -162,7 +173,7 @@ impl Lexer {
     }
 
     // One byte more of a name.
-    fn longer_name(self, mode: u8) -> Self
+    fn longer_name(self, mode: u16) -> Self
         requires { ⌜ self .next < 18446744073709551615 ⌝ }
         ensures { λ r. ⌜ r ≡ longerAt self mode ⌝ }
     {
@@ -177,7 +188,7 @@ impl Lexer {
     }
 
     // One byte more of a number, whose value is now this.
-    fn longer_number(self, mode: u8, x: Amount) -> Self
+    fn longer_number(self, mode: u16, x: Amount) -> Self
         requires { ⌜ self .next < 18446744073709551615 ⌝ }
         ensures { λ r. ⌜ r ≡ numberAt self mode x ⌝ }
     {
@@ -192,7 +203,7 @@ impl Lexer {
     }
 
     // Past a byte that finds nothing.
-    fn advanced(self, action: u8, b: u8) -> Self
+    fn advanced(self, action: u16, b: u8) -> Self
         requires { ⌜ self .next < 18446744073709551615 ⌝ }
         ensures { λ r. ⌜ r ≡ advancedAt self action b ⌝ }
     {
@@ -234,7 +245,7 @@ impl Lexer {
     }
 
     // Past a byte that finds something.
-    fn finding(self, text: &[u8], class: u8, action: u8, b: u8) -> Lexed
+    fn finding(self, text: &[u8], class: u8, action: u16, b: u8) -> Lexed
         requires { ⌜ (self .start ≤ self .next) × (self .next < length (now text)) ⌝ }
         ensures { λ r. ⌜ r ≡ findingAt (now (text .entry)) self class action b ⌝ }
     {
@@ -283,10 +294,96 @@ impl Lexer {
         }
     }
 
-    // The bytes up to and with the first that finds something.
-    pub fn scan(self, text: &[u8], classes: &[u8; 256]) -> Lexed
+    // Past the spaces from here on, where nothing is open.
+    fn spaced(self, text: &[u8], classes: &[u8; 256]) -> Self
         requires { ⌜ (self .start ≤ self .next) × (self .next ≤ length (now text)) × (now classes ≡ classTable) ⌝ }
-        ensures { λ r. ⌜ Scanned (now (text .entry)) self r ⌝ }
+        ensures { λ r. ⌜ Onward (now (text .entry)) self r ⌝ }
+    {
+        if self.mode != 0 {
+            return self;
+        }
+        let mut l = self;
+        while l.next < text.len() {
+            let next = l.next;
+            let b = text[next];
+            let class = classes[b as usize];
+            if class != 2 {
+                return l;
+            }
+            l = l.advanced(16, b);
+        }
+        l
+    }
+
+    // Past the rest of the plain name that is open.
+    fn lettered(self, text: &[u8], classes: &[u8; 256]) -> Self
+        requires { ⌜ (self .start ≤ self .next) × (self .next ≤ length (now text)) × (now classes ≡ classTable) ⌝ }
+        requires { ⌜ self .mode ≡ 1 ⌝ }
+        ensures { λ r. ⌜ Onward (now (text .entry)) self r ⌝ }
+    {
+        let mut l = self;
+        while l.next < text.len() {
+            let next = l.next;
+            let b = text[next];
+            let class = classes[b as usize];
+            if 2 <= class {
+                return l;
+            }
+            if 64 <= next - l.start {
+                return l;
+            }
+            l = l.advanced(1, b);
+        }
+        l
+    }
+
+    // Past a byte that ends the plain name that is open.
+    fn ends_name(self, text: &[u8], class: u8, b: u8) -> Lexed
+        requires { ⌜ (self .start ≤ self .next) × (self .next < length (now text)) × (self .mode ≡ 1) ⌝ }
+        ensures { λ r. ⌜ r ≡ endsAt (now (text .entry)) self class b ⌝ }
+    {
+        let start = self.start;
+        let next = self.next;
+        let name = &text[start..next];
+        let token = name_or_word(words::word(name), name.len());
+        let a = actions::begins(class, b);
+        Lexed {
+            lexer: entered(a, next, b),
+            first: Found::Token(start, token),
+            second: single(a, next, b),
+        }
+    }
+
+    // The byte after the plain name that is open, if it ends it.
+    fn named(self, text: &[u8], classes: &[u8; 256]) -> Lexed
+        requires { ⌜ (self .start ≤ self .next) × (self .next ≤ length (now text)) × (now classes ≡ classTable) ⌝ }
+        requires { ⌜ self .mode ≡ 1 ⌝ }
+        ensures { λ r. ⌜ ((c : Lexer) → Passed (now (text .entry)) c self → c .next < self .next → Scanned (now (text .entry)) c r) ⌝ }
+    {
+        let next = self.next;
+        if text.len() <= next {
+            return Lexed {
+                lexer: self,
+                first: Found::Nothing,
+                second: Found::Nothing,
+            };
+        }
+        let b = text[next];
+        let class = classes[b as usize];
+        if class < 2 {
+            return Lexed {
+                lexer: self,
+                first: Found::Nothing,
+                second: Found::Nothing,
+            };
+        }
+        self.ends_name(text, class, b)
+    }
+
+    // The bytes up to and with the first that finds something, whatever is open.
+    fn passing(self, text: &[u8], classes: &[u8; 256]) -> Lexed
+        requires { ⌜ (self .start ≤ self .next) × (self .next ≤ length (now text)) × (now classes ≡ classTable) ⌝ }
+        ensures { λ r. ⌜ ((c : Lexer) → Passed (now (text .entry)) c self → Scanned (now (text .entry)) c r) ⌝ }
     {
         let mut l = self;
         while l.next < text.len() {
@@ -304,6 +401,37 @@ impl Lexer {
             first: Found::Nothing,
             second: Found::Nothing,
         }
+    }
+
+    // Some bytes up to and with one that finds something, if there is one. Marks and plain names, which most of a text is made of,
+    // are found with no question what is open.
+    pub fn scan(self, text: &[u8], classes: &[u8; 256]) -> Lexed
+        requires { ⌜ (self .start ≤ self .next) × (self .next ≤ length (now text)) × (now classes ≡ classTable) ⌝ }
+        ensures { λ r. ⌜ Scanned (now (text .entry)) self r ⌝ }
+    {
+        let l = self.spaced(text, classes);
+        let next = l.next;
+        if text.len() <= next {
+            return Lexed {
+                lexer: l,
+                first: Found::Nothing,
+                second: Found::Nothing,
+            };
+        }
+        let b = text[next];
+        let class = fresh(l.mode, classes[b as usize]);
+        if class == 6 {
+            return Lexed {
+                lexer: begun(0, next, b),
+                first: Found::Token(next, Token::Mark(b)),
+                second: Found::Nothing,
+            };
+        }
+        if class == 0 {
+            let name = l.advanced(17, b).lettered(text, classes);
+            return name.named(text, classes);
+        }
+        l.passing(text, classes)
     }
 
     // What the text's end ends, before the token of the end itself.
