@@ -1,2 +1,3 @@
 pub mod Digits
 pub mod Stored
+pub mod Tails
