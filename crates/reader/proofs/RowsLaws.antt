@@ -3,12 +3,12 @@
 use mathlib.Core.Bool.{Bool, true, false, cond}
 use mathlib.Core.Path.{_≡_, refl, sym, ap, _∙_, subst}
 use mathlib.Core.List.{List, [], _∷_, _++_}
-use Prim.Native.Nat.{ℕ, zero, suc, _+_, _-_, _*_, _/_, _%_, _^_, _≤_, _<_, min}
-use native.Mathlib.Nat.{zero-lt-suc, mod-lt, mod-self, mod-eq-of-lt}
+use Prim.Native.Nat.{ℕ, _+_, _-_, _*_, _/_, _%_, _^_, _≤_, _<_, min}
+use native.Mathlib.Nat.{zero-lt-suc, mod-self, mod-eq-of-lt}
 use native.Mathlib.Numerals.{add-one}
 use native.Mathlib.Decide.{decLt}
 use native.Mathlib.Omega.{arith}
-use lib.Dec.{T, eqb, leb, ltb, eqb→eq, leb→le, leb·suc-suc, lit<, lit≤}
+use lib.Dec.{T, eqb, leb, ltb, eqb→eq, leb→le, leb·suc-suc, lit<}
 use lib.ListN.{length, getD, length-append, List·getD-append, List·getD-eq-default}
 use lib.Seq.{sets, length-sets, getD-append-seam}
 use borrow.Author.Tests.{lt-ltb, le-ltb, lt-leb, ne-eqb}
@@ -20,6 +20,7 @@ use Rattle.language.specs.Programs.{Block, entriesOf, entryCount}
 use Rattle.language.specs.Table.{functionAt, nameAt, four, fourBytes, eightBytes}
 use Rattle.language.specs.Reading.{Draft, Parts, Mention, Outcome, partsOf, draftOf, noParts, withParts, openFunction, rowCount, phiEntries, registerNumber, rowOf}
 use Rattle.language.specs.Reading.{beginInstruction, setTarget, setInstruction, addSource, addEntry, addMention, inRange, bitsOf, setNumber, endInstruction}
+use Rattle.language.proofs.Widths.{Powers, widths, powers}
 use Rattle.grammar.specs.Meaning.{operandFrom}
 use Rattle.instructions.specs.Shapes.{shapeOf, operandNumber as shapeOperand}
 use Rattle.instructions.specs.declared.Shape.{Shape}
@@ -443,33 +444,6 @@ mention-put {s} b n p pend fit less push bh bg f g =
     (λ t. mention-proceeds b n p t less push bh bg, scratch-stored s n p pend (fit .0) less (fit .1) (fit .2) f g)
 
 -- ---- a load's number
-
--- a type has one of four widths
-widths : (P : ℕ → Type 0) → P 8 → P 16 → P 32 → P 64 → (t : ℕ) → P (width t)
-unfolding width
-widths P a b c d t = by (ltb t 8) (t % 4) (mod-lt t (zero-lt-suc 3))
-  where
-    by : (g : Bool) (k : ℕ) → k < 4 → P (cond g (8 * 2 ^ k) 64)
-    by true zero l = a
-    by true (suc zero) l = b
-    by true (suc (suc zero)) l = c
-    by true (suc (suc (suc zero))) l = d
-    by true (suc (suc (suc (suc k)))) l = absurd (omega arith)
-    by false k l = d
-
--- 2 to the width of a type, and half of it
-record Powers (t : ℕ) : Type 0 where
-  half : 2 * 2 ^ (width t - 1) ≡ 2 ^ width t
-  low : 256 ≤ 2 ^ width t
-  high : 2 ^ width t ≤ 18446744073709551616
-
-powers : (t : ℕ) → Powers t
-powers t =
-    record {
-      half = widths (λ w. 2 * 2 ^ (w - 1) ≡ 2 ^ w) refl refl refl refl t;
-      low = widths (λ w. 256 ≤ 2 ^ w) (lit≤ tt) (lit≤ tt) (lit≤ tt) (lit≤ tt) t;
-      high = widths (λ w. 2 ^ w ≤ 18446744073709551616) (lit≤ tt) (lit≤ tt) (lit≤ tt) (lit≤ tt) t;
-    }
 
 -- a width that is none of the smaller three
 pub width-last : (t : ℕ) → (width t ≡ 8 → ⊥) → (width t ≡ 16 → ⊥) → (width t ≡ 32 → ⊥) → width t ≡ 64

@@ -2,7 +2,7 @@
 use mathlib.Core.Path.{_≡_, refl, sym, ap, subst, subst⁻¹, _∙_}
 use mathlib.Core.Bool.{Bool, true, false, cond, _&&_}
 use mathlib.Core.List.{List, [], _∷_, _++_, foldl, foldl-append}
-use Prim.Native.Nat.{ℕ, zero, suc, _+_, _≤_, _<_}
+use Prim.Native.Nat.{ℕ, zero, suc, _+_, _-_, _≤_, _<_}
 use native.Mathlib.Omega.{arith}
 use native.Mathlib.Nat.{le-refl}
 use lib.Dec.{T, eqb, leb, leb→le, lit≤}
@@ -38,7 +38,7 @@ use Rattle.lexer.specs.declared.Token.the-variants as tokens
 use Rattle.lexer.proofs.Folds.{stands-first, lex-onward, read-bytes, take-part, reads-on}
 use Rattle.reader.specs.Draft.{closedTable}
 use Rattle.reader.specs.State.{Bounded, Counts, betweenAt}
-use Rattle.reader.specs.Parse.{standing, Follows, Reads, Reached, Lent, Placed, Takes, PlacedAt, FoundIn, TakesFound, TakesBoth, Told, TakesEnd}
+use Rattle.reader.specs.Parse.{standing, Follows, Reads, Reached, Lent, Placed, Takes, PlacedAt, FoundIn, TakesFound, TakesBoth, Nexts, Told}
 use Rattle.reader.specs.declared.state.Reader.{Reader}
 use Rattle.reader.specs.declared.state.Taken.{Taken}
 use Rattle.reader.specs.declared.state.Taken.the-variants as taken
@@ -293,45 +293,55 @@ module _ {t pend : List ℕ} (c : Reader) where
       let draft : d ≡ d′ = cc in
       rw draft (program-told s′ d′ c f (sym (ap isTop stage) ∙ e))
 
-  end-taken : {t₁ pend₁ : List ℕ} {x : Parse} {c₁ : Reader} → Reads t₁ pend₁ x (taken.Reading c₁) → (n : ℕ)
-      → Reads t pend (meaning.take x (Foundᴸ.token n Token.end)) (taken.Reading c)
+  end-taken : (x : Parse) (n : ℕ) → Reads t pend (meaning.take x (Foundᴸ.token n Token.end)) (taken.Reading c)
       → Told (set t 0 (c .functions)) (finish (meaning.take x (Foundᴸ.token n Token.end))) (taken.Reading c)
   unfolding meaning.take
-  end-taken (Reads.reading s d c₁ f) n h = end-told (gram s Token.end .stage) (end-top s) (perform (gram s Token.end .act) n d) h
+  end-taken (Parse.reading s d) n h = end-told (gram s Token.end .stage) (end-top s) (perform (gram s Token.end .act) n d) h
+  end-taken (Parse.refused m p) n h =
+      let (s, d, q, f) = reads-reading h in
+      absurd (let z : _≡_ {A = ℕ} 0 1 = cc in omega arith)
 
-module _ (text : List ℕ) (f : Found) (c : Reader) (t pend : List ℕ) (r : Taken) (t₁ pend₁ : List ℕ) (first : TakesFound text f c t pend r t₁ pend₁) where
-  pub end-refused : Refusal r → (t′ : List ℕ) → TakesEnd text f c t pend r t′
-  end-refused k t′ parse h fs i =
-      rw (foldl-append meaning.take parse fs (Foundᴸ.token (length text) Token.end ∷ []))
-      (told-refused (still-refused (first parse h fs i) k (Foundᴸ.token (length text) Token.end ∷ [])) k t′)
+-- ---- two things found, one after the other
 
-  module _ (q : Reader) (e : r ≡ taken.Reading q) (y : Taken) (t₂ pend₂ : List ℕ) (last : Takes text (length text) tokens.End q t₁ pend₁ y t₂ pend₂) where
-    reads-first : (parse : Parse) → Reads t pend parse (taken.Reading c) → (fs : List Foundᴸ) → Finds text f fs → Reads t₁ pend₁ (foldl meaning.take parse fs) (taken.Reading q)
-    reads-first parse h fs i = subst (λ (z : Taken). Reads t₁ pend₁ (foldl meaning.take parse fs) z) e (first parse h fs i)
+module _ (text : List ℕ) (f g : Found) (c : Reader) (t pend : List ℕ) where
+  -- after k of them: the one to take next, and the state
+  pub data Halfway (k : ℕ) (h : Found) (q : Reader) (t₁ pend₁ : List ℕ) : Type 0 where
+    none : k ≡ 0 → h ≡ f → q ≡ c → t₁ ≡ t → pend₁ ≡ pend → Halfway k h q t₁ pend₁
+    one : k ≡ 1 → h ≡ g → TakesFound text f c t pend (taken.Reading q) t₁ pend₁ → Halfway k h q t₁ pend₁
+    both : k ≡ 2 → TakesBoth text f g c t pend (taken.Reading q) t₁ pend₁ → Halfway k h q t₁ pend₁
 
-    reads-last : (parse : Parse) → Reads t pend parse (taken.Reading c) → (fs : List Foundᴸ) → Finds text f fs
-        → Reads t₂ pend₂ (meaning.take (foldl meaning.take parse fs) (Foundᴸ.token (length text) Token.end)) y
-    reads-last parse h fs i = last (foldl meaning.take parse fs) (reads-first parse h fs i) Token.end Means.end
+  pub both-reached : FoundIn text f → FoundIn text g → Reached c t pend → {q : Reader} {t₁ pend₁ : List ℕ}
+      → TakesBoth text f g c t pend (taken.Reading q) t₁ pend₁ → Reached q t₁ pend₁
+  both-reached i j h takes =
+      record { parse = foldl meaning.take (h .parse) (i .one ++ j .one); reads = takes (h .parse) (h .reads) (i .one) (j .one) (i .finds) (j .finds) }
 
-    -- a state that goes on has no more functions than a byte counts
-    pub end-small : FoundIn text f → Reached c t pend → (z : Reader) → y ≡ taken.Reading z → z .functions < 256
-    end-small i h z k =
-        let reached : Reached z t₂ pend₂ =
-        record {
-          parse = meaning.take (foldl meaning.take (h .parse) (i .one)) (Foundᴸ.token (length text) Token.end);
-          reads = subst (λ (w : Taken). Reads t₂ pend₂ (meaning.take (foldl meaning.take (h .parse) (i .one)) (Foundᴸ.token (length text) Token.end)) w) k (reads-last (h .parse) (h .reads) (i .one) (i .finds));
-        } in
-        omega (arith, reached-bounded reached .functions)
+  module _ {k : ℕ} {h : Found} {q : Reader} {t₁ pend₁ : List ℕ} where
+    pub half-found : FoundIn text f → FoundIn text g → Halfway k h q t₁ pend₁ → k < 2 → FoundIn text h
+    half-found i j (Halfway.none a e e₁ e₂ e₃) l = rw e i
+    half-found i j (Halfway.one a e takes) l = rw e j
+    half-found i j (Halfway.both a takes) l = absurd (omega arith)
 
-    pub end-wrong : Refusal y → (t′ : List ℕ) → TakesEnd text f c t pend y t′
-    end-wrong k t′ parse h fs i =
-        rw (foldl-append meaning.take parse fs (Foundᴸ.token (length text) Token.end ∷ [])) (told-refused (reads-last parse h fs i) k t′)
+    pub half-reached : FoundIn text f → FoundIn text g → Reached c t pend → Halfway k h q t₁ pend₁ → Reached q t₁ pend₁
+    half-reached i j s (Halfway.none a e e₁ e₂ e₃) = rw (e₁, e₂, e₃) s
+    half-reached i j s (Halfway.one a e takes) = found-reached text c t pend f (taken.Reading q) t₁ pend₁ takes i s q refl
+    half-reached i j s (Halfway.both a takes) = both-reached i j s takes
 
-    pub end-right : (z : Reader) → y ≡ taken.Reading z → TakesEnd text f c t pend (taken.Reading z) (set t₂ 0 (z .functions))
-    end-right z k parse h fs i =
-        rw (foldl-append meaning.take parse fs (Foundᴸ.token (length text) Token.end ∷ []))
-        (end-taken z (reads-first parse h fs i) (length text)
-        (subst (λ (w : Taken). Reads t₂ pend₂ (meaning.take (foldl meaning.take parse fs) (Foundᴸ.token (length text) Token.end)) w) k (reads-last parse h fs i)))
+    pub half-all : Halfway k h q t₁ pend₁ → 2 ≤ k → TakesBoth text f g c t pend (taken.Reading q) t₁ pend₁
+    half-all (Halfway.none a e e₁ e₂ e₃) l = absurd (omega arith)
+    half-all (Halfway.one a e takes) l = absurd (omega arith)
+    half-all (Halfway.both a takes) l = takes
+
+    module _ (l : k < 2) (r : Taken) (t₂ pend₂ : List ℕ) (next : TakesFound text h q t₁ pend₁ r t₂ pend₂) where
+      pub half-refused : Halfway k h q t₁ pend₁ → Refusal r → TakesBoth text f g c t pend r t₂ pend₂
+      half-refused (Halfway.none a e e₁ e₂ e₃) n = both-refused text c t pend f r t₂ pend₂ (rw (e, e₁, e₂, e₃) at next) g n
+      half-refused (Halfway.one a e takes) n = both-read text c t pend f (taken.Reading q) t₁ pend₁ takes g q refl (rw e at next)
+      half-refused (Halfway.both a takes) n = absurd (omega arith)
+
+      pub half-on : Halfway k h q t₁ pend₁ → (y : Reader) → r ≡ taken.Reading y → Halfway (k + 1) g y t₂ pend₂
+      half-on (Halfway.none a e e₁ e₂ e₃) y b = Halfway.one (omega arith) refl (rw (e, e₁, e₂, e₃, b) at next)
+      half-on (Halfway.one a e takes) y b =
+          Halfway.both (omega arith) (both-read text c t pend f (taken.Reading q) t₁ pend₁ takes g q refl (rw (e, b) at next))
+      half-on (Halfway.both a takes) y b = absurd (omega arith)
 
 -- ---- the loop over a text
 
@@ -431,5 +441,55 @@ module _ {text t pend : List ℕ} {l : Lexer} {c : Reader} (h : Midway text t pe
     read-whole size =
         rw (le-ltb maxText (length text) size, ← end-place, ← last .found, all-read)
 
-    pub told-whole : length text ≤ 65536 → {r : Taken} {t′ : List ℕ} → TakesEnd text f c t pend r t′ → Told t′ (read text) r
-    told-whole size k = rw (read-whole size) (k (readTo text (l .next) .parse) (h .parse) (last .one) (last .first))
+    module _ (size : length text ≤ 65536) (r : Taken) (t′ pend′ : List ℕ) (takes : TakesBoth text f (founds.Token (length text) tokens.End) c t pend r t′ pend′) where
+      reads-whole : Reads t′ pend′ (foldl meaning.take (readTo text (l .next) .parse) (last .one ++ (Foundᴸ.token (length text) Token.end ∷ []))) r
+      reads-whole =
+          takes (readTo text (l .next) .parse) (h .parse) (last .one) _ (last .first) (Finds.token (length text) tokens.End Token.end Means.end (omega arith))
+
+      pub told-wrong : Refusal r → (t₂ : List ℕ) → Told t₂ (read text) r
+      told-wrong k t₂ = rw (read-whole size) (told-refused reads-whole k t₂)
+
+      pub told-right : (q : Reader) → r ≡ taken.Reading q → Told (set t′ 0 (q .functions)) (read text) (taken.Reading q)
+      told-right q e =
+          let one = foldl-append meaning.take (readTo text (l .next) .parse) (last .one) (Foundᴸ.token (length text) Token.end ∷ []) in
+          rw (read-whole size, one)
+          (end-taken q (foldl meaning.take (readTo text (l .next) .parse) (last .one)) (length text) (rw (one, e) at reads-whole))
+
+  -- what comes next, a scan's or the end's
+  module _ {x : Lexed} where
+    pub next-first : Nexts text l x → FoundIn text (x .first)
+    next-first (Nexts.scanned i s) = first-found s
+    next-first (Nexts.ended i f e) = last-found f i
+
+    pub next-second : Nexts text l x → FoundIn text (x .second)
+    next-second (Nexts.scanned i s) = second-found s
+    next-second (Nexts.ended i f e) =
+        rw e
+        (record {
+          one = Foundᴸ.token (length text) Token.end ∷ [];
+          finds = Finds.token (length text) tokens.End Token.end Means.end (omega arith);
+          placed = record { held = omega arith; short = lit≤ tt };
+        })
+
+    module _ (size : length text ≤ 65536) (r : Taken) (t′ pend′ : List ℕ) (takes : TakesBoth text (x .first) (x .second) c t pend r t′ pend′) where
+      pub next-refused : Nexts text l x → Refusal r → (t₂ : List ℕ) → Told t₂ (read text) r
+      next-refused (Nexts.scanned i s) k t₂ = told-early s r t′ pend′ takes size k t₂
+      next-refused (Nexts.ended i f e) k t₂ = told-wrong f i size r t′ pend′ (rw e at takes) k t₂
+
+      pub next-on : Nexts text l x → l .next < length text → (q : Reader) → r ≡ taken.Reading q → Midway text t′ pend′ (x .lexer) q
+      next-on (Nexts.scanned i s) j q e = midway-on s r t′ pend′ takes q e
+      next-on (Nexts.ended i f e₁) j q e = absurd (omega arith)
+
+      pub next-told : Nexts text l x → length text ≤ l .next → (q : Reader) → r ≡ taken.Reading q → Told (set t′ 0 (q .functions)) (read text) (taken.Reading q)
+      next-told (Nexts.scanned i s) j q e = absurd (omega arith)
+      next-told (Nexts.ended i f e₁) j q e = told-right f i size r t′ pend′ (rw e₁ at takes) q e
+
+      -- a state that goes on has no more functions than a byte counts
+      pub next-small : Nexts text l x → (q : Reader) → r ≡ taken.Reading q → q .functions < 256
+      next-small n q e =
+          let reached = both-reached text (x .first) (x .second) c t pend (next-first n) (next-second n) (midway-reached h) {q = q} {t₁ = t′} {pend₁ = pend′} (rw e at takes) in
+          omega (arith, reached-bounded reached .functions)
+
+    pub next-moves : Nexts text l x → l .next < length text → length text - x .lexer .next < length text - l .next
+    next-moves (Nexts.scanned i s) j = omega (arith, s .moves i, s .within)
+    next-moves (Nexts.ended i f e) j = absurd (omega arith)

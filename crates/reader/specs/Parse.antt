@@ -14,13 +14,16 @@ use Rattle.language.specs.Reading as meaning
 use Rattle.grammar.specs.Meaning.{Spot, stageIs, actOf, actBytes}
 use Rattle.grammar.specs.Ready.{isTop, Ready}
 use Rattle.grammar.specs.declared.Act.{Act}
+use Rattle.lexer.specs.declared.Lexer.{Lexer}
+use Rattle.lexer.specs.declared.Lexed.{Lexed}
 use Rattle.lexer.specs.declared.Token.{Token}
+use Rattle.lexer.specs.declared.Token.the-variants as tokens
 use Rattle.lexer.specs.declared.Found.{Found}
 use Rattle.lexer.specs.declared.Found.the-variants as founds
 use Rattle.reader.specs.Draft.{Within, openTable, closedTable, depth, InHand}
 use Rattle.reader.specs.State.{Bounded, Counts, Pending, Acts, Always, MentionKept, ifRoomAt}
 use Rattle.lexer.specs.Numbers.{amountFrom, amountOf}
-use Rattle.lexer.specs.Lexing.{Means, Finds, tokenBytes}
+use Rattle.lexer.specs.Lexing.{Means, Finds, tokenBytes, Scanned, Finished}
 use Rattle.reader.specs.Ending.{Ends}
 use Rattle.reader.specs.declared.state.Reader.{Reader}
 use Rattle.reader.specs.declared.state.Taken.{Taken}
@@ -86,7 +89,7 @@ abbrev pub TakesFound : (text : List ℕ) (f : Found) (c : Reader) (t pend : Lis
 TakesFound text f c t pend r t′ pend′ =
     (parse : Parse) → Reads t pend parse (taken.Reading c) → (fs : List Foundᴸ) → Finds text f fs → Reads t′ pend′ (foldl meaning.take parse fs) r
 
--- The two things that a scan finds.
+-- Two things found.
 abbrev pub TakesBoth : (text : List ℕ) (f g : Found) (c : Reader) (t pend : List ℕ) (r : Taken) (t′ pend′ : List ℕ) → Type 0
 TakesBoth text f g c t pend r t′ pend′ =
     (parse : Parse) → Reads t pend parse (taken.Reading c) → (fs gs : List Foundᴸ) → Finds text f fs → Finds text g gs
@@ -97,11 +100,10 @@ pub data Told (t : List ℕ) : Reading → Taken → Type 0 where
   refused : (n p : ℕ) → Told t (Reading.refused n p) (taken.Refused n p)
   program : (p : Program) (c : Reader) → t ≡ cells p → Told t (Reading.program p) (taken.Reading c)
 
--- The end of the text, which ends this.
-abbrev pub TakesEnd : (text : List ℕ) (f : Found) (c : Reader) (t pend : List ℕ) (r : Taken) (t′ : List ℕ) → Type 0
-TakesEnd text f c t pend r t′ =
-    (parse : Parse) → Reads t pend parse (taken.Reading c) → (fs : List Foundᴸ) → Finds text f fs
-    → Told t′ (meaning.finish (foldl meaning.take parse (fs ++ (Foundᴸ.token (length text) Tokenᴸ.end ∷ [])))) r
+-- What comes next in a text: what a scan finds; at the end what the end ends, and the end.
+pub data Nexts (text : List ℕ) (c : Lexer) (r : Lexed) : Type 0 where
+  scanned : c .next < length text → Scanned text c r → Nexts text c r
+  ended : length text ≤ c .next → Finished text c (r .first) → r .second ≡ founds.Token (length text) tokens.End → Nexts text c r
 
 -- ---- an act
 

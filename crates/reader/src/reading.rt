@@ -1,7 +1,9 @@
-// A whole text: bytes through the lexer, tokens through the reader.
+// A whole text: bytes through the lexer, tokens through the reader. One place calls `take_both` and one `take`, so that both are compiled into
+// the loop over the text and the state is not copied at every token.
 use crate::state::Reader;
 use crate::state::Taken;
 use lexer::Found;
+use lexer::Lexed;
 use lexer::Lexer;
 use lexer::Token;
 ghost use mathlib.Core.Path.{_≡_};
@@ -9,7 +11,8 @@ ghost use Prim.Native.Nat.{_≤_};
 ghost use lib.ListN.{length};
 ghost use Rattle.language.specs.Answers.{zeros};
 ghost use Rattle.language.specs.Reading.{read};
-ghost use Rattle.reader.specs.Parse.{Lent, Reached, FoundIn, TakesFound, TakesBoth, TakesEnd, Told};
+ghost use Rattle.lexer.specs.Lexing.{classTable};
+ghost use Rattle.reader.specs.Parse.{Lent, Reached, FoundIn, TakesFound, TakesBoth, Nexts, Told};
 
 impl Reader {
     // What the lexer found, if anything: 2 for a place that has no token.
@@ -33,7 +36,7 @@ impl Reader {
         }
     }
 
-    // The two things that a scan finds, in order.
+    // Two things found, in order.
     fn take_both(
         self,
         text: &[u8],
@@ -48,38 +51,35 @@ impl Reader {
         requires { ⌜ FoundIn (now text) first × FoundIn (now text) second ⌝ }
         ensures { λ r. ⌜ TakesBoth (now (text .entry)) first second self (now (t .entry)) (now (pend .entry)) r (now (t .exit)) (now (pend .exit)) ⌝ }
     {
-        let r = self.take_found(text, t, pend, found, first);
-        let Taken::Reading(s) = r else {
-            return r;
-        };
-        s.take_found(text, t, pend, found, second)
+        let mut s = self;
+        let mut f = first;
+        let mut k: usize = 0;
+        while k < 2 {
+            let r = s.take_found(text, t, pend, found, f);
+            let Taken::Reading(q) = r else {
+                return r;
+            };
+            s = q;
+            f = second;
+            k += 1;
+        }
+        Taken::Reading(s)
     }
+}
 
-    // The end of the text, which ends what was open; then the functions are counted.
-    fn take_end(
-        self,
-        text: &[u8],
-        t: &mut [u8],
-        pend: &mut [u8],
-        found: &mut [u8],
-        last: Found,
-    ) -> Taken
-        requires { ⌜ Lent (now text) (now t) (now pend) (now found) ⌝ }
-        requires { ⌜ Reached self (now t) (now pend) ⌝ }
-        requires { ⌜ FoundIn (now text) last ⌝ }
-        ensures { λ r. ⌜ TakesEnd (now (text .entry)) last self (now (t .entry)) (now (pend .entry)) r (now (t .exit)) ⌝ }
-    {
-        let r = self.take_found(text, t, pend, found, last);
-        let Taken::Reading(s) = r else {
-            return r;
-        };
-        let n = text.len();
-        let e = s.take(text, t, pend, found, n, Token::End);
-        let Taken::Reading(q) = e else {
-            return e;
-        };
-        t[0] = q.functions as u8;
-        e
+// What comes next: what a scan finds; at the end of the text what the end ends, and the end.
+fn next(l: Lexer, text: &[u8], classes: &[u8; 256]) -> Lexed
+    requires { ⌜ (l .start ≤ l .next) × (l .next ≤ length (now text)) × (now classes ≡ classTable) ⌝ }
+    ensures { λ r. ⌜ Nexts (now (text .entry)) l r ⌝ }
+{
+    let n = text.len();
+    if l.next < n {
+        return l.scan(text, classes);
+    }
+    Lexed {
+        lexer: l,
+        first: l.finish(text),
+        second: Found::Token(n, Token::End),
     }
 }
 
@@ -92,17 +92,19 @@ pub fn read_text(text: &[u8], t: &mut [u8], pend: &mut [u8], found: &mut [u8]) -
     let classes = lexer::classes();
     let mut l = Lexer::new();
     let mut s = Reader::new();
-    while l.next < text.len() {
-        let x = l.scan(text, &classes);
+    loop {
+        let x = next(l, text, &classes);
         let first = x.first;
         let second = x.second;
         let r = s.take_both(text, t, pend, found, first, second);
         let Taken::Reading(q) = r else {
             return r;
         };
+        if text.len() <= l.next {
+            t[0] = q.functions as u8;
+            return r;
+        }
         s = q;
         l = x.lexer;
     }
-    let last = l.finish(text);
-    s.take_end(text, t, pend, found, last)
 }

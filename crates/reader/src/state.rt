@@ -10,9 +10,12 @@ ghost use Rattle.reader.specs.State.{betweenAt};
 // target, up to two sources and how many there are, a load's number, how many phi entries, up to two mentions and how many there are.
 pub struct Reader {
     pub stage: Stage,
-    pub functions: usize,
     pub ssa: u8,
     pub result: u8,
+    pub op: u8,
+    pub sources: u8,
+    pub named: u8,
+    pub functions: usize,
     pub params: usize,
     pub registers: usize,
     pub blocks: usize,
@@ -20,16 +23,13 @@ pub struct Reader {
     pub first: usize,
     pub entries: usize,
     pub mentions: usize,
-    pub op: u8,
     pub target: usize,
     pub left: usize,
     pub right: usize,
-    pub sources: u8,
     pub number: u64,
     pub own: usize,
     pub here: usize,
     pub there: usize,
-    pub named: u8,
 }
 
 // What a token comes to: an answer with its place, or the state after it.

@@ -2,10 +2,10 @@
 use mathlib.Core.Path.{sym, _∙_}
 use Prim.Native.Nat.{_-_}
 use native.Mathlib.Omega.{arith}
-use lib.ListN.{length}
+use lib.ListN.{length, length-set}
 use borrow.Author.Needs.{needs}
 use Rattle.reader.specs.Parse.{Lent}
-use Rattle.reader.proofs.TextLaws.{bytes-each, Midway, midway-start, midway-reached, first-found, second-found, lent-still, told-early, midway-on, last-found, told-whole}
+use Rattle.reader.proofs.TextLaws.{bytes-each, Midway, midway-start, midway-reached, lent-still, next-first, next-second, next-refused, next-on, next-told, next-small, next-moves}
 use Rattle.reader.proofs.reading.read_text.Statement.{statement}
 use Rattle.reader.proofs.reading.read_text.Tie as tie
 
@@ -30,59 +30,34 @@ read-text-spec =
     let bytes = bytes-each (a .text .now) (λ k. c .before .before .before .before .before .before .shared-slice-known .given k .fits) in
     rw (c .before .new .ensures, c .new2 .ensures) (midway-start (a .text .now) (a .t .now) (a .pend .now) bytes (s .pre .1), s .pre .0))
     (λ c κs.
-    let i = c .before .before .before .loop .inv .0 in
-    (i .order, i .within, c .before .before .before .before .before .before .classes .ensures))
+    let i = c .before .loop .inv .0 in
+    (i .order, i .within, c .before .before .before .before .classes .ensures))
     (λ c κs.
-    let i = c .before .before .before .before .before .before .before .loop .inv in
-    let x = c .before .before .before .scan .ensures in
-    (i .1, (midway-reached (i .0), (first-found (i .0) x, second-found (i .0) x))))
+    let i = c .before .before .before .before .before .loop .inv in
+    let x = c .before .before .before .next .ensures in
+    (i .1, (midway-reached (i .0), (next-first (i .0) x, next-second (i .0) x))))
     (λ c. search needs)
     (λ c. search needs)
+    (λ c. c .before .before .before .before .before .before .before .before .take-both .kept .1 .1 .0 ∙ (c .before .before .before .before .before .before .before .before .before .before .before .before .before .before .loop .inv .1 .table ∙ sym (c .before .before .before .before .before .before .before .before .before .before .before .before .before .before .before .before .before .before .before .before .before .before .pre .0 .table)))
+    (λ c. c .before .before .before .before .before .before .before .before .take-both .kept .1 .1 .1 .0 ∙ (c .before .before .before .before .before .before .before .before .before .before .before .before .before .before .loop .inv .1 .pending ∙ sym (c .before .before .before .before .before .before .before .before .before .before .before .before .before .before .before .before .before .before .before .before .before .before .pre .0 .pending)))
+    (λ c. c .before .before .before .before .before .before .before .before .take-both .kept .1 .1 .1 .1 .0 ∙ (c .before .before .before .before .before .before .before .before .before .before .before .before .before .before .loop .inv .1 .blocks ∙ sym (c .before .before .before .before .before .before .before .before .before .before .before .before .before .before .before .before .before .before .before .before .before .before .pre .0 .blocks)))
     (λ c.
-    let k = c .before .before .before .before .before .before .before .before in
-    let l = k .before .before .before .before .before .before .before .before in
-    k .take-both .kept .1 .1 .0 ∙ (l .loop .inv .1 .table ∙ sym (l .before .before .before .before .before .before .before .before .pre .0 .table)))
+    let i = c .before .before .before .before .before .before .before .before .before .before .before .before .before .before .loop .inv in
+    next-refused (i .0) (i .1 .size) _ _ _ (c .before .before .before .before .before .before .before .before .take-both .ensures) (c .before .before .before .before .before .before .before .before .before .before .before .before .next .ensures) (_, _, c .enum-told .given .1) _)
     (λ c.
-    let k = c .before .before .before .before .before .before .before .before in
-    let l = k .before .before .before .before .before .before .before .before in
-    k .take-both .kept .1 .1 .1 .0 ∙ (l .loop .inv .1 .pending ∙ sym (l .before .before .before .before .before .before .before .before .pre .0 .pending)))
+    let i = c .before .before .before .before .before .before .before .before .before .before .before .before .before .before .before .before .before .before .loop .inv in
+    omega (arith, next-small (i .0) (i .1 .size) _ _ _ (c .before .before .before .before .before .before .before .before .before .before .before .before .take-both .ensures) (c .before .before .before .before .before .before .before .before .before .before .before .before .before .before .before .before .next .ensures) _ (c .before .before .before .before .r .given .1)))
+    (λ c. omega (arith, c .before .before .before .before .before .before .before .before .before .before .before .before .take-both .kept .1 .1 .0, c .before .before .before .before .before .before .before .before .before .before .before .before .before .before .before .before .before .before .loop .inv .1 .table))
+    (λ c. simp length-set (c .before .before .before .before .before .before .before .before .before .before .before .before .take-both .kept .1 .1 .0 ∙ (c .before .before .before .before .before .before .before .before .before .before .before .before .before .before .before .before .before .before .loop .inv .1 .table ∙ sym (c .before .before .before .before .before .before .before .before .before .before .before .before .before .before .before .before .before .before .before .before .before .before .before .before .before .before .pre .0 .table))))
+    (λ c. c .before .before .before .before .before .before .before .before .before .before .before .before .take-both .kept .1 .1 .1 .0 ∙ (c .before .before .before .before .before .before .before .before .before .before .before .before .before .before .before .before .before .before .loop .inv .1 .pending ∙ sym (c .before .before .before .before .before .before .before .before .before .before .before .before .before .before .before .before .before .before .before .before .before .before .before .before .before .before .pre .0 .pending)))
+    (λ c. c .before .before .before .before .before .before .before .before .before .before .before .before .take-both .kept .1 .1 .1 .1 .0 ∙ (c .before .before .before .before .before .before .before .before .before .before .before .before .before .before .before .before .before .before .loop .inv .1 .blocks ∙ sym (c .before .before .before .before .before .before .before .before .before .before .before .before .before .before .before .before .before .before .before .before .before .before .before .before .before .before .pre .0 .blocks)))
     (λ c.
-    let k = c .before .before .before .before .before .before .before .before in
-    let l = k .before .before .before .before .before .before .before .before in
-    k .take-both .kept .1 .1 .1 .1 .0 ∙ (l .loop .inv .1 .blocks ∙ sym (l .before .before .before .before .before .before .before .before .pre .0 .blocks)))
+    let i = c .before .before .before .before .before .before .before .before .before .before .before .before .before .before .before .before .before .before .loop .inv in
+    next-told (i .0) (i .1 .size) _ _ _ (c .before .before .before .before .before .before .before .before .before .before .before .before .take-both .ensures) (c .before .before .before .before .before .before .before .before .before .before .before .before .before .before .before .before .next .ensures) (c .before .if1 .taken) _ (c .before .before .before .before .r .given .1))
+    (λ c. next-moves (c .before .before .before .before .before .before .before .before .before .before .before .before .before .before .before .before .before .before .loop .inv .0) (c .before .before .before .before .before .before .before .before .before .before .before .before .before .before .before .before .next .ensures) (c .before .if1 .left))
     (λ c.
-    let k = c .before .before .before .before .before .before .before .before in
-    let i = k .before .before .before .before .before .before .before .before .loop .inv in
-    told-early (i .0) (k .before .before .before .before .scan .ensures) _ _ _ (k .take-both .ensures) (i .1 .size) (_, _, c .enum-told .given .1) _)
-    (λ c.
-    let x = c .before .before .before .before .before .before .before .before .before .before .before .before .before .before in
-    omega (arith, x .scan .ensures .moves (x .before .before .if1 .taken), x .scan .ensures .within))
-    (λ c.
-    let k = c .before .before .before .before .before .before .before .before .before .before in
-    let i = k .before .before .before .before .before .before .before .before .loop .inv in
-    let n = k .take-both .kept in (
-      midway-on (i .0) (k .before .before .before .before .scan .ensures) _ _ _ (k .take-both .ensures) _ (c .before .before .r .given .1),
+    let i = c .before .before .before .before .before .before .before .before .before .before .before .before .before .before .before .before .before .before .loop .inv in
+    let n = c .before .before .before .before .before .before .before .before .before .before .before .before .take-both .kept in (
+      next-on (i .0) (i .1 .size) _ _ _ (c .before .before .before .before .before .before .before .before .before .before .before .before .take-both .ensures) (c .before .before .before .before .before .before .before .before .before .before .before .before .before .before .before .before .next .ensures) (c .before .if1 .left) _ (c .before .before .before .before .r .given .1),
       lent-still (i .1) (n .1 .1 .0) (n .1 .1 .1 .0) (n .1 .1 .1 .1 .0),
-    ))
-    (λ c κs.
-    let i = c .before .before .loop .inv .0 in
-    (i .order, i .within))
-    (λ c κs.
-    let i = c .before .before .before .before .before .before .loop .inv in
-    (i .1, (midway-reached (i .0), last-found (i .0) (c .before .before .before .finish .ensures) (c .before .before .before .before .if1 .left))))
-    (λ c.
-    let k = c .before .before .before .before .before .before in
-    let l = k .before .before .before .before .before .before .before in
-    k .take-end .kept .1 .1 .0 ∙ (l .loop .inv .1 .table ∙ sym (l .before .before .before .before .before .before .before .before .pre .0 .table)))
-    (λ c.
-    let k = c .before .before .before .before .before .before in
-    let l = k .before .before .before .before .before .before .before in
-    k .take-end .kept .1 .1 .1 .0 ∙ (l .loop .inv .1 .pending ∙ sym (l .before .before .before .before .before .before .before .before .pre .0 .pending)))
-    (λ c.
-    let k = c .before .before .before .before .before .before in
-    let l = k .before .before .before .before .before .before .before in
-    k .take-end .kept .1 .1 .1 .1 .0 ∙ (l .loop .inv .1 .blocks ∙ sym (l .before .before .before .before .before .before .before .before .pre .0 .blocks)))
-    (λ c.
-    let k = c .before .before .before .before .before .before in
-    let i = k .before .before .before .before .before .before .before .loop .inv in
-    told-whole (i .0) (k .before .before .before .before .finish .ensures) (k .before .before .before .before .before .if1 .left) (i .1 .size) (k .take-end .ensures)))
+    )))
