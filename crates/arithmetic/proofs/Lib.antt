@@ -1,0 +1,4 @@
+pub mod Words
+pub mod Meanings
+pub mod Numbers
+pub mod Fitting

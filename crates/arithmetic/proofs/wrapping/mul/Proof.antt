@@ -1,0 +1,14 @@
+-- `wrapping::mul`: what is right modulo 2^64 is right modulo 2^w.
+use borrow.Author.Needs.{needs}
+use Prim.Native.Nat.{_*_}
+use Rattle.arithmetic.proofs.Words.{reduced}
+use Rattle.arithmetic.proofs.wrapping.mul.Statement.{statement}
+use Rattle.arithmetic.proofs.wrapping.mul.Tie as tie
+
+pub mul-spec : {M : Type 1} → statement M
+mul-spec =
+    tie.close
+    (tie.spec
+    (λ c κs. search needs)
+    (λ c κs. search needs)
+    (λ c. let s = c .before .before .args in reduced (s .t) (s .a * s .b) (c .before .product .ensures) (c .keep .ensures)))

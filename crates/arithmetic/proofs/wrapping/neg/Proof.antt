@@ -1,0 +1,13 @@
+-- `wrapping::neg`: 0 - a, modulo 2^w.
+use borrow.Author.Needs.{needs}
+use Rattle.arithmetic.proofs.Words.{negated}
+use Rattle.arithmetic.proofs.wrapping.neg.Statement.{statement}
+use Rattle.arithmetic.proofs.wrapping.neg.Tie as tie
+
+pub neg-spec : {M : Type 1} → statement M
+neg-spec =
+    tie.close
+    (tie.spec
+    (λ c κs. search needs)
+    (λ c κs. search needs)
+    (λ c. negated (c .before .before .args .t) (c .before .wrapping-sub-u64 .result) (c .before .before .pre) (c .before .wrapping-sub-u64 .ensures) (c .keep .ensures)))
