@@ -1,0 +1,4 @@
+pub mod Chaining
+pub mod Distinct
+pub mod InTable
+pub mod Spells

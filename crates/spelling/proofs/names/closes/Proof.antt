@@ -1,0 +1,17 @@
+-- `spelling::names::closes` tests what its definition tests.
+use mathlib.Core.Path.{_≡_, refl}
+use borrow.Author.Tests.{eq-eqb, ne-eqb}
+use Rattle.spelling.specs.Names.{closing}
+use Rattle.spelling.proofs.names.closes.Statement.{statement}
+use Rattle.spelling.proofs.names.closes.Tie as tie
+
+returns : tie.Need-returns
+unfolding closing
+returns c = rw (ne-eqb _ _ (c .if1 .taken))
+
+returns-2 : tie.Need-returns-2
+unfolding closing
+returns-2 c = rw (eq-eqb _ _ (c .if1 .left))
+
+pub closes-spec : {M : Type 1} → statement M
+closes-spec = tie.close (tie.spec returns returns-2)

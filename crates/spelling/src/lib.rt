@@ -1,0 +1,8 @@
+// Names as a table holds them: whether some text spells one, and whether none of them stands twice.
+mod hashes;
+mod names;
+mod twice;
+
+pub use names::all_spelled;
+pub use names::spelled;
+pub use twice::distinct_names;
