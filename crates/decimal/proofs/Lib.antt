@@ -1,0 +1,4 @@
+pub mod Amounts
+pub mod Ranging
+pub mod Tenths
+pub mod Writings

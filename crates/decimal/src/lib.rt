@@ -1,0 +1,12 @@
+// Numbers as decimal words: read and written by meaning, and as a type's numbers below 2^w.
+mod digits;
+mod ranges;
+mod words;
+
+pub use digits::put_digits;
+pub use ranges::Bits;
+pub use ranges::Meant;
+pub use ranges::of_bits;
+pub use ranges::to_bits;
+pub use words::Decimal;
+pub use words::read_decimal;
