@@ -1,0 +1,4 @@
+pub mod Formed
+pub mod Sets
+pub mod Uses
+pub mod Missed

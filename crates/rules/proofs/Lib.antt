@@ -1,0 +1,13 @@
+pub mod Counting
+pub mod Ends
+pub mod FaultForms
+pub mod FaultLaws
+pub mod Firsts
+pub mod FlowLaws
+pub mod Forms
+pub mod Images
+pub mod NotingLaws
+pub mod RangeLaws
+pub mod Standing
+pub mod TestLaws
+pub mod WholeRow

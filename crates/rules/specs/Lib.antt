@@ -1,0 +1,4 @@
+pub mod Cells
+pub mod Prepared
+pub mod Preparing
+pub mod Tests

@@ -1,0 +1,295 @@
+// 10 to 16 of a row whose numbers are in their ranges, and 9 to 16 of any row. What a test would have to scan the function for is
+// prepared (`prepare`): the first row that assigns a register, a block's leading phi, its number of predecessors.
+ghost use mathlib.Core.Path.{_≡_};
+ghost use mathlib.Core.Bool.{false, not, _&&_, _||_, Bool·beq};
+ghost use mathlib.Core.List.{map, [], _∷_};
+ghost use Prim.Native.Nat.{ℕ, _+_, _<_, _≤_};
+ghost use lib.Dec.{T, eqb, leb, ltb};
+ghost use lib.ListN.{length, getD};
+ghost use Rattle.laws.specs.Lists.{all, from};
+ghost use Rattle.language.specs.Instructions.{Form, void};
+ghost use Rattle.language.specs.Table.{functionEntry, functionResult, registerType, rowOp, rowLeft, phiFirst, phiCount, phiEntry, decodeAs, decodeRow, decodeFunction};
+ghost use Rattle.language.specs.Checking.{inRange, spotAt};
+ghost use Rattle.rules.specs.Tests.{lowest, laterTests, formFault, rowFault};
+ghost use Rattle.rules.specs.Cells.{Stands, Judged, spot, retaken as retakenBy, unset as unsetBy, binaryTyped};
+use crate::ranges::form_of;
+use crate::ranges::in_range;
+use instructions::load_type;
+use table::block_count;
+use table::block_rows;
+use table::function_entry;
+use table::function_params;
+use table::function_result;
+use table::function_ssa;
+use table::phi_count;
+use table::phi_entry;
+use table::phi_first;
+use table::register_count;
+use table::register_type;
+use table::row_left;
+use table::row_op;
+use table::row_right;
+use table::row_target;
+
+fn wide(x: u16) -> usize
+    ensures { λ r. ⌜ r ≡ x ⌝ }
+{
+    x as usize
+}
+
+// A number of those prepared.
+pub fn at(m: &[u16], i: usize) -> usize
+    requires { ⌜ i < length (now m) ⌝ }
+    ensures { λ r. ⌜ r ≡ getD (now (m .entry)) i 0 ⌝ }
+{
+    wide(m[i])
+}
+
+// 12 of a row k that assigns register u.
+fn retaken(t: &[u8], a: usize, m: &[u16], u: usize, k: usize) -> bool
+    requires { ⌜ (a + 34697 ≤ length (now t)) × (length (now m) ≡ 768) × (u < 256) × (k < 1024) ⌝ }
+    ensures { λ r. ⌜ r ≡ retakenBy (now (t .entry)) a (now (m .entry)) u k ⌝ }
+{
+    (function_ssa(t, a) == 1) & ((u < function_params(t, a)) | (at(m, u) != k + 1))
+}
+
+// 16 of a row that uses register u.
+fn unset(t: &[u8], a: usize, m: &[u16], u: usize) -> bool
+    requires { ⌜ (a + 34697 ≤ length (now t)) × (length (now m) ≡ 768) × (u < 256) ⌝ }
+    ensures { λ r. ⌜ r ≡ unsetBy (now (t .entry)) a (now (m .entry)) u ⌝ }
+{
+    (function_ssa(t, a) == 1) & ((function_params(t, a) <= u) & (at(m, u) == 0))
+}
+
+// The lowest number of those from 11 on whose test holds. A row that is right is tested for all of them, so none is spared.
+fn pick(b11: bool, b12: bool, b13: bool, b14: bool, b15: bool, b16: bool) -> u8
+    ensures { λ r. ⌜ r ≡ lowest 11 (b11 ∷ b12 ∷ b13 ∷ b14 ∷ b15 ∷ b16 ∷ []) ⌝ }
+{
+    if b11 {
+        return 11;
+    }
+    if b12 {
+        return 12;
+    }
+    if b13 {
+        return 13;
+    }
+    if b14 {
+        return 14;
+    }
+    if b15 {
+        return 15;
+    }
+    if b16 {
+        return 16;
+    }
+    0
+}
+
+// The types of a row with two sources are as "The 36 instructions" say.
+fn binary_typed(op: u8, target: u8, left: u8, right: u8) -> bool
+    ensures { λ r. ⌜ r ≡ binaryTyped op target left right ⌝ }
+{
+    if op < 19 {
+        return (target == left) & (left == right);
+    }
+    if op < 23 {
+        return (target == left) & (right == 9);
+    }
+    (left == right) & (target == 9)
+}
+
+// Every one of `count` phi entries from `first` on is a register of this type.
+fn entries_typed(t: &[u8], a: usize, first: usize, count: usize, kind: u8) -> bool
+    requires { ⌜ (a + 34697 ≤ length (now t)) × (first + count ≤ 1024) ⌝ }
+    ensures { λ r. ⌜ r ≡ all (λ u. eqb (registerType (now (t .entry)) a u) kind) (map (phiEntry (now (t .entry)) a) (from first count)) ⌝ }
+{
+    let mut i = 0;
+    while i < count {
+        if register_type(t, a, phi_entry(t, a, first + i)) != kind {
+            return false;
+        }
+        i += 1;
+    }
+    true
+}
+
+// None of them breaks 16.
+fn entries_set(t: &[u8], a: usize, m: &[u16], first: usize, count: usize) -> bool
+    requires { ⌜ (a + 34697 ≤ length (now t)) × (length (now m) ≡ 768) × (first + count ≤ 1024) ⌝ }
+    ensures { λ r. ⌜ r ≡ all (λ u. not (unsetBy (now (t .entry)) a (now (m .entry)) u)) (map (phiEntry (now (t .entry)) a) (from first count)) ⌝ }
+{
+    let mut i = 0;
+    while i < count {
+        if unset(t, a, m, phi_entry(t, a, first + i)) {
+            return false;
+        }
+        i += 1;
+    }
+    true
+}
+
+// 10: a terminator (`jump`, number 32, or one after it) anywhere but at the end, or none there.
+fn misended(op: u8, last: bool) -> bool
+    ensures { λ r. ⌜ r ≡ not (Bool·beq (leb 32 op) last) ⌝ }
+{
+    (32 <= op) != last
+}
+
+// The lowest of 11 to 16 that a row of each form breaks.
+
+fn load_fault(t: &[u8], a: usize, m: &[u16], k: usize) -> u8
+    requires { ⌜ (a + 34697 ≤ length (now t)) × (length (now m) ≡ 768) × (k < 1024) ⌝ }
+    ensures { λ r. ⌜ ((b j : ℕ) → Judged Form.load (now (t .entry)) a (now (m .entry)) b j k r) ⌝ }
+{
+    let target = row_target(t, a, k);
+    let wrong = register_type(t, a, target) != load_type(row_op(t, a, k));
+    pick(
+        wrong,
+        retaken(t, a, m, target, k),
+        false,
+        false,
+        false,
+        false,
+    )
+}
+
+fn unary_fault(t: &[u8], a: usize, m: &[u16], k: usize) -> u8
+    requires { ⌜ (a + 34697 ≤ length (now t)) × (length (now m) ≡ 768) × (k < 1024) ⌝ }
+    ensures { λ r. ⌜ ((b j : ℕ) → Judged Form.unary (now (t .entry)) a (now (m .entry)) b j k r) ⌝ }
+{
+    let op = row_op(t, a, k);
+    let target = row_target(t, a, k);
+    let source = row_left(t, a, k);
+    let wrong = (op != 29) & (register_type(t, a, target) != register_type(t, a, source));
+    let copied = (function_ssa(t, a) == 1) & (op == 30);
+    pick(
+        wrong,
+        retaken(t, a, m, target, k),
+        copied,
+        false,
+        false,
+        unset(t, a, m, source),
+    )
+}
+
+fn binary_fault(t: &[u8], a: usize, m: &[u16], k: usize) -> u8
+    requires { ⌜ (a + 34697 ≤ length (now t)) × (length (now m) ≡ 768) × (k < 1024) ⌝ }
+    ensures { λ r. ⌜ ((b j : ℕ) → Judged Form.binary (now (t .entry)) a (now (m .entry)) b j k r) ⌝ }
+{
+    let target = row_target(t, a, k);
+    let left = row_left(t, a, k);
+    let right = row_right(t, a, k);
+    let right_type = register_type(t, a, right);
+    let fits = binary_typed(
+        row_op(t, a, k),
+        register_type(t, a, target),
+        register_type(t, a, left),
+        right_type,
+    );
+    let never = unset(t, a, m, left) | unset(t, a, m, right);
+    pick(
+        !fits,
+        retaken(t, a, m, target, k),
+        false,
+        false,
+        false,
+        never,
+    )
+}
+
+fn phi_fault(t: &[u8], a: usize, m: &[u16], b: usize, j: usize, k: usize) -> u8
+    requires { ⌜ (a + 34697 ≤ length (now t)) × (length (now m) ≡ 768) × (b < 64) × (k < 1024) ⌝ }
+    requires { ⌜ phiFirst (now t) a k + phiCount (now t) a k ≤ 1024 ⌝ }
+    ensures { λ r. ⌜ Judged Form.phi (now (t .entry)) a (now (m .entry)) b j k r ⌝ }
+{
+    let target = row_target(t, a, k);
+    let first = phi_first(t, a, k);
+    let count = phi_count(t, a, k);
+    let fits = entries_typed(t, a, first, count, register_type(t, a, target));
+    let misplaced = (b == function_entry(t, a)) | (at(m, 576 + b) < j);
+    let miscounted = (count == 0) | (count != at(m, 512 + b));
+    let assigned = entries_set(t, a, m, first, count);
+    pick(
+        !fits,
+        retaken(t, a, m, target, k),
+        function_ssa(t, a) != 1,
+        misplaced,
+        miscounted,
+        !assigned,
+    )
+}
+
+// A terminator with a source, which must be of type `kind`.
+fn source_fault(t: &[u8], a: usize, m: &[u16], k: usize, kind: u8) -> u8
+    requires { ⌜ (a + 34697 ≤ length (now t)) × (length (now m) ≡ 768) × (k < 1024) ⌝ }
+    ensures { λ r. ⌜ r ≡ lowest 11 (not (eqb (registerType (now (t .entry)) a (rowLeft (now (t .entry)) a k)) kind) ∷ false ∷ false ∷ false ∷ false ∷ unsetBy (now (t .entry)) a (now (m .entry)) (rowLeft (now (t .entry)) a k) ∷ []) ⌝ }
+{
+    let source = row_left(t, a, k);
+    pick(
+        register_type(t, a, source) != kind,
+        false,
+        false,
+        false,
+        false,
+        unset(t, a, m, source),
+    )
+}
+
+fn leave_fault(t: &[u8], a: usize) -> u8
+    requires { ⌜ a + 34697 ≤ length (now t) ⌝ }
+    ensures { λ r. ⌜ r ≡ lowest 11 (not (eqb (functionResult (now (t .entry)) a) void) ∷ false ∷ false ∷ false ∷ false ∷ false ∷ []) ⌝ }
+{
+    pick(
+        function_result(t, a) != 10,
+        false,
+        false,
+        false,
+        false,
+        false,
+    )
+}
+
+// The lowest of 11 to 16 that row k breaks; `op` is its instruction.
+fn later_fault(t: &[u8], a: usize, m: &[u16], b: usize, j: usize, k: usize, op: u8) -> u8
+    requires { ⌜ (a + 34697 ≤ length (now t)) × (length (now m) ≡ 768) × (b < 64) × (k < 1024) × (op ≡ rowOp (now t) a k) ⌝ }
+    requires { ⌜ Stands (now t) a (now m) b j k × T (inRange (decodeFunction (now t) a) (decodeRow (now t) a k)) ⌝ }
+    ensures { λ r. ⌜ r ≡ lowest 11 (laterTests (decodeFunction (now (t .entry)) a) (spot b j (decodeRow (now (t .entry)) a k))) ⌝ }
+{
+    let form = form_of(op);
+    match form {
+        0 => 0,
+        1 => load_fault(t, a, m, k),
+        2 => unary_fault(t, a, m, k),
+        3 => binary_fault(t, a, m, k),
+        4 => phi_fault(t, a, m, b, j, k),
+        5 => 0,
+        6 => source_fault(t, a, m, k, 9),
+        7 => source_fault(t, a, m, k, function_result(t, a)),
+        8 => leave_fault(t, a),
+        _ => 9,
+    }
+}
+
+// The lowest of 10 to 16 that row k breaks, which stands at place j of block b, or 0. Its numbers are in their ranges.
+pub fn form_fault(t: &[u8], a: usize, m: &[u16], b: usize, j: usize, k: usize) -> u8
+    requires { ⌜ Stands (now t) a (now m) b j k × T (inRange (decodeFunction (now t) a) (decodeRow (now t) a k)) ⌝ }
+    ensures { λ r. ⌜ r ≡ formFault (decodeFunction (now (t .entry)) a) (spotAt (decodeFunction (now (t .entry)) a) b j) ⌝ }
+{
+    let op = row_op(t, a, k);
+    if misended(op, j + 1 == block_rows(t, a, b)) {
+        return 10;
+    }
+    later_fault(t, a, m, b, j, k, op)
+}
+
+// The lowest of 9 to 16 that it breaks, or 0: the test of one row, for the check and for stop 27.
+pub fn row_fault(t: &[u8], a: usize, m: &[u16], b: usize, j: usize, k: usize) -> u8
+    requires { ⌜ Stands (now t) a (now m) b j k ⌝ }
+    ensures { λ r. ⌜ r ≡ rowFault (decodeFunction (now (t .entry)) a) (spotAt (decodeFunction (now (t .entry)) a) b j) ⌝ }
+{
+    if in_range(t, a, register_count(t, a), block_count(t, a), k) {
+        return form_fault(t, a, m, b, j, k);
+    }
+    9
+}
