@@ -1,0 +1,11 @@
+pub mod Answers
+pub mod Faults
+pub mod Heads
+pub mod Late
+pub mod Naming
+pub mod Notes
+pub mod Order
+pub mod Parts
+pub mod Passing
+pub mod Rows
+pub mod Sounding

@@ -1,0 +1,69 @@
+// 10 to 16 of a function's rows, in one pass: of each row the lowest number that it breaks, of all rows the lowest of those.
+ghost use mathlib.Core.Path.{_≡_};
+ghost use Prim.Native.Nat.{_<_, _≤_};
+ghost use Rattle.language.specs.Table.{blockCount, decodeFunction};
+ghost use Rattle.checker.specs.Notes.{Ready, noted as notedᴸ, notedIn, notedOf};
+use rules::form_fault;
+use table::block_first;
+use table::block_rows;
+
+// The lowest number noted so far and its earliest row; 17 while none of 10 to 16 is.
+pub struct Lowest {
+    pub number: u8,
+    pub row: usize,
+}
+
+impl Lowest {
+    // With number k at this row; 0 is no number.
+    pub fn noted(self, k: u8, row: usize) -> Lowest
+        ensures { λ r. ⌜ r ≡ notedᴸ self k row ⌝ }
+    {
+        if k == 0 {
+            return self;
+        }
+        if k < self.number {
+            return Lowest { number: k, row };
+        }
+        self
+    }
+}
+
+// What is noted of the rows of block b. "A block with no rows is placed at the row where it would begin": 10.
+fn note_block(t: &[u8], a: usize, m: &[u16], b: usize, low: Lowest) -> Lowest
+    requires { ⌜ Ready (now t) a (now m) ⌝ }
+    requires { ⌜ (b < blockCount (now t) a) × (low .row ≤ 1024) ⌝ }
+    ensures { λ r. ⌜ (r ≡ notedIn (decodeFunction (now (t .entry)) a) low b) × (r .row ≤ 1024) ⌝ }
+{
+    let first = block_first(t, a, b);
+    let rows = block_rows(t, a, b);
+    if rows == 0 {
+        return low.noted(10, first);
+    }
+    let mut x = low;
+    let mut j = 0;
+    while j < rows {
+        let k = form_fault(t, a, m, b, j, first + j);
+        if k == 0 {
+            j += 1;
+            continue;
+        }
+        x = x.noted(k, first + j);
+        j += 1;
+    }
+    x
+}
+
+// What is noted of all rows.
+pub fn note_blocks(t: &[u8], a: usize, m: &[u16], blocks: usize) -> Lowest
+    requires { ⌜ Ready (now t) a (now m) ⌝ }
+    requires { ⌜ blocks ≡ blockCount (now t) a ⌝ }
+    ensures { λ r. ⌜ (r ≡ notedOf (decodeFunction (now (t .entry)) a)) × (r .row ≤ 1024) ⌝ }
+{
+    let mut x = Lowest { number: 17, row: 0 };
+    let mut b = 0;
+    while b < blocks {
+        x = note_block(t, a, m, b, x);
+        b += 1;
+    }
+    x
+}

@@ -1,0 +1,206 @@
+// 9 of one function, in parts: each looks only at cells that the parts before it have found to be there.
+ghost use mathlib.Core.Path.{_≡_};
+ghost use Prim.Native.Nat.{_+_, _*_, _<_, _≤_};
+ghost use lib.ListN.{length};
+ghost use Rattle.laws.specs.Lists.{any, same};
+ghost use Rattle.language.specs.Table.{registerCount, blockCount, functionName, rowCount};
+ghost use Rattle.lexer.specs.Lexing.{classTable};
+ghost use Rattle.checker.specs.Parts.{namesBefore, headRight, typesRight, placedRows, entriesAfter, rowsRight, listedRight, namesRight, soundRows};
+use rules::in_range;
+use spelling::all_spelled;
+use spelling::distinct_names;
+use spelling::spelled;
+use table::block_count;
+use table::block_first;
+use table::block_name;
+use table::block_rows;
+use table::find_name;
+use table::function_entry;
+use table::function_name;
+use table::function_params;
+use table::function_result;
+use table::function_ssa;
+use table::phi_count;
+use table::phi_first;
+use table::register_count;
+use table::register_type;
+use table::row_op;
+
+// "256 registers (parameters counted), 64 blocks, 1,024 instructions, 1,024 phi entries"
+const MAX_REGISTERS: usize = 256;
+
+const MAX_BLOCKS: usize = 64;
+
+const MAX_ROWS: usize = 1024;
+
+const MAX_ENTRIES: usize = 1024;
+
+// The mark, the return type, the counts, and entry: a block, with a name of no bytes.
+fn head_right(t: &[u8], a: usize) -> bool
+    requires { ⌜ a + 34697 ≤ length (now t) ⌝ }
+    ensures { λ r. ⌜ r ≡ headRight (now (t .entry)) a ⌝ }
+{
+    if 2 <= function_ssa(t, a) {
+        return false;
+    }
+    if 10 < function_result(t, a) {
+        return false;
+    }
+    let registers = register_count(t, a);
+    if MAX_REGISTERS < registers {
+        return false;
+    }
+    let blocks = block_count(t, a);
+    if MAX_BLOCKS < blocks {
+        return false;
+    }
+    if registers < function_params(t, a) {
+        return false;
+    }
+    let entry = function_entry(t, a);
+    if blocks <= entry {
+        return false;
+    }
+    block_name(t, a, entry).len() == 0
+}
+
+// Every register's type.
+fn types_right(t: &[u8], a: usize, registers: usize) -> bool
+    requires { ⌜ (a + 34697 ≤ length (now t)) × (registers ≡ registerCount (now t) a) × (registers ≤ 256) ⌝ }
+    ensures { λ r. ⌜ r ≡ typesRight (now (t .entry)) a ⌝ }
+{
+    let mut i = 0;
+    while i < registers {
+        if 10 <= register_type(t, a, i) {
+            return false;
+        }
+        i += 1;
+    }
+    true
+}
+
+// How many rows there are, if the blocks' rows are in sequence and not too many; else one more than there may be.
+fn placed_rows(t: &[u8], a: usize, blocks: usize) -> usize
+    requires { ⌜ (a + 34697 ≤ length (now t)) × (blocks ≡ blockCount (now t) a) × (blocks ≤ 64) ⌝ }
+    ensures { λ r. ⌜ r ≡ placedRows (now (t .entry)) a ⌝ }
+{
+    let mut n = 0;
+    let mut b = 0;
+    while b < blocks {
+        if block_first(t, a, b) != n {
+            return MAX_ROWS + 1;
+        }
+        n += block_rows(t, a, b);
+        if MAX_ROWS < n {
+            return MAX_ROWS + 1;
+        }
+        b += 1;
+    }
+    n
+}
+
+// How many phi entries there are up to row k and with it, n being those before it; one more than there may be, if they are too many
+// or the row's do not begin at n.
+fn entries_after(t: &[u8], a: usize, k: usize, n: usize) -> usize
+    requires { ⌜ (a + 34697 ≤ length (now t)) × (k < 1024) × (n ≤ 1024) ⌝ }
+    ensures { λ r. ⌜ r ≡ entriesAfter (now (t .entry)) a k n ⌝ }
+{
+    if row_op(t, a, k) != 31 {
+        return n;
+    }
+    if phi_first(t, a, k) != n {
+        return MAX_ENTRIES + 1;
+    }
+    n + phi_count(t, a, k)
+}
+
+// Every row's numbers, and where its phi entries stand.
+fn rows_right(t: &[u8], a: usize, registers: usize, blocks: usize, rows: usize) -> bool
+    requires { ⌜ (a + 34697 ≤ length (now t)) × (registers ≡ registerCount (now t) a) × (blocks ≡ blockCount (now t) a) ⌝ }
+    requires { ⌜ (rows ≡ rowCount (now t) a) × (rows ≤ 1024) ⌝ }
+    ensures { λ r. ⌜ r ≡ rowsRight (now (t .entry)) a ⌝ }
+{
+    let mut entries = 0;
+    let mut k = 0;
+    while k < rows {
+        entries = entries_after(t, a, k, entries);
+        if MAX_ENTRIES < entries {
+            return false;
+        }
+        if !in_range(t, a, registers, blocks, k) {
+            return false;
+        }
+        k += 1;
+    }
+    true
+}
+
+// Whether a function before number i has the name of the one at cell a.
+fn named_before(t: &[u8], i: usize, a: usize) -> bool
+    requires { ⌜ (length (now t) ≡ 555153) × (i < 16) × (a + 34697 ≤ length (now t)) ⌝ }
+    ensures { λ r. ⌜ r ≡ any (same (functionName (now (t .entry)) a)) (namesBefore (now (t .entry)) i) ⌝ }
+{
+    find_name(t, 9, 34697, i, function_name(t, a)) < i
+}
+
+// Names that stand `stride` apart from cell `at` on: each is none or one that a text can spell, and none stands twice.
+fn listed_right(t: &[u8], at: usize, stride: usize, count: usize, classes: &[u8; 256]) -> bool
+    requires { ⌜ (at + stride * count + 256 ≤ length (now t) + stride) × (count ≤ 256) × (now classes ≡ classTable) ⌝ }
+    ensures { λ r. ⌜ r ≡ listedRight (now (t .entry)) at stride count ⌝ }
+{
+    if !all_spelled(t, at, stride, count, classes) {
+        return false;
+    }
+    distinct_names(t, at, stride, count)
+}
+
+// The names of the function, its registers and its blocks.
+fn names_right(
+    t: &[u8],
+    i: usize,
+    a: usize,
+    registers: usize,
+    blocks: usize,
+    classes: &[u8; 256],
+) -> bool
+    requires { ⌜ (length (now t) ≡ 555153) × (i < 16) × (a + 34697 ≤ length (now t)) × (now classes ≡ classTable) ⌝ }
+    requires { ⌜ (registers ≡ registerCount (now t) a) × (registers ≤ 256) × (blocks ≡ blockCount (now t) a) × (blocks ≤ 64) ⌝ }
+    ensures { λ r. ⌜ r ≡ namesRight (now (t .entry)) i a ⌝ }
+{
+    if !spelled(function_name(t, a), classes) {
+        return false;
+    }
+    if named_before(t, i, a) {
+        return false;
+    }
+    if !listed_right(t, a + 74, 66, registers, classes) {
+        return false;
+    }
+    listed_right(t, a + 16973, 69, blocks, classes)
+}
+
+// How many rows the function has, if 9 does not hold of it; else one more than it may have.
+pub fn sound_rows(t: &[u8], i: usize, a: usize, classes: &[u8; 256]) -> usize
+    requires { ⌜ (length (now t) ≡ 555153) × (i < 16) × (a + 34697 ≤ length (now t)) × (now classes ≡ classTable) ⌝ }
+    ensures { λ r. ⌜ r ≡ soundRows (now (t .entry)) i a ⌝ }
+{
+    if !head_right(t, a) {
+        return MAX_ROWS + 1;
+    }
+    let registers = register_count(t, a);
+    let blocks = block_count(t, a);
+    if !types_right(t, a, registers) {
+        return MAX_ROWS + 1;
+    }
+    let rows = placed_rows(t, a, blocks);
+    if MAX_ROWS < rows {
+        return MAX_ROWS + 1;
+    }
+    if !rows_right(t, a, registers, blocks, rows) {
+        return MAX_ROWS + 1;
+    }
+    if !names_right(t, i, a, registers, blocks, classes) {
+        return MAX_ROWS + 1;
+    }
+    rows
+}
