@@ -1,0 +1,12 @@
+pub mod Ranks
+pub mod Keeping
+pub mod Here
+pub mod PhiLoops
+pub mod Ranking
+pub mod PhiSteps
+pub mod Starting
+pub mod Values
+pub mod Testing
+pub mod Dispatch
+pub mod Midway
+pub mod Answering

@@ -1,0 +1,98 @@
+// The phi of a block: "All phi of a block read before any writes".
+ghost use mathlib.Core.Path.{_≡_};
+ghost use mathlib.Core.Bool.{true};
+ghost use Prim.Native.Nat.{_+_, _*_, _<_, _≤_};
+ghost use lib.ListN.{length};
+ghost use Rattle.language.specs.Table.{blockCount, decodeFunction};
+ghost use Rattle.language.specs.Checking.{goesTo};
+ghost use Rattle.theorems.proofs.Clean.{Clean};
+ghost use Rattle.rules.specs.Prepared.{Sized, Prepared, rankOf};
+ghost use Rattle.machine.specs.Phis.{Readable, Taken, written};
+use table::block_first;
+use table::block_rows;
+use table::jump_first;
+use table::phi_entry;
+use table::phi_first;
+use table::row_target;
+
+// A prepared number as an index.
+fn wide(x: u16) -> usize
+    ensures { λ r. ⌜ r ≡ x ⌝ }
+{
+    x as usize
+}
+
+// The place of block x among the predecessors of block b, which it goes to: prepared for each of the two blocks it may name.
+pub fn rank(t: &[u8], a: usize, m: &[u16], x: usize, b: usize) -> usize
+    requires { ⌜ Sized (now t) a × Clean (decodeFunction (now t) a) ⌝ }
+    requires { ⌜ Prepared (decodeFunction (now t) a) (now m) ⌝ }
+    requires { ⌜ (x < blockCount (now t) a) × (goesTo (decodeFunction (now t) a) x b ≡ true) ⌝ }
+    ensures { λ r. ⌜ r ≡ rankOf (decodeFunction (now (t .entry)) a) x b ⌝ }
+{
+    let last = block_first(t, a, x) + block_rows(t, a, x) - 1;
+    if jump_first(t, a, last) == b {
+        return wide(m[640 + 2 * x]);
+    }
+    wide(m[640 + 2 * x + 1])
+}
+
+// What entry k of each phi holds, in row order.
+fn read_phis(
+    t: &[u8],
+    a: usize,
+    first: usize,
+    n: usize,
+    k: usize,
+    registers: &[u64],
+    taken: &mut [u64],
+)
+    requires { ⌜ (a + 34697 ≤ length (now t)) × (length (now taken) ≡ 1024) ⌝ }
+    requires { ⌜ Readable (now t) a first n k (now registers) ⌝ }
+    ensures { λ _. ⌜ Taken (now (t .entry)) a first n k (now (registers .entry)) (now (taken .exit)) ⌝ }
+{
+    let mut i = 0;
+    while i < n {
+        taken[i] = registers[phi_entry(t, a, phi_first(t, a, first + i) + k)];
+        i += 1;
+    }
+}
+
+// What was read goes to the targets, in row order.
+fn write_phis(
+    t: &[u8],
+    a: usize,
+    first: usize,
+    n: usize,
+    k: usize,
+    taken: &[u64],
+    registers: &mut [u64],
+)
+    requires { ⌜ (a + 34697 ≤ length (now t)) × (length (now taken) ≡ 1024) ⌝ }
+    requires { ⌜ Readable (now t) a first n k (now registers) ⌝ }
+    requires { ⌜ Taken (now t) a first n k (now registers) (now taken) ⌝ }
+    ensures { λ _. ⌜ now (registers .exit) ≡ written (now (t .entry)) a first k (now (registers .entry)) n ⌝ }
+{
+    let mut i = 0;
+    while i < n {
+        registers[row_target(t, a, first + i)] = taken[i];
+        i += 1;
+    }
+}
+
+// All n phi from row `first` on take their entry k.
+pub fn take_phis(
+    t: &[u8],
+    a: usize,
+    first: usize,
+    n: usize,
+    k: usize,
+    taken: &mut [u64],
+    registers: &mut [u64],
+)
+    requires { ⌜ (a + 34697 ≤ length (now t)) × (length (now taken) ≡ 1024) ⌝ }
+    requires { ⌜ Readable (now t) a first n k (now registers) ⌝ }
+    ensures { λ _. ⌜ now (registers .exit) ≡ written (now (t .entry)) a first k (now (registers .entry)) n ⌝ }
+{
+    read_phis(t, a, first, n, k, registers, taken);
+    write_phis(t, a, first, n, k, taken, registers);
+}
