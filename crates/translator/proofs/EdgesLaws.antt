@@ -1,0 +1,221 @@
+-- The edge blocks of a translation, put down one after the other.
+-- Assumes nothing.
+use mathlib.Core.Path.{_≡_, refl, sym, ap, _∙_}
+use mathlib.Core.Bool.{Bool, true, false, cond}
+use mathlib.Core.List.{List, [], _∷_, _++_}
+use Prim.Native.Nat.{ℕ, zero, suc, _+_, _-_, _*_, _≤_, _<_}
+use native.Mathlib.Nat.{not-suc-le-zero}
+use native.Mathlib.Numerals.{add-one}
+use native.Mathlib.Omega.{arith}
+use lib.ListN.{length, getD, replicate}
+use lib.Seq.{sets}
+use Rattle.laws.specs.Sections.{pad}
+use Rattle.language.specs.Programs.{Row, Block, Func, blockAt, rowsAt, rowsOf, firstRow, hasPhi}
+use Rattle.language.specs.Checking.{predecessors}
+use Rattle.language.specs.Running.{phiTarget, entryAt}
+use Rattle.language.specs.Table.{twoBytes, eightBytes, blockCount, blockFirst, rowTarget, phiFirst, phiEntry, blockCells, rowCells, cells, decodeFunction}
+use Rattle.language.specs.Translating.{pairsBefore, newRegister, edgeRows, copyRow, translatedBlocks, pairCount}
+use Rattle.theorems.proofs.Size.{size-blocks, length-edgeRows}
+use Rattle.theorems.proofs.TableView.{block-count}
+use Rattle.theorems.proofs.SimulationBlocks.{edge-block}
+use Rattle.theorems.proofs.SimulationRows.{phisAt, phiOf}
+use Rattle.rules.specs.Prepared.{Prepared}
+use Rattle.translator.specs.Source.{Translatable, translated, built, phisIn, pairsIn, edgeNumber, Edge}
+use Rattle.translator.proofs.Counting.{pairsAt, pairs-next, pairs-within, pairs-all, first-next, first-all}
+use Rattle.translator.proofs.Filling.{filled-all}
+use Rattle.translator.proofs.Items.{first-within, row-in-block, row-within, copies-in, copies-out, jumps-on, phi-within, target-is, entry-is, entry-within, new-within}
+use Rattle.translator.proofs.KeptLaws.{length-built, one-row, one-block}
+use Rattle.translator.proofs.RegistersLaws.{target-fits, no-name-cells, new-next, new-most}
+use Rattle.translator.proofs.Renaming.{eight-of-one}
+use Rattle.translator.proofs.SizesLaws.{phis-here, pairs-here}
+
+-- a pair is one of a block with phi
+pair-parts : (f : Func) (y j : ℕ) → j < pairsAt f y → (hasPhi f y ≡ true) × (j < length (predecessors f y))
+pair-parts f y j h = case (hasPhi f y) refl h
+  where
+    case : (b : Bool) → hasPhi f y ≡ b → j < cond b (length (predecessors f y)) 0 → (hasPhi f y ≡ true) × (j < length (predecessors f y))
+    case true e l = (e, l)
+    case false e l = absurd (not-suc-le-zero l)
+
+-- What is looked at and written for the i-th of p phi, whose rows begin at first, is within its limits.
+pub record Bounds (t : List ℕ) (a j n k p first i : ℕ) : Type 0 where
+  pub row : first + i < 1024
+  pub entry : phiFirst t a (first + i) + j < 1024
+  pub new : n + i < 256
+  pub into : k + i < 1024
+  pub onto : k + p + i < 1024
+
+module _ (t : List ℕ) (a : ℕ) (h : Translatable t a) (m : List ℕ) (p : Prepared (decodeFunction t a) m) where
+  abbrev f : Func
+  f = decodeFunction t a
+
+  abbrev g : Func
+  g = translated t a
+
+  -- the blocks up to the edges of block y are all there
+  pub edges-most : (y : ℕ) → y < blockCount t a → blockCount t a + pairsBefore f y + pairsIn m y ≤ length (g .blocks)
+  unfolding translatedBlocks
+  edges-most y l =
+      omega (arith, block-count t a, size-blocks f, pairs-here t a m p (h .clean) y l, pairs-within f y (rw (block-count t a) l))
+
+  pub edges-few : (y d e : ℕ) → y < blockCount t a → d ≡ blockCount t a + pairsBefore f y → e ≡ pairsIn m y → d + e ≤ 64
+  edges-few y d e l eb ep = omega (arith, edges-most y l, target-fits t a h .blockCount)
+
+  module _ (y j n k : ℕ) (s : Edge t a m y j n k) where
+    abbrev b : ℕ
+    b = edgeNumber t a y j
+
+    pub edge-known : b < length (g .blocks)
+    edge-known = omega (arith, edges-most y (s .block), s .pair)
+
+    parts : (hasPhi f y ≡ true) × (j < length (predecessors f y))
+    parts = pair-parts f y j (rw (pairs-here t a m p (h .clean) y (s .block)) at (s .pair))
+
+    edge-is : blockAt g b ≡ record { name = []; rows = edgeRows (newRegister f y) j y (phisAt f y) }
+    edge-is = rw (block-count t a) at (edge-block f y j (rw (block-count t a) (s .block)) (parts .0) (parts .1))
+
+    rows-are : rowsAt g b ≡ edgeRows n j y (phisAt f y)
+    rows-are = ap (λ x. x .rows) edge-is ∙ ap (λ i. edgeRows i j y (phisAt f y)) (sym (s .new))
+
+    phis : phisIn m y ≡ length (phisAt f y)
+    phis = phis-here t a m p (h .clean) y (s .block)
+
+    pub edge-count : length (rowsAt g b) ≡ 2 * phisIn m y + 1
+    edge-count = rw (rows-are, phis) (length-edgeRows n j y (phisAt f y))
+
+    pub edge-row : (i : ℕ) → i < 2 * phisIn m y + 1 → getD (rowsOf g) (k + i) Row.nop ≡ getD (edgeRows n j y (phisAt f y)) i Row.nop
+    edge-row i l = rw (s .place) (row-in-block g b i edge-known (rw edge-count l) ∙ ap (λ rs. getD rs i Row.nop) rows-are)
+
+    pub edge-within : (i : ℕ) → i < 2 * phisIn m y + 1 → k + i < length (rowsOf g)
+    edge-within i l = rw (s .place) (row-within g b i edge-known (rw edge-count l))
+
+    pub edge-short : (i : ℕ) → i < 2 * phisIn m y + 1 → k + i < 1024
+    edge-short i l = omega (arith, edge-within i l, target-fits t a h .rowCount)
+
+    -- ---- its rows
+
+    module _ (i : ℕ) (l : i < phisIn m y) where
+      among : i < length (phisAt f y)
+      among = omega (arith, phis)
+
+      pub phi-short : blockFirst t a y + i < 1024
+      phi-short = omega (arith, phi-within t a (h .sized) (h .clean) y i (s .block) among, h .sized .rows)
+
+      pub entry-short : phiFirst t a (blockFirst t a y + i) + j < 1024
+      entry-short = entry-within t a (h .sized) (h .clean) y i (s .block) among j (parts .1)
+
+      pub new-short : n + i < 256
+      new-short = rw (s .new) (omega (arith, new-within t a (h .sized) (h .clean) y i (s .block) among, target-fits t a h .registerCount))
+
+      -- an entry goes to a new register
+      pub entry-put : (e : ℕ) (out next : List ℕ) → out ≡ built t a (b + 1) (k + i) → e ≡ phiEntry t a (phiFirst t a (blockFirst t a y + i) + j)
+          → next ≡ sets out (21386 + 12 * (k + i)) (30 ∷ (n + i) ∷ e ∷ 0 ∷ eightBytes 0) → next ≡ built t a (b + 1) (k + (i + 1))
+      unfolding rowCells pad
+      entry-put e out next o d c =
+          let more : k + (i + 1) ≡ suc (k + i) = omega arith in
+          let row : getD (rowsOf g) (k + i) Row.nop ≡ copyRow (n + i) e =
+          edge-row i (omega arith) ∙ copies-in n j y (phisAt f y) i among ∙ ap (copyRow (n + i)) (entry-is t a (h .sized) (h .clean) y i (s .block) among j (parts .1) ∙ sym d) in
+          rw more
+          (one-row t a h (b + 1) (k + i) out next (30 ∷ (n + i) ∷ e ∷ 0 ∷ eightBytes 0) (omega (arith, edge-known)) (edge-within i (omega arith)) o (ap (rowCells 0) row) c)
+
+      -- a new register goes to a target
+      pub target-put : (q u : ℕ) (out next : List ℕ) → q ≡ phisIn m y → out ≡ built t a (b + 1) (k + q + i) → u ≡ rowTarget t a (blockFirst t a y + i)
+          → next ≡ sets out (21386 + 12 * (k + q + i)) (30 ∷ u ∷ (n + i) ∷ 0 ∷ eightBytes 0) → next ≡ built t a (b + 1) (k + q + (i + 1))
+      unfolding rowCells pad
+      target-put q u out next x o d c =
+          let z : ℕ = k + q + i in
+          let more : k + q + (i + 1) ≡ suc z = omega arith in
+          let at : z ≡ k + (length (phisAt f y) + i) = omega (arith, phis) in
+          let row : getD (rowsOf g) z Row.nop ≡ copyRow u (n + i) =
+          ap (λ v. getD (rowsOf g) v Row.nop) at ∙ edge-row (length (phisAt f y) + i) (omega (arith, phis)) ∙ copies-out n j y (phisAt f y) i among
+          ∙ ap (λ v. copyRow v (n + i)) (target-is t a (h .sized) (h .clean) y i (s .block) among ∙ sym d) in
+          rw more
+          (one-row t a h (b + 1) z out next (30 ∷ u ∷ (n + i) ∷ 0 ∷ eightBytes 0) (omega (arith, edge-known))
+          (rw at (edge-within (length (phisAt f y) + i) (omega (arith, phis)))) o (ap (rowCells 0) row) c)
+
+    -- the jump to the phi block
+    pub jump-put : (out next : List ℕ) → out ≡ built t a (b + 1) (k + 2 * phisIn m y) → next ≡ sets out (21386 + 12 * (k + 2 * phisIn m y)) (32 ∷ 0 ∷ 0 ∷ 0 ∷ eightBytes y)
+        → next ≡ built t a (b + 1) (k + 2 * phisIn m y + 1)
+    unfolding rowCells pad
+    jump-put out next o c =
+        let z : ℕ = k + 2 * phisIn m y in
+        let row : getD (rowsOf g) z Row.nop ≡ Row.jump y =
+        edge-row (2 * phisIn m y) (omega arith) ∙ ap (λ v. getD (edgeRows n j y (phisAt f y)) (2 * v) Row.nop) phis ∙ jumps-on n j y (phisAt f y) in
+        let cells : rowCells 0 (getD (rowsOf g) z Row.nop) ≡ 32 ∷ 0 ∷ 0 ∷ 0 ∷ eightBytes y =
+        rw (row, eight-of-one y (omega (arith, s .block, h .sized .blocks))) in
+        rw (add-one z) (one-row t a h (b + 1) z out next (32 ∷ 0 ∷ 0 ∷ 0 ∷ eightBytes y) (omega (arith, edge-known)) (edge-within (2 * phisIn m y) (omega arith)) o cells c)
+
+    -- ---- its place
+
+    pub place-put : (out next : List ℕ) → out ≡ built t a b k → next ≡ sets out (16970 + 69 * b) (twoBytes k ++ twoBytes (2 * phisIn m y + 1)) → next ≡ built t a (b + 1) k
+    unfolding blockCells
+    place-put out next o c =
+        let vs : List ℕ = twoBytes k ++ twoBytes (2 * phisIn m y + 1) in
+        let unnamed : blockAt g b .name ≡ [] = ap (λ x. x .name) edge-is in
+        let cells : blockCells (firstRow g b) (blockAt g b) ≡ vs ++ replicate 65 0 = rw (← s .place, edge-count, unnamed, no-name-cells) in
+        rw (add-one b) (one-block t a h b k out next vs 65 edge-known (omega (arith, s .place, first-within g b edge-known)) o cells c)
+
+    pub edge-next : k + 2 * phisIn m y + 1 ≡ firstRow g (b + 1)
+    edge-next = rw (add-one b) (omega (arith, first-next g b edge-known, edge-count, s .place))
+
+    pub edge-length : (out : List ℕ) → out ≡ built t a b k → length out ≡ 555153
+    edge-length out o = ap length o ∙ length-built t a h b k (omega (arith, edge-known)) (omega (arith, s .place, first-within g b edge-known))
+
+    -- the same by the numbers of the code
+    module _ (d q : ℕ) (eb : d ≡ b) (eq : q ≡ phisIn m y) where
+      pub edge-few : d < 64
+      edge-few = omega (arith, edge-known, target-fits t a h .blockCount)
+
+      pub edge-long : (out : List ℕ) → out ≡ built t a d k → length out ≡ 555153
+      edge-long out o = edge-length out (o ∙ ap (λ v. built t a v k) eb)
+
+      pub edge-last : k + 2 * q < 1024
+      edge-last = rw eq (edge-short (2 * phisIn m y) (omega arith))
+
+      pub placed : (out next : List ℕ) → out ≡ built t a d k → next ≡ sets out (16970 + 69 * d) (twoBytes k ++ twoBytes (2 * q + 1)) → next ≡ built t a (b + 1) k
+      placed out next o c = place-put out next (o ∙ ap (λ v. built t a v k) eb) (rw (eb, eq) at c)
+
+      pub jumped : (out next : List ℕ) → out ≡ built t a (b + 1) (k + 2 * phisIn m y) → next ≡ sets out (21386 + 12 * (k + 2 * q)) (32 ∷ 0 ∷ 0 ∷ 0 ∷ eightBytes y)
+          → (k + 2 * q + 1 ≡ firstRow g (d + 1)) × (next ≡ built t a (d + 1) (k + 2 * q + 1))
+      jumped out next o c = (rw (eb, eq) edge-next, rw (eb, eq) (jump-put out next o (rw eq at c)))
+
+    pub bounds : (q first i : ℕ) → q ≡ phisIn m y → first ≡ blockFirst t a y → i < q → Bounds t a j n k q first i
+    bounds q first i e d l =
+        let few : i < phisIn m y = omega arith in
+        record {
+          row = rw d (phi-short i few);
+          entry = rw d (entry-short i few);
+          new = new-short i few;
+          into = edge-short i (omega arith);
+          onto = omega (arith, edge-short (q + i) (omega arith));
+        }
+
+    pub built-length : (v : ℕ) (out : List ℕ) → v ≤ 2 * phisIn m y + 1 → out ≡ built t a (b + 1) (k + v) → length out ≡ 555153
+    built-length v out l o =
+        ap length o ∙ length-built t a h (b + 1) (k + v) (omega (arith, edge-known)) (omega (arith, edge-count, s .place, first-within g b edge-known))
+
+  -- ---- block by block
+
+  pub edges-first : blockCount t a ≡ blockCount t a + pairsBefore f 0
+  unfolding pairsBefore
+  edges-first = omega arith
+
+  module _ (y : ℕ) (l : y < blockCount t a) where
+    pub edges-next : (d e : ℕ) → d ≡ blockCount t a + pairsBefore f y → e ≡ pairsIn m y → d + e ≡ blockCount t a + pairsBefore f (y + 1)
+    edges-next d e eb ep = rw (add-one y) (omega (arith, pairs-next f y, pairs-here t a m p (h .clean) y l))
+
+    pub registers-next : (n q : ℕ) → n ≡ newRegister f y → q ≡ phisIn m y → n + q ≡ newRegister f (y + 1)
+    registers-next n q en eq = rw (add-one y) (omega (arith, new-next t a h y l, phis-here t a m p (h .clean) y l))
+
+    pub registers-few : (n q : ℕ) → n ≡ newRegister f y → q ≡ phisIn m y → n + q ≤ 256
+    registers-few n q en eq = new-most t a h y n q l en (eq ∙ phis-here t a m p (h .clean) y l)
+
+  -- ---- all of it
+
+  pub edges-all : (k : ℕ) (out : List ℕ) → k ≡ firstRow g (blockCount t a + pairsBefore f (blockCount t a)) → out ≡ built t a (blockCount t a + pairsBefore f (blockCount t a)) k
+      → out ≡ cells (g ∷ [])
+  unfolding translatedBlocks
+  edges-all k out d o =
+      let all : blockCount t a + pairsBefore f (blockCount t a) ≡ length (g .blocks) =
+      rw (size-blocks f, ← block-count t a) (ap (λ n. length (f .blocks) + n) (pairs-all f)) in
+      o ∙ ap (λ j. built t a j k) all ∙ ap (built t a (length (g .blocks))) (d ∙ ap (firstRow g) all ∙ first-all g) ∙ filled-all g

@@ -1,0 +1,195 @@
+-- A table of one function while it is put down: each item is one store at its place.
+-- Assumes nothing.
+use mathlib.Core.Path.{_≡_, refl, sym, ap, _∙_}
+use mathlib.Core.List.{List, [], _∷_, _++_, map, append-nil}
+use Prim.Native.Nat.{ℕ, suc, _+_, _-_, _*_, _≤_, _<_}
+use native.Mathlib.Nat.{mul-le-mul-left, mul-suc}
+use native.Mathlib.Omega.{arith}
+use lib.ListN.{length, getD, take, replicate, length-append, length-replicate, replicate-append-replicate}
+use lib.Seq.{take-suc, take-length, getD-take, length-take-le}
+use Rattle.laws.specs.Lists.{gather, sum}
+use Rattle.laws.specs.Sections.{pad, gatherFrom}
+use Rattle.laws.proofs.Appending.{gatherFrom-append}
+use Rattle.laws.proofs.Sections.{length-pad, length-gatherFrom, gather-is-from}
+use Rattle.laws.proofs.Storing.{Stored, pad-is, pad-zeros, pad-stored, stored-left, stored-right, stored-pad}
+use Rattle.language.specs.Answers.{zeros}
+use Rattle.language.specs.Programs.{Row, Register, Block, Func, noRegister, noBlock, blockAt, entriesOf, rowsOf, firstRow}
+use Rattle.language.specs.Table.{headCells, registerCells, blockCells, rowCells, entrySection, functionCells, registerSection, blockSection, rowSection, cells}
+use Rattle.theorems.specs.TableLaw.{FunctionFits}
+use Rattle.theorems.proofs.TableParts.{length-row}
+use Rattle.theorems.proofs.TableFunction.{length-head, length-entries, registers-stride, blocks-stride}
+use Rattle.translator.specs.Filling.{filled}
+
+-- ---- a section of items of w cells each, the first i of them put down
+
+module _ {A : Type 0} (n : ℕ) (size : A → ℕ) (f : ℕ → A → List ℕ) (w : ℕ) (d : A) (xs : List A) (stride : (m i : ℕ) → i < length xs → length (f m (getD xs i d)) ≡ w) where
+  pub length-first : (i : ℕ) → i ≤ length xs → length (gatherFrom size f 0 (take i xs)) ≡ w * i
+  length-first i h =
+      let count : length (take i xs) ≡ i = length-take-le i xs h in
+      length-gatherFrom size f w d 0 (take i xs) (λ m j c. let l : j < i = omega arith in rw (getD-take i xs j d l) (stride m j (omega arith)))
+      ∙ ap (λ (k : ℕ). w * k) count
+
+  module _ (room : w * length xs ≤ n) where
+    pub length-section : (i : ℕ) → i ≤ length xs → length (pad n (gatherFrom size f 0 (take i xs))) ≡ n
+    length-section i h = length-pad n (gatherFrom size f 0 (take i xs)) (omega (arith, length-first i h, mul-le-mul-left w h))
+
+    -- zeros at an item's end need no store
+    pub section-grows : (i : ℕ) → i < length xs → (vs : List ℕ) (z : ℕ) → f (0 + sum (map size (take i xs))) (getD xs i d) ≡ vs ++ replicate z 0
+        → Stored (pad n (gatherFrom size f 0 (take i xs))) (w * i) vs (pad n (gatherFrom size f 0 (take (suc i) xs)))
+    section-grows i b vs z e =
+        let k : ℕ = 0 + sum (map size (take i xs)) in
+        let len : length vs + z ≡ w = sym (ap length e ∙ simp (length-append, length-replicate)) ∙ stride k i b in
+        let most : w * suc i ≤ w * length xs = mul-le-mul-left w b in
+        rw (take-suc xs i d b, gatherFrom-append size f 0 (take i xs) (getD xs i d ∷ []), append-nil, e)
+        (pad-stored n (gatherFrom size f 0 (take i xs)) 0 vs z
+        (omega (arith, length-first i (omega arith), mul-suc w i))
+        (omega (arith, length-first i (omega arith))))
+
+-- ---- a store in a section is a store in the table
+
+unfoldable tableOf : (h r b w e : List ℕ) → List ℕ
+tableOf h r b w e = 1 ∷ pad 555152 (h ++ (r ++ (b ++ (w ++ e))))
+
+record Lengths (h r b w e : List ℕ) : Type 0 where
+  pub head : length h ≡ 73
+  pub registers : length r ≡ 16896
+  pub blocks : length b ≡ 4416
+  pub rows : length w ≡ 12288
+  pub entries : length e ≡ 1024
+
+module _ {h r b w e : List ℕ} (l : Lengths h r b w e) where
+  length-table : length (tableOf h r b w e) ≡ 555153
+  unfolding tableOf
+  length-table = ap suc (length-pad 555152 (h ++ (r ++ (b ++ (w ++ e)))) (simp length-append (omega (arith, l))))
+
+  in-cells : {k : ℕ} {vs c : List ℕ} → Stored (h ++ (r ++ (b ++ (w ++ e)))) k vs c → k + length vs ≤ 34697 → {m : ℕ} → m ≡ 1 + k
+      → Stored (tableOf h r b w e) m vs (1 ∷ pad 555152 c)
+  unfolding tableOf
+  in-cells s f p = stored-right (stored-pad s 555152 (simp length-append (omega (arith, l)))) (1 ∷ []) p
+
+  module _ {k : ℕ} {vs x : List ℕ} {m : ℕ} where
+    in-registers : Stored r k vs x → k + length vs ≤ 16896 → m ≡ 74 + k → Stored (tableOf h r b w e) m vs (tableOf h x b w e)
+    unfolding tableOf
+    in-registers s f p = in-cells (stored-right (stored-left s (b ++ (w ++ e)) (omega (arith, l))) h refl) (omega (arith, l)) (omega (arith, l))
+
+    in-blocks : Stored b k vs x → k + length vs ≤ 4416 → m ≡ 16970 + k → Stored (tableOf h r b w e) m vs (tableOf h r x w e)
+    unfolding tableOf
+    in-blocks s f p = in-cells (stored-right (stored-right (stored-left s (w ++ e) (omega (arith, l))) r refl) h refl) (omega (arith, l)) (omega (arith, l))
+
+    in-rows : Stored w k vs x → k + length vs ≤ 12288 → m ≡ 21386 + k → Stored (tableOf h r b w e) m vs (tableOf h r b x e)
+    unfolding tableOf
+    in-rows s f p =
+        in-cells (stored-right (stored-right (stored-right (stored-left s e (omega (arith, l))) b refl) r refl) h refl) (omega (arith, l)) (omega (arith, l))
+
+-- ---- one more item
+
+abbrev height : Block → ℕ
+height b = length (b .rows)
+
+abbrev entries : Row → ℕ
+entries r = length (entriesOf r)
+
+-- of the cells of an item, those that are stored
+short : {xs : List ℕ} (vs : List ℕ) (z w : ℕ) → xs ≡ vs ++ replicate z 0 → length xs ≡ w → length vs ≤ w
+short vs z w e l = let n : length vs + z ≡ w = sym (ap length e ∙ simp (length-append, length-replicate)) ∙ l in omega arith
+
+module _ (g : Func) (fits : FunctionFits g) where
+  row-stride : (m i : ℕ) → i < length (rowsOf g) → length (rowCells m (getD (rowsOf g) i Row.nop)) ≡ 12
+  row-stride m i b = length-row m (getD (rowsOf g) i Row.nop)
+
+  abbrev registersFirst : ℕ → List ℕ
+  registersFirst i = pad 16896 (gatherFrom (λ x. 0) (λ m. registerCells) 0 (take i (g .registers)))
+
+  abbrev blocksFirst : ℕ → List ℕ
+  blocksFirst j = pad 4416 (gatherFrom height blockCells 0 (take j (g .blocks)))
+
+  abbrev rowsFirst : ℕ → List ℕ
+  rowsFirst k = pad 12288 (gatherFrom entries rowCells 0 (take k (rowsOf g)))
+
+  sections : (i j k : ℕ) → filled g i j k ≡ tableOf (headCells g) (registersFirst i) (blocksFirst j) (rowsFirst k) (entrySection g)
+  unfolding filled tableOf
+  sections i j k = rw (gather-is-from registerCells 0 (take i (g .registers)))
+
+  registers-room : 66 * length (g .registers) ≤ 16896
+  registers-room = omega (arith, fits .registerCount)
+
+  blocks-room : 69 * length (g .blocks) ≤ 4416
+  blocks-room = omega (arith, fits .blockCount)
+
+  rows-room : 12 * length (rowsOf g) ≤ 12288
+  rows-room = omega (arith, fits .rowCount)
+
+  module _ (i j k : ℕ) (hi : i ≤ length (g .registers)) (hj : j ≤ length (g .blocks)) (hk : k ≤ length (rowsOf g)) where
+    lengths : Lengths (headCells g) (registersFirst i) (blocksFirst j) (rowsFirst k) (entrySection g)
+    lengths =
+        record {
+          head = length-head g fits;
+          registers = length-section 16896 (λ x. 0) (λ m. registerCells) 66 noRegister (g .registers) (registers-stride g fits) registers-room i hi;
+          blocks = length-section 4416 height blockCells 69 noBlock (g .blocks) (blocks-stride g fits) blocks-room j hj;
+          rows = length-section 12288 entries rowCells 12 Row.nop (rowsOf g) row-stride rows-room k hk;
+          entries = length-entries g fits;
+        }
+
+    pub length-filled : length (filled g i j k) ≡ 555153
+    length-filled = rw (sections i j k) (length-table lengths)
+
+    module _ (vs : List ℕ) (z : ℕ) where
+      pub register-stored : i < length (g .registers) → registerCells (getD (g .registers) i noRegister) ≡ vs ++ replicate z 0
+          → Stored (filled g i j k) (74 + 66 * i) vs (filled g (suc i) j k)
+      register-stored b e =
+          rw (sections i j k, sections (suc i) j k)
+          (in-registers lengths (section-grows 16896 (λ x. 0) (λ m. registerCells) 66 noRegister (g .registers) (registers-stride g fits) registers-room i b vs z e)
+          (omega (arith, short vs z 66 e (registers-stride g fits 0 i b), registers-room)) refl)
+
+      pub block-stored : j < length (g .blocks) → blockCells (0 + firstRow g j) (blockAt g j) ≡ vs ++ replicate z 0
+          → Stored (filled g i j k) (16970 + 69 * j) vs (filled g i (suc j) k)
+      unfolding firstRow
+      block-stored b e =
+          rw (sections i j k, sections i (suc j) k)
+          (in-blocks lengths (section-grows 4416 height blockCells 69 noBlock (g .blocks) (blocks-stride g fits) blocks-room j b vs z e)
+          (omega (arith, short vs z 69 e (blocks-stride g fits (0 + firstRow g j) j b), blocks-room)) refl)
+
+      pub row-stored : k < length (rowsOf g) → rowCells (0 + sum (map entries (take k (rowsOf g)))) (getD (rowsOf g) k Row.nop) ≡ vs ++ replicate z 0
+          → Stored (filled g i j k) (21386 + 12 * k) vs (filled g i j (suc k))
+      row-stored b e =
+          rw (sections i j k, sections i j (suc k))
+          (in-rows lengths (section-grows 12288 entries rowCells 12 Row.nop (rowsOf g) row-stride rows-room k b vs z e)
+          (omega (arith, short vs z 12 e (row-stride (0 + sum (map entries (take k (rowsOf g)))) k b), rows-room)) refl)
+
+-- ---- all of it, and none of it
+
+pub filled-all : (g : Func) → filled g (length (g .registers)) (length (g .blocks)) (length (rowsOf g)) ≡ cells (g ∷ [])
+unfolding filled cells functionCells registerSection blockSection rowSection
+filled-all g =
+    let e : functionCells g ++ [] ≡ functionCells g = append-nil (functionCells g) in
+    rw (take-length (g .registers), take-length (g .blocks), take-length (rowsOf g), e)
+
+zeros-pad : (n : ℕ) → zeros n ≡ pad n []
+unfolding zeros
+zeros-pad n = sym (pad-is n [] n (omega arith))
+
+no-sections : (n : ℕ) (xs : List ℕ) (a b c d : ℕ) → length xs + (a + (b + (c + d))) ≤ n
+    → pad n (xs ++ (pad a [] ++ (pad b [] ++ (pad c [] ++ pad d [])))) ≡ pad n xs
+no-sections n xs a b c d h =
+    let z : (k : ℕ) → pad k [] ≡ replicate k 0 = λ k. pad-is k [] k (omega arith) in
+    simp (z, replicate-append-replicate) (pad-zeros n xs (a + (b + (c + d))) h)
+
+pad-cons : (n x : ℕ) (xs : List ℕ) → length xs ≤ n → pad (suc n) (x ∷ xs) ≡ x ∷ pad n xs
+pad-cons n x xs h =
+    let k : ℕ = n - length xs in
+    pad-is (suc n) (x ∷ xs) k (omega arith) ∙ ap (λ (r : List ℕ). x ∷ r) (sym (pad-is n xs k (omega arith)))
+
+module _ (g : Func) (fits : FunctionFits g) (none : gather entriesOf (rowsOf g) ≡ []) where
+  filled-head : filled g 0 0 0 ≡ pad 555153 (1 ∷ headCells g)
+  unfolding filled entrySection
+  filled-head =
+      let short : length (headCells g) ≤ 555152 = omega (arith, length-head g fits) in
+      rw none
+      (ap (λ (r : List ℕ). 1 ∷ r) (no-sections 555152 (headCells g) 16896 4416 12288 1024 (omega (arith, length-head g fits)))
+      ∙ sym (pad-cons 555152 1 (headCells g) short))
+
+  -- the head goes to a table that is all zero
+  pub head-stored : (vs : List ℕ) (z : ℕ) → headCells g ≡ vs ++ replicate z 0 → Stored (zeros 555153) 0 (1 ∷ vs) (filled g 0 0 0)
+  head-stored vs z e =
+      let n : length vs + z ≡ 73 = sym (ap length e ∙ simp (length-append, length-replicate)) ∙ length-head g fits in
+      rw (filled-head, e, zeros-pad 555153) (pad-stored 555153 [] 0 (1 ∷ vs) z (omega arith) (omega arith))

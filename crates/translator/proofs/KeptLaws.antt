@@ -1,0 +1,199 @@
+-- The kept blocks of a translation and their rows, put down one after the other.
+-- Assumes nothing.
+use mathlib.Core.Path.{_≡_, refl, sym, ap, _∙_}
+use mathlib.Core.Bool.{Bool, true, false, cond, true≢false}
+use mathlib.Core.List.{List, [], _∷_, _++_, map, append-nil, append-assoc}
+use Prim.Native.Nat.{ℕ, zero, suc, _+_, _-_, _*_, _≤_, _<_}
+use native.Mathlib.Nat.{zero-add}
+use native.Mathlib.Numerals.{add-one}
+use native.Mathlib.Omega.{arith}
+use lib.ListN.{length, getD, take, replicate}
+use lib.Seq.{sets}
+use Rattle.laws.specs.Lists.{sum}
+use Rattle.laws.proofs.Cells.{sets-then}
+use Rattle.laws.proofs.Every.{every-at}
+use Rattle.laws.proofs.Keep.{any-failed}
+use Rattle.laws.proofs.Storing.{Stored}
+use Rattle.language.specs.Instructions.{Form, formOf}
+use Rattle.language.specs.Programs.{Row, Block, Func, noBlock, blockAt, rowsAt, rowsOf, firstRow, isPhi, opOf, entriesOf}
+use Rattle.language.specs.Table.{twoBytes, blockCount, blockRows, blockFirst, blockName, rowOp, rowCount, rowCells, blockCells, decodeAs, decodeRow, decodeFunction}
+use Rattle.language.specs.Translating.{retarget, translation}
+use Rattle.instructions.specs.Shapes.{shapeOf}
+use Rattle.theorems.proofs.TableView.{block-count, block-rows-count, block-row-is}
+use Rattle.theorems.proofs.SimulationRows.{phisAt, keptAt, keptRow, rowOf, kept-at, kept-is, rows-count}
+use Rattle.theorems.proofs.AcceptanceNumbers.{block-lt}
+use Rattle.rules.specs.Prepared.{Prepared}
+use Rattle.translator.specs.Source.{Translatable, Planned, translated, built, phisIn, keptCells, Naming, KeptRows}
+use Rattle.translator.proofs.Counting.{first-next}
+use Rattle.translator.proofs.Filling.{length-filled, block-stored, row-stored}
+use Rattle.translator.proofs.Items.{row-in-block, row-within, first-within, row-of-block, op-decoded, kept-name, kept-height, kept-row}
+use Rattle.translator.proofs.RegistersLaws.{target-fits, plain, name-cells}
+use Rattle.translator.proofs.Renaming.{Renames, renames, cells-as}
+use Rattle.translator.proofs.SizesLaws.{phis-here}
+
+-- a row that is no phi has no entries to place
+pub plain-cells : (n : ℕ) (row : Row) → isPhi row ≡ false → rowCells n row ≡ rowCells 0 row
+unfolding rowCells
+plain-cells n Row.nop e = refl
+plain-cells n (Row.load op t x) e = refl
+plain-cells n (Row.unary op t s) e = refl
+plain-cells n (Row.binary op t l r) e = refl
+plain-cells n (Row.phi t es) e = absurd (true≢false e)
+plain-cells n (Row.jump b) e = refl
+plain-cells n (Row.branch s x y) e = refl
+plain-cells n (Row.return s) e = refl
+plain-cells n Row.leave e = refl
+plain-cells n (Row.unknown op) e = refl
+
+-- the blocks that a row names are within the limit
+naming-as : (f : Func) (m plan t : List ℕ) (a x r : ℕ) (g : Form) → formOf (rowOp t a r) ≡ g → Renames f m plan x (decodeAs g t a r) → Naming t a r (shapeOf (rowOp t a r) .operand)
+unfolding decodeAs shapeOf
+naming-as f m plan t a x r Form.nop e k = rw e (record { first = λ z. absurd (omega arith); second = λ z. absurd (omega arith) })
+naming-as f m plan t a x r Form.load e k = rw e (record { first = λ z. absurd (omega arith); second = λ z. absurd (omega arith) })
+naming-as f m plan t a x r Form.unary e k = rw e (record { first = λ z. absurd (omega arith); second = λ z. absurd (omega arith) })
+naming-as f m plan t a x r Form.binary e k = rw e (record { first = λ z. absurd (omega arith); second = λ z. absurd (omega arith) })
+naming-as f m plan t a x r Form.phi e k = rw e (record { first = λ z. absurd (omega arith); second = λ z. absurd (omega arith) })
+naming-as f m plan t a x r Form.jump e k = rw e (record { first = λ z. k .below; second = λ z. absurd (omega arith) })
+naming-as f m plan t a x r Form.branch e k = rw e (record { first = λ z. k .0 .below; second = λ z. k .1 .below })
+naming-as f m plan t a x r Form.return e k = rw e (record { first = λ z. absurd (omega arith); second = λ z. absurd (omega arith) })
+naming-as f m plan t a x r Form.leave e k = rw e (record { first = λ z. absurd (omega arith); second = λ z. absurd (omega arith) })
+naming-as f m plan t a x r Form.unknown e k = rw e (record { first = λ z. absurd (omega arith); second = λ z. absurd (omega arith) })
+
+module _ (t : List ℕ) (a : ℕ) (h : Translatable t a) where
+  abbrev f : Func
+  f = decodeFunction t a
+
+  abbrev g : Func
+  g = translated t a
+
+  pub length-built : (j k : ℕ) → j ≤ length (g .blocks) → k ≤ length (rowsOf g) → length (built t a j k) ≡ 555153
+  length-built j k hj hk = length-filled g (target-fits t a h) (length (g .registers)) j k (omega arith) hj hk
+
+  -- one more row
+  pub one-row : (j k : ℕ) (out next vs : List ℕ) → j ≤ length (g .blocks) → k < length (rowsOf g) → out ≡ built t a j k
+      → rowCells 0 (getD (rowsOf g) k Row.nop) ≡ vs → next ≡ sets out (21386 + 12 * k) vs → next ≡ built t a j (suc k)
+  one-row j k out next vs hj l e c s =
+      let n : ℕ = 0 + sum (map (λ r. length (entriesOf r)) (take k (rowsOf g))) in
+      let cells : rowCells n (getD (rowsOf g) k Row.nop) ≡ vs ++ replicate 0 0 =
+      plain-cells n (getD (rowsOf g) k Row.nop) (every-at (plain t a h) Row.nop k l) ∙ c ∙ sym (append-nil vs) in
+      s ∙ ap (λ (u : List ℕ). sets u (21386 + 12 * k) vs) e
+      ∙ sym (row-stored g (target-fits t a h) (length (g .registers)) j k (omega arith) hj (omega arith) vs 0 l cells .cells)
+
+  -- one more block: its place, then its name
+  pub one-block : (j k : ℕ) (out next vs : List ℕ) (z : ℕ) → j < length (g .blocks) → k ≤ length (rowsOf g) → out ≡ built t a j k
+      → blockCells (firstRow g j) (blockAt g j) ≡ vs ++ replicate z 0 → next ≡ sets out (16970 + 69 * j) vs → next ≡ built t a (suc j) k
+  one-block j k out next vs z l hk e c s =
+      s ∙ ap (λ (u : List ℕ). sets u (16970 + 69 * j) vs) e
+      ∙ sym (block-stored g (target-fits t a h) (length (g .registers)) j k (omega arith) (omega arith) hk vs z l (rw (zero-add (firstRow g j)) c) .cells)
+
+  -- ---- kept blocks
+
+  few-blocks : blockCount t a ≤ 64
+  few-blocks = h .sized .blocks
+
+  pub block-within : (x : ℕ) → x < blockCount t a → x < length (g .blocks)
+  block-within x l = block-lt f x (rw (block-count t a) l)
+
+  pub name-short : (x : ℕ) → x < blockCount t a → length (blockName t a x) ≤ 64
+  name-short x l = rw (kept-name t a (h .sized) (h .clean) x l) at (target-fits t a h .blockNames x (block-within x l) .short)
+
+  pub block-length : (x k : ℕ) (out : List ℕ) → x < blockCount t a → k ≡ firstRow g x → out ≡ built t a x k → length out ≡ 555153
+  block-length x k out l d e =
+      ap length e ∙ length-built x k (omega (arith, block-within x l)) (omega (arith, first-within g x (block-within x l)))
+
+  pub first-none : 0 ≡ firstRow g 0
+  unfolding firstRow
+  first-none = refl
+
+  module _ (m plan : List ℕ) (p : Prepared f m) (q : Planned f plan) where
+    module _ (x i : ℕ) (l : x < blockCount t a) (b : i < length (rowsAt g x)) where
+      abbrev place : ℕ
+      place = length (phisAt f x) + i
+
+      abbrev r : ℕ
+      r = blockFirst t a x + place
+
+      in-block : place < blockRows t a x
+      in-block = omega (arith, kept-height t a (h .sized) (h .clean) x l)
+
+      row-here : rowOf f x place ≡ decodeRow t a r
+      row-here = block-row-is t a x l place in-block
+
+      no-phi-here : isPhi (decodeRow t a r) ≡ false
+      no-phi-here =
+          let few : i < length (keptAt f x) = omega (arith, in-block, rows-count f (h .clean) x, block-rows-count t a x l) in
+          ap isPhi (sym row-here ∙ kept-at f (h .clean) x i) ∙ kept-is f (h .clean) x i few
+
+      renames-here : Renames f m plan x (decodeRow t a r)
+      renames-here =
+          renames f (h .clean) m plan p q (target-fits t a h .blockCount) x place (rw (block-count t a) l) (rw (block-rows-count t a x l) in-block)
+          (rw (block-count t a) few-blocks) (decodeRow t a r) row-here
+
+      naming-here : Naming t a r (shapeOf (rowOp t a r) .operand)
+      unfolding decodeRow
+      naming-here = naming-as f m plan t a x r (formOf (rowOp t a r)) refl renames-here
+
+      cells-here : rowCells 0 (getD (rowsOf g) (firstRow g x + i) Row.nop) ≡ keptCells t a m plan x r
+      unfolding decodeRow
+      cells-here =
+          ap (rowCells 0) (row-in-block g x i (block-within x l) b ∙ kept-row t a (h .sized) (h .clean) x l i b)
+          ∙ cells-as f m plan t a x r (formOf (rowOp t a r)) refl (op-decoded t a r) no-phi-here renames-here
+
+    module _ (x r n k i : ℕ) (s : KeptRows t a m x r n k) (b : i < n) where
+      here : i < length (rowsAt g x)
+      here = omega (arith, s .count, phis-here t a m p (h .clean) x (s .block), kept-height t a (h .sized) (h .clean) x (s .block))
+
+      there : r + i ≡ blockFirst t a x + (length (phisAt f x) + i)
+      there = omega (arith, s .first, phis-here t a m p (h .clean) x (s .block))
+
+      pub keeps-row : r + i < 1024
+      keeps-row = omega (arith, there, row-of-block t a (h .sized) x (length (phisAt f x) + i) (s .block) (in-block x i (s .block) here), h .sized .rows)
+
+      within : k + i < length (rowsOf g)
+      within = rw (s .place) (row-within g x i (block-within x (s .block)) here)
+
+      pub keeps-place : k + i < 1024
+      keeps-place = omega (arith, within, target-fits t a h .rowCount)
+
+      pub keeps-naming : Naming t a (r + i) (shapeOf (rowOp t a (r + i)) .operand)
+      keeps-naming = rw there (naming-here x i (s .block) here)
+
+      pub keeps-one : (out next : List ℕ) → out ≡ built t a (x + 1) (k + i) → next ≡ sets out (21386 + 12 * (k + i)) (keptCells t a m plan x (r + i)) → next ≡ built t a (x + 1) (k + (i + 1))
+      keeps-one out next e c =
+          let more : k + (i + 1) ≡ suc (k + i) = omega arith in
+          let cells : rowCells 0 (getD (rowsOf g) (k + i) Row.nop) ≡ keptCells t a m plan x (r + i) = rw (s .place, there) (cells-here x i (s .block) here) in
+          rw more (one-row (x + 1) (k + i) out next (keptCells t a m plan x (r + i)) (omega (arith, block-within x (s .block))) within e cells c)
+
+    -- the rows that are no phi
+    pub fewer-phis : (x p′ w : ℕ) → x < blockCount t a → p′ ≡ phisIn m x → w ≡ blockRows t a x → p′ ≤ w
+    fewer-phis x p′ w l e d = omega (arith, phis-here t a m p (h .clean) x l, kept-height t a (h .sized) (h .clean) x l)
+
+    pub rows-left : (x p′ w : ℕ) → x < blockCount t a → p′ ≡ phisIn m x → w ≡ blockRows t a x → phisIn m x + (w - p′) ≡ blockRows t a x
+    rows-left x p′ w l e d = omega (arith, fewer-phis x p′ w l e d)
+
+    -- a block's place and name
+    module _ (x n k : ℕ) (l : x < blockCount t a) (d : k ≡ firstRow g x) (c : phisIn m x + n ≡ blockRows t a x) where
+      pub kept-count : n ≡ length (rowsAt g x)
+      kept-count = omega (arith, phis-here t a m p (h .clean) x l, kept-height t a (h .sized) (h .clean) x l)
+
+      pub kept-next : k + n ≡ firstRow g (x + 1)
+      kept-next = rw (add-one x) (omega (arith, first-next g x (block-within x l), kept-count))
+
+      pub kept-most : k + n ≤ 1024
+      kept-most = omega (arith, kept-count, first-within g x (block-within x l), target-fits t a h .rowCount)
+
+      pub keeps-block : (out first next name : List ℕ) → out ≡ built t a x k → first ≡ sets out (16970 + 69 * x) (twoBytes k ++ twoBytes n) → name ≡ blockName t a x
+          → next ≡ sets first (16974 + 69 * x) (length name ∷ name) → next ≡ built t a (x + 1) k
+      unfolding blockCells
+      keeps-block out first next name e s1 z s2 =
+          let vs : List ℕ = twoBytes k ++ twoBytes n ++ (length name ∷ name) in
+          let few : length name ≤ 64 = rw z (name-short x l) in
+          let cells : blockCells (firstRow g x) (blockAt g x) ≡ vs ++ replicate (64 - length name) 0 =
+          rw (← d, ← kept-count, kept-name t a (h .sized) (h .clean) x l, ← z, name-cells name few) in
+          let all : next ≡ sets out (16970 + 69 * x) vs = sets-then out (twoBytes k ++ twoBytes n) (length name ∷ name) (16970 + 69 * x) (omega arith) s1 s2 in
+          rw (add-one x) (one-block x k out next vs (64 - length name) (block-within x l) (omega (arith, first-within g x (block-within x l))) e cells all)
+
+    pub kept-length : (x r n k : ℕ) (out : List ℕ) → KeptRows t a m x r n k → out ≡ built t a (x + 1) k → length out ≡ 555153
+    kept-length x r n k out s e =
+        ap length e
+        ∙ length-built (x + 1) k (omega (arith, block-within x (s .block))) (omega (arith, s .place, first-within g x (block-within x (s .block))))

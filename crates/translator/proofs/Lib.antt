@@ -1,0 +1,10 @@
+pub mod Filling
+pub mod Running
+pub mod Counting
+pub mod Items
+pub mod Renaming
+pub mod Lookups
+pub mod SizesLaws
+pub mod RegistersLaws
+pub mod KeptLaws
+pub mod EdgesLaws

@@ -1,0 +1,20 @@
+-- Each way is a case of `pairsIn`.
+use borrow.Author.Needs.{needs}
+use Rattle.translator.proofs.Lookups.{pairs-none, pairs-some}
+use Rattle.translator.proofs.prepared.pairs.Statement.{statement}
+use Rattle.translator.proofs.prepared.pairs.Tie as tie
+
+pub pairs-spec : {M : Type 1} → statement M
+pairs-spec =
+    tie.close
+    (tie.spec
+    (λ c κs. search needs)
+    (λ c. let args = c .before .before .before .args in pairs-none (args .m .now) (args .b) (c .before .phis .result) (c .before .phis .ensures .0) (c .if1 .taken))
+    (λ c. search needs)
+    (λ c. search needs)
+    (λ c. search needs)
+    (λ c κs. search needs)
+    (λ c.
+    let s = c .before .before .before in
+    let args = s .before .before .args in
+    pairs-some (args .m .now) (args .b) (s .phis .result) (s .phis .ensures .0) (c .before .before .if1 .left) (c .number .ensures .0) (c .number .ensures .1)))

@@ -1,0 +1,160 @@
+// The blocks that are kept: their rows but the phi, with the blocks that a terminator names renamed.
+ghost use mathlib.Core.Path.{_≡_};
+ghost use mathlib.Core.Bool.{cond};
+ghost use mathlib.Core.List.{_++_};
+ghost use Prim.Native.Nat.{_+_, _*_, _≤_, _<_};
+ghost use lib.ListN.{length};
+ghost use lib.Seq.{sets};
+ghost use Rattle.language.specs.Programs.{firstRow};
+ghost use Rattle.language.specs.Table.{twoBytes, blockCount, rowOp, decodeFunction};
+ghost use Rattle.instructions.specs.Shapes.{shapeOf};
+ghost use Rattle.rules.specs.Prepared.{Prepared};
+ghost use Rattle.translator.specs.Source.{Translatable, Planned, translated, built, Naming, operandAs, keptCells, KeptRows};
+use crate::prepared::phis;
+use crate::prepared::renamed;
+use instructions::shape_of;
+use table::block_count;
+use table::block_first;
+use table::block_name;
+use table::block_rows;
+use table::jump_first;
+use table::jump_second;
+use table::load_number;
+use table::put_name;
+use table::put_row;
+use table::put_two;
+use table::row_left;
+use table::row_op;
+use table::row_right;
+use table::row_target;
+
+// n where the test holds, else 0.
+fn if_so(test: bool, n: usize) -> usize
+    ensures { λ r. ⌜ (r ≡ cond test n 0) × (r ≤ n) ⌝ }
+{
+    if test {
+        return n;
+    }
+    0
+}
+
+// The operand of row r of block x, by its kind: a load's number, or the blocks that are named, renamed.
+fn operand(t: &[u8], a: usize, m: &[u16], plan: &[u16], x: usize, r: usize, kind: u8) -> u64
+    requires { ⌜ (a + 34697 ≤ length (now t)) × (length (now m) ≡ 768) × (length (now plan) ≡ 64) × (x < 64) × (r < 1024) ⌝ }
+    requires { ⌜ Naming (now t) a r kind ⌝ }
+    ensures { λ n. ⌜ n ≡ operandAs (now (t .entry)) a (now (m .entry)) (now (plan .entry)) x r kind ⌝ }
+{
+    match kind {
+        1 => load_number(t, a, r),
+        3 => renamed(m, plan, x, 0, jump_first(t, a, r)) as u64,
+        4 => {
+            let y = renamed(m, plan, x, 0, jump_first(t, a, r));
+            let z = renamed(m, plan, x, 1, jump_second(t, a, r));
+            (y + 256 * z) as u64
+        }
+        _ => 0,
+    }
+}
+
+// Row k of the translation, from row r of block x: the cells that its form needs, every other 0.
+fn keep_row(
+    t: &[u8],
+    a: usize,
+    m: &[u16],
+    plan: &[u16],
+    x: usize,
+    r: usize,
+    out: &mut [u8],
+    k: usize,
+)
+    requires { ⌜ (a + 34697 ≤ length (now t)) × (length (now m) ≡ 768) × (length (now plan) ≡ 64) × (x < 64) × (r < 1024) ⌝ }
+    requires { ⌜ Naming (now t) a r (shapeOf (rowOp (now t) a r) .operand) ⌝ }
+    requires { ⌜ (length (now out) ≡ 555153) × (k < 1024) ⌝ }
+    ensures { λ _. ⌜ now (out .exit) ≡ sets (now (out .entry)) (21386 + 12 * k) (keptCells (now (t .entry)) a (now (m .entry)) (now (plan .entry)) x r) ⌝ }
+{
+    let op = row_op(t, a, r);
+    let shape = shape_of(op);
+    let sources = shape.sources;
+    let target = if_so(shape.target, row_target(t, a, r));
+    let left = if_so(0 < sources, row_left(t, a, r));
+    let right = if_so(1 < sources, row_right(t, a, r));
+    let last = operand(t, a, m, plan, x, r, shape.operand);
+    put_row(out, 1, k, op, target, left, right, last);
+}
+
+// The n rows of block x from row r on, as rows k and on.
+fn keep_rows(
+    t: &[u8],
+    a: usize,
+    m: &[u16],
+    plan: &[u16],
+    x: usize,
+    r: usize,
+    n: usize,
+    out: &mut [u8],
+    k: usize,
+)
+    requires { ⌜ Translatable (now t) a ⌝ }
+    requires { ⌜ Prepared (decodeFunction (now t) a) (now m) ⌝ }
+    requires { ⌜ Planned (decodeFunction (now t) a) (now plan) ⌝ }
+    requires { ⌜ KeptRows (now t) a (now m) x r n k ⌝ }
+    requires { ⌜ now out ≡ built (now t) a (x + 1) k ⌝ }
+    ensures { λ _. ⌜ now (out .exit) ≡ built (now (t .entry)) a (x + 1) (k + n) ⌝ }
+{
+    let mut i = 0;
+    while i < n {
+        keep_row(t, a, m, plan, x, r + i, out, k + i);
+        i += 1;
+    }
+}
+
+// Where the rows of block b of the translation begin, and how many there are.
+pub fn put_place(out: &mut [u8], b: usize, first: usize, rows: usize)
+    requires { ⌜ (length (now out) ≡ 555153) × (b < 64) ⌝ }
+    ensures { λ _. ⌜ now (out .exit) ≡ sets (now (out .entry)) (16970 + 69 * b) (twoBytes first ++ twoBytes rows) ⌝ }
+{
+    put_two(out, 16970 + 69 * b, first);
+    put_two(out, 16972 + 69 * b, rows);
+}
+
+// Block x without its phi, its rows from row k on; the row behind it.
+fn keep_block(
+    t: &[u8],
+    a: usize,
+    m: &[u16],
+    plan: &[u16],
+    x: usize,
+    out: &mut [u8],
+    k: usize,
+) -> usize
+    requires { ⌜ Translatable (now t) a ⌝ }
+    requires { ⌜ Prepared (decodeFunction (now t) a) (now m) ⌝ }
+    requires { ⌜ Planned (decodeFunction (now t) a) (now plan) ⌝ }
+    requires { ⌜ (x < blockCount (now t) a) × (k ≡ firstRow (translated (now t) a) x) × (now out ≡ built (now t) a x k) ⌝ }
+    ensures { λ r. ⌜ (r ≡ firstRow (translated (now (t .entry)) a) (x + 1)) × (now (out .exit) ≡ built (now (t .entry)) a (x + 1) r) ⌝ }
+{
+    let p = phis(m, x);
+    let n = block_rows(t, a, x) - p;
+    put_place(out, x, k, n);
+    put_name(out, 16974 + 69 * x, block_name(t, a, x));
+    keep_rows(t, a, m, plan, x, block_first(t, a, x) + p, n, out, k);
+    k + n
+}
+
+// All blocks; the row behind them.
+pub fn keep_blocks(t: &[u8], a: usize, m: &[u16], plan: &[u16], out: &mut [u8]) -> usize
+    requires { ⌜ Translatable (now t) a ⌝ }
+    requires { ⌜ Prepared (decodeFunction (now t) a) (now m) ⌝ }
+    requires { ⌜ Planned (decodeFunction (now t) a) (now plan) ⌝ }
+    requires { ⌜ now out ≡ built (now t) a 0 0 ⌝ }
+    ensures { λ r. ⌜ (r ≡ firstRow (translated (now (t .entry)) a) (blockCount (now (t .entry)) a)) × (now (out .exit) ≡ built (now (t .entry)) a (blockCount (now (t .entry)) a) r) ⌝ }
+{
+    let n = block_count(t, a);
+    let mut k = 0;
+    let mut x = 0;
+    while x < n {
+        k = keep_block(t, a, m, plan, x, out, k);
+        x += 1;
+    }
+    k
+}

@@ -1,0 +1,82 @@
+// "Translated size, for R registers, B blocks, P phi, E pairs of predecessor and phi block".
+ghost use mathlib.Core.Path.{_≡_};
+ghost use lib.ListN.{length};
+ghost use Rattle.language.specs.Table.{decodeFunction};
+ghost use Rattle.language.specs.Translating.{translationFits};
+ghost use Rattle.theorems.proofs.Clean.{Clean};
+ghost use Rattle.rules.specs.Prepared.{Sized, Prepared};
+ghost use Rattle.translator.specs.Sizes.{sizesOf};
+ghost use Rattle.translator.specs.Source.{Translatable, Planned};
+use crate::prepared::pairs;
+use crate::prepared::phis;
+use table::block_count;
+use table::block_rows;
+use table::register_count;
+
+// The registers, blocks and rows of a translation.
+pub struct Sizes {
+    pub registers: usize,
+    pub blocks: usize,
+    pub rows: usize,
+}
+
+// "R + P registers, B + E blocks, and the old instructions less P, plus 2p + 1 for each pair".
+pub fn measure(t: &[u8], a: usize, m: &[u16]) -> Sizes
+    requires { ⌜ Sized (now t) a ⌝ }
+    requires { ⌜ Prepared (decodeFunction (now t) a) (now m) ⌝ }
+    requires { ⌜ Clean (decodeFunction (now t) a) ⌝ }
+    ensures { λ r. ⌜ r ≡ sizesOf (decodeFunction (now (t .entry)) a) ⌝ }
+{
+    let n = block_count(t, a);
+    let mut new = 0;
+    let mut edges = 0;
+    let mut rows = 0;
+    let mut b = 0;
+    while b < n {
+        let p = phis(m, b);
+        let e = pairs(m, b);
+        new += p;
+        edges += e;
+        rows += block_rows(t, a, b) + e * (2 * p + 1);
+        b += 1;
+    }
+    Sizes {
+        registers: register_count(t, a) + new,
+        blocks: n + edges,
+        rows: rows - new,
+    }
+}
+
+// "Answer 31 exactly if one is over its limit."
+pub fn fits(t: &[u8], a: usize, m: &[u16]) -> bool
+    requires { ⌜ Sized (now t) a ⌝ }
+    requires { ⌜ Prepared (decodeFunction (now t) a) (now m) ⌝ }
+    requires { ⌜ Clean (decodeFunction (now t) a) ⌝ }
+    ensures { λ r. ⌜ r ≡ translationFits (decodeFunction (now (t .entry)) a) ⌝ }
+{
+    let s = measure(t, a, m);
+    if 256 < s.registers {
+        return false;
+    }
+    if 64 < s.blocks {
+        return false;
+    }
+    s.rows <= 1024
+}
+
+// The number of the first edge block of each block, were it to have phi.
+pub fn plan_edges(t: &[u8], a: usize, m: &[u16], plan: &mut [u16])
+    requires { ⌜ Translatable (now t) a ⌝ }
+    requires { ⌜ Prepared (decodeFunction (now t) a) (now m) ⌝ }
+    requires { ⌜ length (now plan) ≡ 64 ⌝ }
+    ensures { λ _. ⌜ Planned (decodeFunction (now (t .entry)) a) (now (plan .exit)) ⌝ }
+{
+    let n = block_count(t, a);
+    let mut next = n;
+    let mut y = 0;
+    while y < n {
+        plan[y] = next as u16;
+        next += pairs(m, y);
+        y += 1;
+    }
+}
