@@ -1,1 +1,5 @@
 pub mod ReadLaws
+pub mod Accepted
+pub mod Places
+pub mod RunLaws
+pub mod TranslateLaws

@@ -13,9 +13,10 @@ use Rattle.reader.specs.Parse.{Told}
 use Rattle.reader.specs.declared.state.Reader.{Reader}
 use Rattle.reader.specs.declared.state.Taken.{Taken}
 use Rattle.reader.specs.declared.state.Taken.the-variants as taken
-use Rattle.ial.specs.declared.Verdict.{Verdict}
-use Rattle.ial.specs.declared.Verdict.the-variants as verdicts
-use Rattle.ial.specs.Verdicts.{verdictOf, filledOf, Into, Aside}
+use Rattle.checker.specs.declared.Verdict.{Verdict}
+use Rattle.checker.specs.declared.Verdict.the-variants as verdicts
+use Rattle.checker.specs.Verdicts.{verdictOf}
+use Rattle.ial.specs.Verdicts.{filledOf, Into, Aside}
 
 pub zeros-made : (n : ℕ) → replicate n 0 ≡ zeros n
 unfolding zeros

@@ -4,16 +4,11 @@ use mathlib.Core.List.{List}
 use Prim.Native.Nat.{ℕ}
 use Rattle.language.specs.Programs.{Program}
 use Rattle.language.specs.Table.{tableLength, cells}
-use Rattle.language.specs.Checking.{Verdict as Verdictᴸ}
 use Rattle.language.specs.Reading.{Reading}
 use Rattle.language.specs.Answers.{Filled, filledFrom, zeros}
-use Rattle.ial.specs.declared.Verdict.{Verdict}
-use Rattle.ial.specs.declared.Verdict.the-variants as verdicts
-
--- "The definition gives this paper's number and values for each of the enum's cases."
-abbrev pub verdictOf : Verdict → Verdictᴸ
-verdictOf verdicts.Accepted = Verdictᴸ.accepted
-verdictOf (verdicts.Refused n p) = Verdictᴸ.refused n p
+use Rattle.checker.specs.declared.Verdict.{Verdict}
+use Rattle.checker.specs.declared.Verdict.the-variants as verdicts
+use Rattle.checker.specs.Verdicts.{verdictOf}
 
 -- An answer with the lent table as it is afterwards.
 abbrev pub filledOf : Verdict → List ℕ → Filled

@@ -1,11 +1,16 @@
 // The entry points for C and Rust: numbers and slices, with an answer of four numbers.
+use crate::Ran;
 use crate::Verdict;
+use crate::check;
 use crate::read;
+use crate::run;
+use crate::translate;
 ghost use mathlib.Core.Path.{_≡_};
 ghost use lib.ListN.{length};
-ghost use Rattle.language.specs.Answers.{readAnswer, verdictNumbers};
-ghost use Rattle.ial.specs.Verdicts.{verdictOf};
+ghost use Rattle.language.specs.Answers.{readAnswer, checkAnswer, runAnswer, translateAnswer, verdictNumbers, ranNumbers};
+ghost use Rattle.checker.specs.Verdicts.{verdictOf};
 ghost use Rattle.ial.specs.Numbers.{answerOf};
+ghost use Rattle.ial.specs.Runs.{ranOf};
 
 // "Unstated numbers of an answer are 0."
 #[repr(C)]
@@ -43,4 +48,70 @@ pub extern "C" fn ial_read(text: &[u8], out: &mut [u8]) -> Answer
     ensures { λ r. ⌜ now (out .exit) ≡ readAnswer (now (text .entry)) (length (now (out .entry))) .table ⌝ }
 {
     numbers(read(text, out))
+}
+
+// Checks a lent table: all four numbers are 0 exactly if none of 9 to 17 holds.
+#[no_mangle]
+pub extern "C" fn ial_check(table: &[u8]) -> Answer
+    ensures { λ r. ⌜ answerOf r ≡ verdictNumbers (checkAnswer (now (table .entry))) ⌝ }
+{
+    numbers(check(table))
+}
+
+// The numbers of what a run answers.
+fn run_numbers(r: Ran) -> Answer
+    ensures { λ x. ⌜ answerOf x ≡ ranNumbers (ranOf r) ⌝ }
+{
+    match r {
+        Ran::Returned(v, s) => Answer {
+            number: 0,
+            place: 0,
+            value: v,
+            steps: s,
+        },
+        Ran::Left(s) => Answer {
+            number: 0,
+            place: 0,
+            value: 0,
+            steps: s,
+        },
+        Ran::Stopped(n, p, s) => Answer {
+            number: n as u64,
+            place: p as u64,
+            value: 0,
+            steps: s,
+        },
+        Ran::Refused(n, p) => Answer {
+            number: n as u64,
+            place: p as u64,
+            value: 0,
+            steps: 0,
+        },
+    }
+}
+
+// Runs a function of a lent table on arguments, for at most `budget` steps: 9 to 17, 21, 20, 22; 27, 40 to 43. After a refusal the lent
+// registers are all zero.
+#[no_mangle]
+pub extern "C" fn ial_run(
+    table: &[u8],
+    function: u64,
+    arguments: &[u64],
+    budget: u64,
+    registers: &mut [u64],
+) -> Answer
+    ensures { λ r. ⌜ answerOf r ≡ ranNumbers (runAnswer (now (table .entry)) function (now (arguments .entry)) budget (length (now (registers .entry))) .answer) ⌝ }
+    ensures { λ r. ⌜ now (registers .exit) ≡ runAnswer (now (table .entry)) function (now (arguments .entry)) budget (length (now (registers .entry))) .registers ⌝ }
+{
+    run_numbers(run(table, function, arguments, budget, registers))
+}
+
+// Translates a function of a lent table out of ssa, to a lent table of that function alone: 9 to 17, 21, 30, 31, 22. After a refusal the
+// output is all zero.
+#[no_mangle]
+pub extern "C" fn ial_translate(table: &[u8], function: u64, out: &mut [u8]) -> Answer
+    ensures { λ r. ⌜ answerOf r ≡ verdictNumbers (translateAnswer (now (table .entry)) function (length (now (out .entry))) .answer) ⌝ }
+    ensures { λ r. ⌜ now (out .exit) ≡ translateAnswer (now (table .entry)) function (length (now (out .entry))) .table ⌝ }
+{
+    numbers(translate(table, function, out))
 }

@@ -2,16 +2,28 @@
 use reader::Taken;
 
 mod c;
+mod running;
+mod translating;
 
 pub use c::Answer;
+pub use c::ial_check;
 pub use c::ial_read;
+pub use c::ial_run;
+pub use c::ial_translate;
+pub use running::Ran;
+pub use running::run;
+pub use translating::translate;
+// What an entry point answers that fills a table or judges one: done, or refused with a number of document 01 and its place.
+pub use checker::Verdict;
+use checker::check_table;
 use reader::read_text;
 use table::zero;
 ghost use mathlib.Core.Path.{_≡_};
 ghost use Prim.Native.Nat.{_≤_};
 ghost use lib.ListN.{length};
 ghost use Rattle.language.specs.Reading.{read as readOf};
-ghost use Rattle.language.specs.Answers.{zeros, readAnswer};
+ghost use Rattle.language.specs.Answers.{zeros, readAnswer, checkAnswer};
+ghost use Rattle.checker.specs.Verdicts.{verdictOf};
 ghost use Rattle.ial.specs.Verdicts.{filledOf, Into, Aside};
 
 // The cells of a table, and of the scratch that reading needs: 2,048 mentions of blocks, 69 cells each.
@@ -20,12 +32,6 @@ const TABLE: usize = 555153;
 const PENDING: usize = 141312;
 
 const MENTIONS: usize = 2048;
-
-// What an entry point answers that fills a table or judges one: done, or refused with a number of document 01 and its place.
-pub enum Verdict {
-    Accepted,
-    Refused(u8, usize),
-}
 
 // The text read into a table of the right length that is all zero.
 fn read_into(text: &[u8], t: &mut [u8]) -> Verdict
@@ -69,4 +75,11 @@ pub fn read(text: &[u8], out: &mut [u8]) -> Verdict
     };
     zero(out);
     Verdict::Refused(n, p)
+}
+
+// Checks a lent table: accepted exactly if none of 9 to 17 holds.
+pub fn check(t: &[u8]) -> Verdict
+    ensures { λ r. ⌜ verdictOf r ≡ checkAnswer (now (t .entry)) ⌝ }
+{
+    check_table(t)
 }

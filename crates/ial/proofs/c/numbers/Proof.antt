@@ -2,8 +2,8 @@
 use borrow.Author.Needs.{needs}
 use mathlib.Core.Path.{sym, ap}
 use Rattle.language.specs.Answers.{verdictNumbers}
-use Rattle.ial.specs.Verdicts.{verdictOf}
-use Rattle.ial.specs.declared.Verdict.{Verdict}
+use Rattle.checker.specs.Verdicts.{verdictOf}
+use Rattle.checker.specs.declared.Verdict.{Verdict}
 use Rattle.ial.proofs.c.numbers.Statement.{statement}
 use Rattle.ial.proofs.c.numbers.Tie as tie
 

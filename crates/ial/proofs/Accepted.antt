@@ -1,0 +1,68 @@
+-- What a table that passes its check whole gives of each of its functions: what runs and translations ask for.
+-- Assumes nothing.
+use mathlib.Core.Path.{_≡_, sym, ap, subst, subst⁻¹, _∙_}
+use mathlib.Core.Bool.{Bool, true, and-eq-true-iff}
+use mathlib.Core.List.{List, []}
+use Prim.Native.Nat.{ℕ, _+_, _*_, _≤_, _<_}
+use native.Mathlib.Omega.{arith}
+use lib.Dec.{T, eqb, leb, eqb→eq, leb→le}
+use lib.Ieee.Bits.{is-true}
+use lib.ListN.{length, getD}
+use Rattle.language.specs.Programs.{Func, noFunction, maxFunctions}
+use Rattle.language.specs.Table.{tableLength, functionLength, functionAt, functionCount, functionParams, registerCount, blocksPlaced, phisPlaced, decode, decodeFunction}
+use Rattle.language.specs.Checking.{Verdict, check, judgeFrom}
+use Rattle.language.specs.Answers.{checkAnswer}
+use Rattle.theorems.proofs.Clean.{Clean}
+use Rattle.theorems.proofs.AcceptanceCheck.{Sound, sound-parts, tested, clean-of-check}
+use Rattle.theorems.proofs.TableView.{function-count, function-is, register-count, block-count, rows-count, sequence-entries}
+use Rattle.rules.specs.Prepared.{Sized}
+use Rattle.rules.specs.Preparing.{Fit}
+
+module _ (t : List ℕ) (e : checkAnswer t ≡ Verdict.accepted) where
+  pub accepted-program : check (decode t) ≡ Verdict.accepted
+  unfolding checkAnswer
+  accepted-program = tested (eqb (length t) tableLength) (check (decode t)) 9 0 e .1
+
+  pub accepted-length : length t ≡ tableLength
+  unfolding checkAnswer
+  accepted-length = eqb→eq (length t) tableLength (tested (eqb (length t) tableLength) (check (decode t)) 9 0 e .0)
+
+  pub accepted-count : functionCount t ≤ 16
+  unfolding check
+  accepted-count =
+      omega (arith, function-count t, leb→le (length (decode t)) maxFunctions (tested (leb (length (decode t)) maxFunctions) (judgeFrom [] 0 (decode t)) 9 0 accepted-program .0))
+
+  module _ (i : ℕ) (l : i < functionCount t) where
+    abbrev a : ℕ
+    a = functionAt i
+
+    pub accepted-clean : Clean (decodeFunction t (functionAt i))
+    accepted-clean =
+        subst Clean (function-is t i l) (clean-of-check (decode t) i accepted-program (subst⁻¹ (λ (n : ℕ). i < n) (function-count t) l))
+
+    sound-here : Sound (decodeFunction t (functionAt i))
+    sound-here = sound-parts [] (decodeFunction t (functionAt i)) (accepted-clean .head)
+
+    pub accepted-within : functionAt i + functionLength ≤ length t
+    accepted-within = omega (arith, accepted-length, accepted-count)
+
+    pub accepted-sized : Sized t (functionAt i)
+    unfolding decodeFunction
+    accepted-sized =
+        let s = sound-here in
+        let placed : decodeFunction t a .placed ≡ true = is-true (decodeFunction t a .placed) (s .placed) in
+        record {
+          within = accepted-within;
+          registers = omega (arith, s .registers, register-count t a);
+          blocks = omega (arith, s .blocks, block-count t a);
+          rows = omega (arith, s .rows, rows-count t a);
+          entries = omega (arith, s .entries, sequence-entries t a (and-eq-true-iff (blocksPlaced t a) (phisPlaced t a) .0 placed .0));
+          placed = placed;
+        }
+
+    pub accepted-fit : Fit t (functionAt i)
+    accepted-fit = record { sized = accepted-sized; ranges = sound-here .ranges }
+
+    pub accepted-params : functionParams t (functionAt i) ≤ registerCount t (functionAt i)
+    unfolding decodeFunction
+    accepted-params = omega (arith, sound-here .params, register-count t a)

@@ -1,0 +1,84 @@
+// Running a function of a lent table.
+ghost use mathlib.Core.Path.{_≡_};
+ghost use Prim.Native.Nat.{_<_};
+ghost use lib.ListN.{length};
+ghost use Rattle.language.specs.Checking.{Verdict as Verdictᴸ};
+ghost use Rattle.language.specs.Table.{decode};
+ghost use Rattle.language.specs.Answers.{zeros, checkAnswer, runFunction, runAnswer};
+ghost use Rattle.machine.specs.Runs.{ranIn};
+ghost use Rattle.ial.specs.Runs.{ranOf, finishedOf, stopPlace};
+use checker::Verdict;
+use checker::check_table;
+use machine::Outcome;
+use machine::Run;
+use machine::first_unfit;
+use machine::run_on;
+use machine::start;
+use rules::prepare;
+use table::function_count;
+use table::function_params;
+use table::register_count;
+
+// The cells of a function.
+const FUNCTION: usize = 34697;
+
+// What a run answers: a returned value, a return without one, a stop with its number and place, each with the steps taken, or a refusal.
+pub enum Ran {
+    Returned(u64, u64),
+    Left(u64),
+    Stopped(u8, usize, u64),
+    Refused(u8, usize),
+}
+
+// The answer of a run of function i: "43: budget used up" where it is still going.
+fn answer_of(i: usize, r: Run) -> Ran
+    requires { ⌜ stopPlace (ranIn i r) < 32768 ⌝ }
+    ensures { λ x. ⌜ ranOf x ≡ ranIn i r ⌝ }
+{
+    match r {
+        Run::Going(p) => Ran::Stopped(43, 2048 * i + p.row, p.steps),
+        Run::Ended(o, p) => match o {
+            Outcome::Returned(v) => Ran::Returned(v, p.steps),
+            Outcome::Left => Ran::Left(p.steps),
+            Outcome::Stopped(n) => Ran::Stopped(n, 2048 * i + p.row, p.steps),
+        },
+    }
+}
+
+// A table that passes its check: "then 21; running then 20, 22".
+fn run_checked(t: &[u8], function: u64, args: &[u64], budget: u64, registers: &mut [u64]) -> Ran
+    requires { ⌜ checkAnswer (now t) ≡ Verdictᴸ.accepted ⌝ }
+    requires { ⌜ now registers ≡ zeros (length (now registers)) ⌝ }
+    ensures { λ r. ⌜ finishedOf r (now (registers .exit)) ≡ runFunction (decode (now (t .entry))) function (now (args .entry)) budget (length (now (registers .entry))) ⌝ }
+{
+    if function_count(t) as u64 <= function {
+        return Ran::Refused(21, 0);
+    }
+    let i = function as usize;
+    let a = 1 + FUNCTION * i;
+    if args.len() != function_params(t, a) {
+        return Ran::Refused(20, args.len());
+    }
+    let unfit = first_unfit(t, a, args);
+    if unfit < args.len() {
+        return Ran::Refused(20, unfit);
+    }
+    if registers.len() < register_count(t, a) {
+        return Ran::Refused(22, 0);
+    }
+    let mut m = [0u16; 768];
+    prepare(t, a, &mut m);
+    answer_of(i, run_on(t, a, &m, args, budget, registers))
+}
+
+// Runs a function of a lent table on arguments, for at most `budget` steps: 9 to 17, 21, 20, 22; 27, 40 to 43. The lent registers hold the
+// function's registers afterwards, and 0 past them; after a refusal they are all zero.
+pub fn run(t: &[u8], function: u64, args: &[u64], budget: u64, registers: &mut [u64]) -> Ran
+    ensures { λ r. ⌜ finishedOf r (now (registers .exit)) ≡ runAnswer (now (t .entry)) function (now (args .entry)) budget (length (now (registers .entry))) ⌝ }
+{
+    start(&[], registers);
+    match check_table(t) {
+        Verdict::Refused(n, p) => Ran::Refused(n, p),
+        Verdict::Accepted => run_checked(t, function, args, budget, registers),
+    }
+}

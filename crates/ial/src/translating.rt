@@ -1,0 +1,57 @@
+// Translating a function of a lent table out of ssa.
+ghost use mathlib.Core.Path.{_≡_};
+ghost use lib.ListN.{length};
+ghost use Rattle.language.specs.Checking.{Verdict as Verdictᴸ};
+ghost use Rattle.language.specs.Table.{decode};
+ghost use Rattle.language.specs.Answers.{zeros, checkAnswer, translateFunction, translateAnswer};
+ghost use Rattle.ial.specs.Verdicts.{filledOf};
+use checker::Verdict;
+use checker::check_table;
+use rules::prepare;
+use table::function_count;
+use table::function_ssa;
+use table::zero;
+use translator::fits;
+use translator::translate_into;
+
+// The cells of a function, and of a table.
+const FUNCTION: usize = 34697;
+
+const TABLE: usize = 555153;
+
+// A table that passes its check: "then 21; .. translating then 30, 31, 22".
+fn translate_checked(t: &[u8], function: u64, out: &mut [u8]) -> Verdict
+    requires { ⌜ checkAnswer (now t) ≡ Verdictᴸ.accepted ⌝ }
+    requires { ⌜ now out ≡ zeros (length (now out)) ⌝ }
+    ensures { λ r. ⌜ filledOf r (now (out .exit)) ≡ translateFunction (decode (now (t .entry))) function (length (now (out .entry))) ⌝ }
+{
+    if function_count(t) as u64 <= function {
+        return Verdict::Refused(21, 0);
+    }
+    let a = 1 + FUNCTION * function as usize;
+    if function_ssa(t, a) != 1 {
+        return Verdict::Refused(30, 0);
+    }
+    let mut m = [0u16; 768];
+    prepare(t, a, &mut m);
+    if !fits(t, a, &m) {
+        return Verdict::Refused(31, 0);
+    }
+    if out.len() != TABLE {
+        return Verdict::Refused(22, 0);
+    }
+    translate_into(t, a, &m, out);
+    Verdict::Accepted
+}
+
+// Translates a function of a lent table out of ssa, to a lent table of that function alone: 9 to 17, 21, 30, 31, 22. After a refusal the
+// output is all zero.
+pub fn translate(t: &[u8], function: u64, out: &mut [u8]) -> Verdict
+    ensures { λ r. ⌜ filledOf r (now (out .exit)) ≡ translateAnswer (now (t .entry)) function (length (now (out .entry))) ⌝ }
+{
+    zero(out);
+    match check_table(t) {
+        Verdict::Refused(n, p) => Verdict::Refused(n, p),
+        Verdict::Accepted => translate_checked(t, function, out),
+    }
+}
