@@ -1,0 +1,76 @@
+-- The parts of a line, and lines one after the other. Assumes nothing.
+use mathlib.Core.List.{List, [], _∷_, _++_, map, append-assoc, append-nil}
+use mathlib.Core.Path.{_≡_, refl, sym, ap, _∙_, subst}
+use Prim.Native.Nat.{ℕ, zero, suc, _+_, _≤_, _<_}
+use native.Mathlib.Nat.{zero-add}
+use native.Mathlib.Omega.{arith}
+use lib.ListN.{length}
+use Rattle.laws.specs.Lists.{gather, below}
+use Rattle.laws.proofs.Ranges.{map-from-append}
+use Rattle.laws.proofs.Appending.{gather-append}
+use Rattle.language.specs.Bytes.{bytesOf, lineFeed}
+use Rattle.language.specs.Checking.{Verdict, check}
+use Rattle.language.specs.Listing.{tab, digits, line, functionLine, listingOf, refusedLine}
+use Rattle.language.specs.Programs.{Func, rowsOf}
+use Rattle.language.specs.Table.{functionCount, functionAt, functionName, functionSsa, decodeFunction, decode}
+use Rattle.theorems.specs.TableLaw.{FunctionFits}
+use Rattle.theorems.proofs.TableSound.{accepted-fits}
+use Rattle.theorems.proofs.TableView.{function-count, function-is}
+use Rattle.decimal.specs.Writing.{Written}
+use Rattle.decimal.proofs.Writings.{written-then}
+use Rattle.listing.specs.Lines.{sizesOf}
+
+regroup-four : (s a b c d e : List ℕ) → s ++ (a ++ (b ++ (c ++ (d ++ [])))) ++ e ≡ s ++ a ++ (b ++ c ++ d ++ e)
+regroup-four s a b c d e = simp (append-assoc, append-nil)
+
+regroup-two : (s a b e : List ℕ) → s ++ (a ++ (b ++ [])) ++ e ≡ s ++ a ++ b ++ e
+regroup-two s a b e = simp (append-assoc, append-nil)
+
+-- a function's line in three parts
+pub line-parts : (f : Func) → functionLine f ≡ f .name ++ (tab ∷ digits (f .ssa)) ++ sizesOf f
+unfolding functionLine line sizesOf
+line-parts f =
+    regroup-four (f .name) (tab ∷ digits (f .ssa)) (tab ∷ digits (length (f .registers))) (tab ∷ digits (length (f .blocks))) (tab ∷ digits (length (rowsOf f))) (lineFeed ∷ [])
+
+-- a refusal's in four
+pub refusal-parts : (n p : ℕ) → refusedLine n p ≡ bytesOf "refused" ++ (tab ∷ digits n) ++ (tab ∷ digits p) ++ (lineFeed ∷ [])
+unfolding refusedLine line
+refusal-parts n p = regroup-two (bytesOf "refused") (tab ∷ digits n) (tab ∷ digits p) (lineFeed ∷ [])
+
+-- the lines of the first i functions
+unfoldable pub linesOf : List ℕ → ℕ → List ℕ
+linesOf t i = listingOf (map (λ k. decodeFunction t (functionAt k)) (below i))
+
+pub lines-more : (t : List ℕ) (i : ℕ) → linesOf t (i + 1) ≡ linesOf t i ++ functionLine (decodeFunction t (functionAt i))
+unfolding linesOf listingOf
+lines-more t i =
+    ap (gather functionLine) (map-from-append (λ k. decodeFunction t (functionAt k)) 0 i 1)
+    ∙ gather-append functionLine (map (λ k. decodeFunction t (functionAt k)) (below i)) (decodeFunction t (functionAt (0 + i)) ∷ [])
+    ∙ rw (zero-add i, append-nil)
+
+-- a number that was written, by what it is the number of
+pub number-is : {n m : ℕ} → n ≡ m → {entry exit : List ℕ} {at end : ℕ} → Written entry at (tab ∷ digits n) exit end → Written entry at (tab ∷ digits m) exit end
+number-is e {entry} {exit} {at} {end} w = subst (λ (k : ℕ). Written entry at (tab ∷ digits k) exit end) e w
+
+-- the name of a function that fits
+pub name-short : (t : List ℕ) (a : ℕ) → FunctionFits (decodeFunction t a) → {name : List ℕ} → name ≡ functionName t a → length name ≤ 64
+unfolding decodeFunction
+name-short t a fits e = rw e (fits .name .short)
+
+-- a line written part by part
+pub line-written : (t : List ℕ) (a : ℕ) {name : List ℕ} {ssa : ℕ} → name ≡ functionName t a → ssa ≡ functionSsa t a
+    → {entry one two exit : List ℕ} {at b e end : ℕ} → Written entry at name one b → Written one b (tab ∷ digits ssa) two e → Written two e (sizesOf (decodeFunction t a)) exit end
+    → Written entry at (functionLine (decodeFunction t a)) exit end
+unfolding decodeFunction
+line-written t a p q {entry} {one} {two} {exit} {at} {b} {e} {end} u v w =
+    subst (λ (l : List ℕ). Written entry at l exit end) (sym (line-parts (decodeFunction t a)))
+    (written-then (written-then (subst (λ (l : List ℕ). Written entry at l one b) p u) (number-is q v)) w)
+
+-- ---- a table that was accepted
+
+module _ (t : List ℕ) (accepted : check (decode t) ≡ Verdict.accepted) where
+  pub few-functions : functionCount t ≤ 16
+  few-functions = omega (arith, function-count t, accepted-fits (decode t) accepted .functionCount)
+
+  pub function-fits : (i : ℕ) → i < functionCount t → FunctionFits (decodeFunction t (functionAt i))
+  function-fits i h = subst FunctionFits (function-is t i h) (accepted-fits (decode t) accepted .functions i (rw (function-count t) h))
