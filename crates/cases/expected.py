@@ -50,4 +50,5 @@ for i in range(320):
         open(f'{dst}/{i:04d}.cells','wb').write(cells(lines)); out.append(f'{i:04d} table as expected\n')
     else:
         out.append(f'{i:04d} '+listing.decode().replace('\t',' '))
-sys.stdout.write(''.join(out))
+    out.append(listing.decode(errors='surrogateescape'))
+sys.stdout.buffer.write(''.join(out).encode(errors='surrogateescape'))

@@ -1,6 +1,7 @@
 // The outside vectors: a text, and the cells its table must have.
 use ial::Verdict;
 use libc::STDOUT_FILENO;
+use listing::list_text;
 ghost use mathlib.Core.Path.{_≡_};
 ghost use Prim.Native.Nat.{_+_, _≤_};
 ghost use lib.ListN.{length, take};
@@ -30,7 +31,7 @@ fn path(i: usize, ending: [u8; 6]) -> [u8; 10] {
 }
 
 // The bytes of a file, and how many there are; none where it cannot be read.
-fn load(name: &[u8], into: &mut [u8]) -> usize
+pub fn load(name: &[u8], into: &mut [u8]) -> usize
     ensures { λ r. ⌜ r ≤ length (now (into .entry)) ⌝ }
 {
     let fd = os::open_read(name);
@@ -117,6 +118,9 @@ fn one(i: usize) {
         Verdict::Refused(k, p) => refusal(k, p),
         Verdict::Accepted => compare(i, &t),
     }
+    let mut lines = [0u8; 2384];
+    let k = list_text(upto(&text, n), &mut lines);
+    say(upto(&lines, k));
 }
 
 pub fn all() {
