@@ -1,0 +1,141 @@
+//! The verified IAL library for Rust: an owned [`Table`] that a text is read into, and what can be done with it.
+//!
+//! ```
+//! let text = b"function ssa uint8 twice(uint8 a) { register uint8 b; block entry { b = ari.add a, a; return b; } }";
+//! let table = ial::Table::read(text)?;
+//! assert_eq!(table.run(0, &[21], 100)?.end, ial::End::Ended(42));
+//! let plain = table.translate(0)?;
+//! assert_eq!(plain.run(0, &[21], 100)?.end, ial::End::Ended(42));
+//! # Ok::<(), ial::Refused>(())
+//! ```
+
+mod refused;
+
+pub use refused::Refused;
+
+/// The bytes of a table.
+pub const TABLE: usize = 555_153;
+
+/// The most registers a function has.
+pub const REGISTERS: usize = 256;
+
+#[repr(C)]
+struct Answer {
+    number: u64,
+    place: u64,
+    value: u64,
+    steps: u64,
+}
+
+extern "C" {
+    fn ial_read(text: *const u8, text_length: usize, table: *mut u8, table_length: usize) -> Answer;
+    fn ial_check(table: *const u8, table_length: usize) -> Answer;
+    fn ial_run(
+        table: *const u8,
+        table_length: usize,
+        function: u64,
+        arguments: *const u64,
+        argument_count: usize,
+        budget: u64,
+        registers: *mut u64,
+        register_count: usize,
+    ) -> Answer;
+    fn ial_translate(table: *const u8, table_length: usize, function: u64, output: *mut u8, output_length: usize) -> Answer;
+}
+
+impl Answer {
+    fn done(self) -> Result<(), Refused> {
+        if self.number == 0 {
+            return Ok(());
+        }
+        Err(Refused { number: self.number, place: self.place })
+    }
+}
+
+/// A program as cells: functions, registers, blocks and rows at fixed offsets.
+#[derive(Clone, PartialEq, Eq)]
+pub struct Table {
+    cells: Box<[u8]>,
+}
+
+/// How a run ended.
+#[derive(Clone, Copy, Debug, PartialEq, Eq)]
+pub enum End {
+    /// By `return`, with the value, or by `leave`, with 0.
+    Ended(u64),
+    /// By a stop of document 01: 27, 40 to 42, or 43 for a budget used up. The place is 2,048 times the function plus the row.
+    Stopped { number: u64, place: u64 },
+}
+
+/// A run: how it ended, after how many steps, and what its registers held then.
+#[derive(Clone, Debug, PartialEq, Eq)]
+pub struct Run {
+    pub end: End,
+    pub steps: u64,
+    pub registers: Box<[u64; REGISTERS]>,
+}
+
+impl Table {
+    /// Reads a text. The table is not checked yet; [`Table::check`] does that, and so do runs and translations.
+    pub fn read(text: &[u8]) -> Result<Table, Refused> {
+        let mut cells = vec![0; TABLE].into_boxed_slice();
+        // Both pointers lead to as many bytes as their lengths say; the output is this function's own.
+        unsafe { ial_read(text.as_ptr(), text.len(), cells.as_mut_ptr(), cells.len()) }.done()?;
+        Ok(Table { cells })
+    }
+
+    /// A table from cells of any content, as stored or sent earlier. Another length than [`TABLE`] is refused with 9.
+    pub fn from_cells(cells: &[u8]) -> Result<Table, Refused> {
+        let table = Table { cells: cells.into() };
+        if cells.len() != TABLE {
+            table.check()?;
+        }
+        Ok(table)
+    }
+
+    pub fn cells(&self) -> &[u8] {
+        &self.cells
+    }
+
+    /// Checks the whole table: 9 to 17.
+    pub fn check(&self) -> Result<(), Refused> {
+        unsafe { ial_check(self.cells.as_ptr(), self.cells.len()) }.done()
+    }
+
+    /// Checks the table and runs a function on arguments, for at most `budget` steps. Arguments and values are below 2^w, those of
+    /// signed types in two's complement.
+    pub fn run(&self, function: u64, arguments: &[u64], budget: u64) -> Result<Run, Refused> {
+        let mut registers = Box::new([0; REGISTERS]);
+        let answer = unsafe {
+            ial_run(
+                self.cells.as_ptr(),
+                self.cells.len(),
+                function,
+                arguments.as_ptr(),
+                arguments.len(),
+                budget,
+                registers.as_mut_ptr(),
+                registers.len(),
+            )
+        };
+        let end = match answer.number {
+            0 => End::Ended(answer.value),
+            27 | 40..=43 => End::Stopped { number: answer.number, place: answer.place },
+            number => return Err(Refused { number, place: answer.place }),
+        };
+        Ok(Run { end, steps: answer.steps, registers })
+    }
+
+    /// Checks the table and translates a function out of ssa: a table of that function alone, number 0.
+    pub fn translate(&self, function: u64) -> Result<Table, Refused> {
+        let mut cells = vec![0; TABLE].into_boxed_slice();
+        unsafe { ial_translate(self.cells.as_ptr(), self.cells.len(), function, cells.as_mut_ptr(), cells.len()) }.done()?;
+        Ok(Table { cells })
+    }
+}
+
+impl std::fmt::Debug for Table {
+    fn fmt(&self, f: &mut std::fmt::Formatter) -> std::fmt::Result {
+        f.debug_struct("Table").field("functions", &self.cells[0]).finish_non_exhaustive()
+    }
+}

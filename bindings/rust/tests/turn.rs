@@ -1,0 +1,52 @@
+//! The interface over the library, on the paper's `turn` and on what it refuses. What the answers are is proved; what is tested
+//! here is that they arrive.
+
+use ial::{End, Refused, Table, REGISTERS, TABLE};
+
+fn turn() -> Table {
+    Table::read(include_bytes!("../../../examples/turn.ial")).unwrap()
+}
+
+#[test]
+fn reads_checks_runs_and_translates() {
+    let source = turn();
+    assert_eq!(source.check(), Ok(()));
+    let translation = source.translate(0).unwrap();
+    assert_eq!(translation.check(), Ok(()));
+    for (n, value, steps, translated) in [(0, 7, 9, 13), (1, 9, 16, 24), (2, 7, 23, 35)] {
+        let run = source.run(0, &[7, 9, n], u64::MAX).unwrap();
+        assert_eq!((run.end, run.steps), (End::Ended(value), steps));
+        assert_eq!(run.registers[..3], [7, 9, n]);
+        assert_eq!(run.registers[10..], [0; REGISTERS - 10]);
+        let run = translation.run(0, &[7, 9, n], u64::MAX).unwrap();
+        assert_eq!((run.end, run.steps), (End::Ended(value), translated));
+    }
+}
+
+#[test]
+fn stops_and_refusals_arrive() {
+    let table = turn();
+    let run = table.run(0, &[7, 9, 2], 10).unwrap();
+    assert_eq!((run.end, run.steps), (End::Stopped { number: 43, place: 3 }, 10));
+    assert_eq!(table.run(0, &[7, 9], 10), Err(Refused { number: 20, place: 2 }));
+    assert_eq!(table.run(0, &[7, 9, 256], 10), Err(Refused { number: 20, place: 2 }));
+    assert_eq!(table.run(1, &[], 10), Err(Refused { number: 21, place: 0 }));
+    assert_eq!(table.translate(u64::MAX), Err(Refused { number: 21, place: 0 }));
+    assert_eq!(Table::read(b"function"), Err(Refused { number: 3, place: 8 }));
+    assert_eq!(Table::read(&[b' '; 65_537]), Err(Refused { number: 1, place: 0 }));
+    assert_eq!(Table::from_cells(&[0; TABLE - 1]), Err(Refused { number: 9, place: 0 }));
+    assert_eq!(turn().translate(0).unwrap().translate(0), Err(Refused { number: 30, place: 0 }));
+}
+
+#[test]
+fn cells_go_out_and_come_back() {
+    let table = turn();
+    assert_eq!(Table::from_cells(table.cells()), Ok(table));
+}
+
+#[test]
+fn refusals_say_what_was_wrong() {
+    let refused = Table::read(b"function ssa x").unwrap_err();
+    assert_eq!(refused.to_string(), "refused 3: token not allowed here, end included, at byte 13");
+    assert_eq!(Refused { number: 11, place: 4_101 }.to_string(), "refused 11: types wrong, or leave outside a void function, in function 2, row 5");
+}
