@@ -1,0 +1,65 @@
+//! The verified library and the plain implementation behind one interface: an answer, and what was lent as it is afterwards.
+
+use ial_baseline::{Answer, Refusal};
+
+mod c {
+    #[repr(C)]
+    pub struct Answer {
+        pub number: u64,
+        pub place: u64,
+        pub value: u64,
+        pub steps: u64,
+    }
+
+    extern "C" {
+        pub fn ial_read(text: *const u8, n: usize, out: *mut u8, m: usize) -> Answer;
+        pub fn ial_check(table: *const u8, n: usize) -> Answer;
+        pub fn ial_run(t: *const u8, n: usize, f: u64, args: *const u64, k: usize, budget: u64, g: *mut u64, m: usize) -> Answer;
+        pub fn ial_translate(table: *const u8, n: usize, f: u64, out: *mut u8, m: usize) -> Answer;
+    }
+}
+
+fn answer(a: c::Answer) -> Answer {
+    Answer { number: a.number, place: a.place, value: a.value, steps: a.steps }
+}
+
+fn done(r: Result<(), Refusal>) -> Answer {
+    r.map_or_else(Answer::from, |()| Answer::default())
+}
+
+/// Two outputs that held the same before a call hold the same after it, beside the same answer.
+fn agree<T: PartialEq>(what: &str, verified: (Answer, &[T]), plain: (Answer, &[T])) -> Result<Answer, String> {
+    if verified.0 != plain.0 {
+        return Err(format!("{what}: verified {:?}, plain {:?}", verified.0, plain.0));
+    }
+    match (0..verified.1.len()).find(|&k| verified.1[k] != plain.1[k]) {
+        Some(k) => Err(format!("{what}: {:?}, but lent cell {k} differs", verified.0)),
+        None => Ok(verified.0),
+    }
+}
+
+/// Each call takes outputs that hold rubbish, the same for both. Pointers and lengths are those of live slices.
+pub fn read(text: &[u8], out: &mut [u8], other: &mut [u8]) -> Result<Answer, String> {
+    let a = answer(unsafe { c::ial_read(text.as_ptr(), text.len(), out.as_mut_ptr(), out.len()) });
+    let b = done(ial_baseline::read(text, other));
+    agree("read", (a, out), (b, other))
+}
+
+pub fn check(table: &[u8]) -> Result<Answer, String> {
+    let a = answer(unsafe { c::ial_check(table.as_ptr(), table.len()) });
+    agree::<u8>("check", (a, &[]), (done(ial_baseline::check(table)), &[]))
+}
+
+pub fn run(table: &[u8], f: u64, args: &[u64], budget: u64, g: &mut [u64], h: &mut [u64]) -> Result<Answer, String> {
+    let a = answer(unsafe {
+        c::ial_run(table.as_ptr(), table.len(), f, args.as_ptr(), args.len(), budget, g.as_mut_ptr(), g.len())
+    });
+    let b = ial_baseline::run(table, f, args, budget, h).into();
+    agree("run", (a, g), (b, h))
+}
+
+pub fn translate(table: &[u8], f: u64, out: &mut [u8], other: &mut [u8]) -> Result<Answer, String> {
+    let a = answer(unsafe { c::ial_translate(table.as_ptr(), table.len(), f, out.as_mut_ptr(), out.len()) });
+    let b = done(ial_baseline::translate(table, f, other));
+    agree("translate", (a, out), (b, other))
+}

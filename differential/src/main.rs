@@ -1,0 +1,146 @@
+//! A differential test: the verified library against the plain implementation on generated inputs. Every answer and every lent
+//! cell must agree. `ial-differential [ROUNDS [FIRST]]`; a failure prints the round, and ROUNDS 1 FIRST that number repeats it.
+
+mod library;
+mod rng;
+mod texts;
+
+use ial_baseline::table::Function;
+use ial_baseline::{Answer, TABLE};
+use rng::Rng;
+
+/// The cells of a function.
+const FUNCTION: usize = (TABLE - 1) / 16;
+
+/// Two tables that hold the same rubbish, and how often each number was answered.
+struct Bench {
+    one: Vec<u8>,
+    two: Vec<u8>,
+    seen: [u64; 64],
+}
+
+impl Bench {
+    fn count(&mut self, a: Answer) -> Answer {
+        self.seen[a.number as usize] += 1;
+        a
+    }
+
+    /// An output of the right length, or now and then of another, with rubbish in its first cells.
+    fn lend(&mut self, rng: &mut Rng) {
+        let n = if rng.once_in(12) { *rng.of(&[0, 1, TABLE - 1, TABLE + 1, TABLE / 2]) } else { TABLE };
+        self.one.resize(n, 0);
+        for cell in self.one.iter_mut().take(64) {
+            *cell = rng.next() as u8;
+        }
+        self.two.clone_from(&self.one);
+    }
+
+    fn runs(&mut self, table: &[u8], f: u64, rng: &mut Rng) -> Result<(), String> {
+        let params = params(table, f);
+        for _ in 0..3 {
+            let count = if rng.once_in(10) { rng.below(6) } else { params.len() };
+            let args: Vec<u64> = (0..count)
+                .map(|i| if rng.once_in(12) { rng.number() } else { rng.number() & params.get(i).copied().unwrap_or(u64::MAX) })
+                .collect();
+            let mut g = vec![7; if rng.once_in(8) { rng.below(40) } else { 256 + rng.below(3) }];
+            let budget = if rng.once_in(2) { 2_000 } else { rng.below(40) as u64 };
+            let a = library::run(table, f, &args, budget, &mut g.clone(), &mut g)?;
+            self.count(a);
+        }
+        Ok(())
+    }
+
+    /// What both make of a table: the check, runs of its functions, their translations, and runs of these.
+    fn table(&mut self, table: &[u8], rng: &mut Rng) -> Result<(), String> {
+        let a = library::check(table)?;
+        let accepted = self.count(a).number == 0;
+        let functions = if accepted { u64::from(table[0]) + 1 } else { 1 };
+        for f in 0..functions {
+            self.runs(table, f, rng)?;
+            self.lend(rng);
+            let (mut one, mut two) = (std::mem::take(&mut self.one), std::mem::take(&mut self.two));
+            let a = library::translate(table, f, &mut one, &mut two)?;
+            if self.count(a).number == 0 {
+                self.runs(&one, 0, rng)?;
+            }
+            (self.one, self.two) = (one, two);
+        }
+        Ok(())
+    }
+
+    fn round(&mut self, rng: &mut Rng) -> Result<(), String> {
+        let mut text = texts::program(rng);
+        if rng.once_in(3) {
+            text = texts::damaged(&text, rng);
+        }
+        if rng.once_in(60) {
+            text.resize(65_530 + rng.below(12), b' ');
+        }
+        self.lend(rng);
+        let (mut one, mut two) = (std::mem::take(&mut self.one), std::mem::take(&mut self.two));
+        let read = library::read(&text, &mut one, &mut two);
+        let a = self.count(read?);
+        if a.number == 0 {
+            let mut table = one.clone();
+            self.table(&table, rng)?;
+            for _ in 0..3 {
+                disturb(&mut table, rng);
+                self.table(&table, rng)?;
+            }
+        }
+        (self.one, self.two) = (one, two);
+        Ok(())
+    }
+}
+
+/// The largest argument of each parameter of a function, if there is such a function.
+fn params(table: &[u8], f: u64) -> Vec<u64> {
+    let Ok(cells) = <&[u8; TABLE]>::try_from(table) else { return vec![] };
+    if f >= u64::from(cells[0]).min(16) {
+        return vec![];
+    }
+    let function = Function::of(cells, f as usize);
+    (0..function.parameters().min(256))
+        .map(|r| {
+            let kind = u32::from(function.register_type(r));
+            u64::MAX >> (64 - if kind < 8 { 8 << (kind % 4) } else { 64 })
+        })
+        .collect()
+}
+
+/// Changes some cells, of those that are needed and of the others, or the length.
+fn disturb(table: &mut Vec<u8>, rng: &mut Rng) {
+    if rng.once_in(40) {
+        let n = table.len();
+        return table.resize(if rng.once_in(2) { n + 1 } else { n - 1 }, 0);
+    }
+    for _ in 0..1 + rng.below(3) {
+        let f = 1 + FUNCTION * rng.below(3);
+        let at = match rng.below(8) {
+            0 => rng.below(table.len()),
+            1 => rng.below(2),
+            2 => f + rng.below(73),
+            3 => f + 73 + rng.below(66 * 24),
+            4 => f + 16_969 + rng.below(69 * 8),
+            5 => f + 33_673 + rng.below(24),
+            _ => f + 21_385 + rng.below(12 * 48),
+        };
+        let at = at.min(table.len() - 1);
+        table[at] = if rng.once_in(3) { rng.next() as u8 } else { rng.below(40) as u8 };
+    }
+}
+
+fn main() {
+    let mut words = std::env::args().skip(1).map(|w| w.parse::<u64>().expect("rounds and first round are numbers"));
+    let rounds = words.next().unwrap_or(6_000);
+    let first = words.next().unwrap_or(0);
+    let mut bench = Bench { one: vec![], two: vec![], seen: [0; 64] };
+    for round in first..first + rounds {
+        if let Err(what) = bench.round(&mut Rng::new(round + 1)) {
+            println!("round {round}: {what}");
+            std::process::exit(1);
+        }
+    }
+    let seen: Vec<String> = (0..64).filter(|&n| bench.seen[n] > 0).map(|n| format!("{n}: {}", bench.seen[n])).collect();
+    println!("{rounds} rounds agree; answers by number: {}", seen.join(", "));
+}
