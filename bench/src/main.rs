@@ -1,5 +1,6 @@
-//! The verified library against the plain Rust implementation: same machine, same input, both built for release, one run. Every round
-//! lends the same table, which neither side's caller clears first: each `read` clears it itself.
+//! The verified library against the plain Rust implementation: same machine, same input, both built for release, one run. Calls of the
+//! two alternate, and figures are medians, so that a machine with other work slows both alike. Every call is lent the table that the last one
+//! left: each `read` clears it itself, and so is timed with it.
 use std::time::Instant;
 
 #[repr(C)]
@@ -12,6 +13,103 @@ struct Answer {
 
 extern "C" {
     fn ial_read(text: *const u8, text_len: usize, out: *mut u8, out_len: usize) -> Answer;
+    fn ial_check(table: *const u8, table_len: usize) -> Answer;
+    fn ial_run(t: *const u8, n: usize, f: u64, args: *const u64, k: usize, budget: u64, g: *mut u64, m: usize) -> Answer;
+    fn ial_translate(table: *const u8, n: usize, f: u64, out: *mut u8, m: usize) -> Answer;
+}
+
+fn verified_check(t: &[u8]) -> u64 {
+    unsafe { ial_check(t.as_ptr(), t.len()) }.number
+}
+
+fn verified_run(t: &[u8], args: &[u64], g: &mut [u64]) -> (u64, u64, u64) {
+    let a = unsafe { ial_run(t.as_ptr(), t.len(), 0, args.as_ptr(), args.len(), u64::MAX, g.as_mut_ptr(), g.len()) };
+    (a.number, a.value, a.steps)
+}
+
+fn plain_run(t: &[u8], args: &[u64], g: &mut [u64]) -> (u64, u64, u64) {
+    let a = ial_baseline::Answer::from(ial_baseline::run(t, 0, args, u64::MAX, g));
+    (a.number, a.value, a.steps)
+}
+
+fn verified_translate(t: &[u8], out: &mut [u8]) -> u64 {
+    unsafe { ial_translate(t.as_ptr(), t.len(), 0, out.as_mut_ptr(), out.len()) }.number
+}
+
+/// 16 functions of 1,024 rows, 64 blocks and 256 registers: each block but the last has fifteen additions and goes on or back.
+fn large_table() -> Vec<u8> {
+    let mut cells = vec![0u8; ial_baseline::TABLE];
+    for f in 0..16 {
+        let mut s = format!("function uint64 large_{f}(uint64 a, uint64 n) {{ register uint more;");
+        (0..253).for_each(|r| s += &format!("register uint64 r{r};"));
+        for b in 0..64 {
+            s += &if b == 0 { "block entry {".to_string() } else { format!("block b{b} {{") };
+            (0..14).for_each(|k| s += &format!("r{}=ari.add r{},a;", (b * 14 + k) % 253, (b * 7 + k * 3) % 253));
+            s += &if b == 63 { "r0=ari.add r1,a;return r0;}".to_string() } else { format!("more=cmp.lt r{},n;jump.cond more(b{},b{});}}", b, b + 1, (b + 2).min(63)) };
+        }
+        let mut one = vec![0u8; ial_baseline::TABLE];
+        ial_baseline::read((s + "}").as_bytes(), &mut one).unwrap();
+        let size = (ial_baseline::TABLE - 1) / 16;
+        cells[1 + f * size..][..size].copy_from_slice(&one[1..1 + size]);
+    }
+    cells[0] = 16;
+    cells
+}
+
+const COUNT: &str = "function uint64 count(uint64 n) {
+ register uint64 i; register uint64 one; register uint more;
+ block entry { one = load.ui64 (1); jump (loop); }
+ block loop { i = ari.add i, one; more = cmp.lt i, n; jump.cond more (loop, out); }
+ block out { return i; } }";
+
+const TURNS: &str = "function ssa uint64 turn(uint64 a, uint64 b, uint64 n) {
+ register uint64 x; register uint64 y; register uint64 k;
+ register uint64 one; register uint64 z; register uint64 m; register uint c;
+ block entry { one = load.ui64 (1); z = load.ui64 (0); jump (head); }
+ block head { x = phi (a, y); y = phi (b, x); k = phi (n, m);
+  c = cmp.eq k, z; jump.cond c (out, body); }
+ block body { m = ari.sub k, one; jump (head); }
+ block out { return x; } }";
+
+const EIGHT: &str = "function ssa uint64 eight(uint64 a, uint64 n) {
+ register uint64 p; register uint64 q; register uint64 r; register uint64 s; register uint64 t; register uint64 u; register uint64 v;
+ register uint64 k; register uint64 one; register uint64 m; register uint64 z; register uint c;
+ block entry { one = load.ui64 (1); z = load.ui64 (0); jump (head); }
+ block head { p = phi (a, q); q = phi (a, r); r = phi (a, s); s = phi (n, t); t = phi (a, u); u = phi (n, v); v = phi (a, p); k = phi (n, m);
+  c = cmp.eq k, z; jump.cond c (out, body); }
+ block body { m = ari.sub k, one; jump (head); }
+ block out { return p; } }";
+
+const DIVIDE: &str = "function uint64 divide(uint64 n) {
+ register uint64 i; register uint64 one; register uint64 x; register uint64 y; register int64 s; register int64 d; register int64 q; register uint more;
+ block entry { one = load.ui64 (1); x = load.ui64 (0x123456789abcdef); d = load.i64 (-7); s = load.i64 (1000003); jump (loop); }
+ block loop { i = ari.add i, one; y = ari.mul x, i; x = ari.rem y, n; x = ari.add x, i; q = ari.mul s, d; s = ari.div q, d; more = cmp.lt i, n; jump.cond more (loop, out); }
+ block out { return x; } }";
+
+/// Check, runs and the translation, each side's answers compared first.
+fn judge_run_translate() {
+    let mut turn = vec![0u8; ial_baseline::TABLE];
+    ial_baseline::read(TURN.as_bytes(), &mut turn).unwrap();
+    let large = large_table();
+    for (name, t, rounds) in [("check, 16 functions of 1,024 rows and 64 blocks", &large, 2000), ("check, turn", &turn, 20000)] {
+        assert_eq!((verified_check(t), ial_baseline::check(t).is_ok()), (0, true));
+        race(name, rounds, || { verified_check(t); }, || { ial_baseline::check(t).unwrap(); });
+    }
+    let (mut g, mut h) = ([0u64; 256], [0u64; 256]);
+    let loops: [(&str, &str, &[u64]); 4] = [("a counting loop", COUNT, &[100_000]), ("turn's loop", TURNS, &[7, 9, 50_000]), ("a loop with eight phi", EIGHT, &[7, 50_000]), ("a loop of multiplications and divisions", DIVIDE, &[100_000])];
+    for (name, text, args) in loops {
+        let mut t = vec![0u8; ial_baseline::TABLE];
+        ial_baseline::read(text.as_bytes(), &mut t).unwrap();
+        let (number, _, steps) = verified_run(&t, args, &mut g);
+        assert_eq!(verified_run(&t, args, &mut g), plain_run(&t, args, &mut h));
+        assert!(number == 0 && g == h);
+        race(&format!("run, {name}, {steps} steps"), 200, || { verified_run(&t, args, &mut g); }, || { plain_run(&t, args, &mut h); });
+    }
+    race("run, turn(7, 9, 2), check included", 20000, || { verified_run(&turn, &[7, 9, 2], &mut g); }, || { plain_run(&turn, &[7, 9, 2], &mut h); });
+    let (mut a, mut b) = (vec![0u8; ial_baseline::TABLE], vec![0u8; ial_baseline::TABLE]);
+    assert_eq!((verified_translate(&turn, &mut a), ial_baseline::translate(&turn, 0, &mut b).is_ok()), (0, true));
+    assert!(a == b);
+    race("translate, turn", 5000, || { verified_translate(&turn, &mut a); }, || { ial_baseline::translate(&turn, 0, &mut b).unwrap(); });
 }
 
 fn verified_read(text: &[u8], out: &mut [u8]) -> (u64, u64) {
@@ -61,18 +159,28 @@ fn long_text() -> String {
     s
 }
 
-/// The best of so many rounds, each round one side after the other, in nanoseconds a call.
-fn race(name: &str, rounds: usize, calls: usize, mut verified: impl FnMut(), mut plain: impl FnMut()) {
-    let mut best = [f64::MAX; 2];
+fn median(mut times: Vec<f64>) -> f64 {
+    times.sort_by(f64::total_cmp);
+    times[times.len() / 2]
+}
+
+fn nanoseconds(work: &mut impl FnMut()) -> f64 {
+    let start = Instant::now();
+    work();
+    start.elapsed().as_nanos() as f64
+}
+
+/// The medians of so many rounds, each a call of one side and then of the other; the ratio is the median of the rounds' own.
+fn race(name: &str, rounds: usize, mut verified: impl FnMut(), mut plain: impl FnMut()) {
+    let (mut ours, mut theirs, mut ratios) = (vec![], vec![], vec![]);
     for _ in 0..rounds {
-        let start = Instant::now();
-        (0..calls).for_each(|_| verified());
-        best[0] = best[0].min(start.elapsed().as_nanos() as f64 / calls as f64);
-        let start = Instant::now();
-        (0..calls).for_each(|_| plain());
-        best[1] = best[1].min(start.elapsed().as_nanos() as f64 / calls as f64);
+        let v = nanoseconds(&mut verified);
+        let p = nanoseconds(&mut plain);
+        ours.push(v);
+        theirs.push(p);
+        ratios.push(p / v);
     }
-    println!("{name}: verified {:.1} us, plain {:.1} us, ratio {:.2}", best[0] / 1000.0, best[1] / 1000.0, best[1] / best[0]);
+    println!("{name}: verified {:.1} us, plain {:.1} us, ratio {:.2}", median(ours) / 1000.0, median(theirs) / 1000.0, median(ratios));
 }
 
 fn main() {
@@ -83,7 +191,13 @@ fn main() {
         assert!(a == b);
     }
     println!("text of {} bytes", long.len());
-    for (name, text, calls) in [("read, 64 KB", long.as_bytes(), 20), ("read, turn", TURN.as_bytes(), 200), ("read, nothing (a table cleared)", &b""[..], 200)] {
-        race(name, 60, calls, || { verified_read(text, &mut a); }, || { plain_read(text, &mut b); });
+    let works = [("read, 64 KB", long.as_bytes(), 2000), ("read, turn", TURN.as_bytes(), 10000), ("read, nothing (a table cleared)", &b""[..], 10000)];
+    for (name, text, rounds) in works {
+        race(name, rounds, || { verified_read(text, &mut a); }, || { plain_read(text, &mut b); });
     }
+    let comment = format!("//{}", "lexed and never taken ".repeat(2978));
+    let empty = median((0..4000).map(|_| nanoseconds(&mut || { verified_read(b"", &mut a); })).collect());
+    let lexed = median((0..4000).map(|_| nanoseconds(&mut || { verified_read(comment.as_bytes(), &mut a); })).collect());
+    println!("lex, a comment of {} bytes: verified {:.0} MB/s", comment.len(), comment.len() as f64 * 1000.0 / (lexed - empty));
+    judge_run_translate();
 }
