@@ -3,3 +3,4 @@ pub mod Accepted
 pub mod Places
 pub mod RunLaws
 pub mod TranslateLaws
+pub mod Demand
