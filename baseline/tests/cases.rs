@@ -2,16 +2,7 @@
 
 use ial_baseline::{check, listing, read, run, translate, Answer, Ran, TABLE};
 
-const TURN: &str = "function ssa uint64 turn(uint64 a, uint64 b, uint8 n) {
- register uint64 x; register uint64 y; register uint8 k;
- register uint8 one; register uint8 z; register uint8 m; register uint c;
- block entry { one = load.ui8 (1); z = load.ui8 (0); jump (head); }
- block head { x = phi (a, y); y = phi (b, x); k = phi (n, m);
-  c = cmp.eq k, z; jump.cond c (out, body); }
- block body { m = ari.sub k, one; jump (head); }
- block out { return x; }
-}
-";
+const TURN: &str = include_str!("../../examples/turn.ial");
 
 fn table(text: &str) -> Vec<u8> {
     let mut out = vec![7; TABLE];

@@ -56,35 +56,10 @@ fn large_table() -> Vec<u8> {
     cells
 }
 
-const COUNT: &str = "function uint64 count(uint64 n) {
- register uint64 i; register uint64 one; register uint more;
- block entry { one = load.ui64 (1); jump (loop); }
- block loop { i = ari.add i, one; more = cmp.lt i, n; jump.cond more (loop, out); }
- block out { return i; } }";
-
-const TURNS: &str = "function ssa uint64 turn(uint64 a, uint64 b, uint64 n) {
- register uint64 x; register uint64 y; register uint64 k;
- register uint64 one; register uint64 z; register uint64 m; register uint c;
- block entry { one = load.ui64 (1); z = load.ui64 (0); jump (head); }
- block head { x = phi (a, y); y = phi (b, x); k = phi (n, m);
-  c = cmp.eq k, z; jump.cond c (out, body); }
- block body { m = ari.sub k, one; jump (head); }
- block out { return x; } }";
-
-const EIGHT: &str = "function ssa uint64 eight(uint64 a, uint64 n) {
- register uint64 p; register uint64 q; register uint64 r; register uint64 s; register uint64 t; register uint64 u; register uint64 v;
- register uint64 k; register uint64 one; register uint64 m; register uint64 z; register uint c;
- block entry { one = load.ui64 (1); z = load.ui64 (0); jump (head); }
- block head { p = phi (a, q); q = phi (a, r); r = phi (a, s); s = phi (n, t); t = phi (a, u); u = phi (n, v); v = phi (a, p); k = phi (n, m);
-  c = cmp.eq k, z; jump.cond c (out, body); }
- block body { m = ari.sub k, one; jump (head); }
- block out { return p; } }";
-
-const DIVIDE: &str = "function uint64 divide(uint64 n) {
- register uint64 i; register uint64 one; register uint64 x; register uint64 y; register int64 s; register int64 d; register int64 q; register uint more;
- block entry { one = load.ui64 (1); x = load.ui64 (0x123456789abcdef); d = load.i64 (-7); s = load.i64 (1000003); jump (loop); }
- block loop { i = ari.add i, one; y = ari.mul x, i; x = ari.rem y, n; x = ari.add x, i; q = ari.mul s, d; s = ari.div q, d; more = cmp.lt i, n; jump.cond more (loop, out); }
- block out { return x; } }";
+const COUNT: &str = include_str!("../loops/count.ial");
+const TURNS: &str = include_str!("../loops/turns.ial");
+const EIGHT: &str = include_str!("../loops/eight.ial");
+const DIVIDE: &str = include_str!("../loops/divide.ial");
 
 /// Check, runs and the translation, each side's answers compared first.
 fn judge_run_translate() {
@@ -126,16 +101,7 @@ fn plain_read(text: &[u8], out: &mut [u8]) -> (u64, u64) {
     }
 }
 
-const TURN: &str = "function ssa uint64 turn(uint64 a, uint64 b, uint8 n) {
- register uint64 x; register uint64 y; register uint8 k;
- register uint8 one; register uint8 z; register uint8 m; register uint c;
- block entry { one = load.ui8 (1); z = load.ui8 (0); jump (head); }
- block head { x = phi (a, y); y = phi (b, x); k = phi (n, m);
-  c = cmp.eq k, z; jump.cond c (out, body); }
- block body { m = ari.sub k, one; jump (head); }
- block out { return x; }
-}
-";
+const TURN: &str = include_str!("../../examples/turn.ial");
 
 /// A text of nearly 65,536 bytes: 16 functions of 52 registers and 8 blocks.
 fn long_text() -> String {
