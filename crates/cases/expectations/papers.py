@@ -17,6 +17,18 @@ TURN = Function(
      ('body', [Row('ari.sub', 'm', ('k', 'one')), jump('head')]),
      ('out', [Row('return', None, ('x',))])], ssa=True)
 
+# As document 01 has it.
+TURN_TEXT = b'''function ssa uint64 turn(uint64 a, uint64 b, uint8 n) {
+ register uint64 x; register uint64 y; register uint8 k;
+ register uint8 one; register uint8 z; register uint8 m; register uint c;
+ block entry { one = load.ui8 (1); z = load.ui8 (0); jump (head); }
+ block head { x = phi (a, y); y = phi (b, x); k = phi (n, m);
+  c = cmp.eq k, z; jump.cond c (out, body); }
+ block body { m = ari.sub k, one; jump (head); }
+ block out { return x; }
+}
+'''
+
 # "P1 turn(7,9,0) = 7, 9 steps, translated 13. P2 turn(7,9,1) = 9, 16 steps, translated 24. P3 turn(7,9,2) = 7, 23 steps."; the 35 of P3 are 23,
 # 9 phi and 3 ways to `head`. Then x and y at the end; k and m are 0, c is 1.
 TURNS = [(1, 0, 7, 9, 13, (7, 9)), (2, 1, 9, 16, 24, (9, 7)), (3, 2, 7, 23, 35, (7, 9))]
@@ -28,8 +40,8 @@ def turn_registers(n, xy):
 
 def turns(script):
     assert translation(TURN).sizes() == (13, 6, 22)
-    script.read('turn ', text([TURN]), cells(dump([TURN])))
-    script.list(text([TURN]), b'turn\t1\t10\t4\t11\n')
+    script.read('turn ', TURN_TEXT, cells(dump([TURN])))
+    script.list(TURN_TEXT, b'turn\t1\t10\t4\t11\n')
     script.translate('turn ', 0, cells(dump([translation(TURN)])))
     for p, n, value, steps, translated, xy in TURNS:
         registers = turn_registers(n, xy)

@@ -1,6 +1,6 @@
 """Translations made by document 01: 21, 30, 31 and 22 with their order, each size of 31 at its limit and one past."""
 from .papers import TURN, jump
-from .programs import Function, Row, dump, text, translation
+from .programs import Function, Row, dump, translation
 from .runs import LAST, LEAVE, NONE, read
 from .script import TABLE, Script, ran
 from .tables import cells

@@ -9,7 +9,7 @@ use crate::records::least;
 use crate::records::numbers;
 use crate::records::part;
 use crate::tables::compare;
-use crate::tables::soil;
+use crate::tables::poison;
 use listing::list_text;
 
 // The registers that are lent, more than a function may have.
@@ -17,7 +17,7 @@ const CELLS: usize = 300;
 
 // Reads a text.
 pub fn read(s: &[u8], r: Record, t: &mut [u8]) {
-    soil(t);
+    poison(t);
     let n = least(r.lent, t.len());
     let v = ial::read(part(s, r.given_at, r.given_len), &mut t[..n]);
     say_verdict(v, b"read");
@@ -39,7 +39,7 @@ pub fn check(r: Record, t: &[u8]) {
 
 // Translates a function of the source table.
 pub fn translate(s: &[u8], r: Record, t: &[u8], out: &mut [u8]) {
-    soil(out);
+    poison(out);
     let n = least(r.lent, out.len());
     let v = ial::translate(upto(t, r.source), r.function, &mut out[..n]);
     say_verdict(v, b"translated");

@@ -14,7 +14,6 @@ use crate::records::record_at;
 use crate::tables::ROOM;
 use crate::tables::fill_gaps;
 use crate::tables::put_cells;
-ghost use Prim.Native.Nat.{_<_};
 
 // The longest script.
 const SCRIPT: usize = 262144;

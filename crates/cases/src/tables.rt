@@ -1,9 +1,7 @@
 // Tables: cells put into one, one compared with the cells it must have, and one with anything in the cells that are not needed.
 use crate::files::say;
 use crate::files::say_number;
-ghost use mathlib.Core.Path.{_≡_};
-ghost use Prim.Native.Nat.{_+_, _<_, _≤_};
-ghost use lib.ListN.{length};
+ghost use Prim.Native.Nat.{_<_};
 
 // A cell more than a table has.
 pub const ROOM: usize = 555154;
@@ -29,7 +27,7 @@ fn put(t: &mut [u8], k: usize, v: u8) {
 }
 
 // Every cell of an output that is lent holds 255 before.
-pub fn soil(t: &mut [u8]) {
+pub fn poison(t: &mut [u8]) {
     let mut i = 0;
     while i < t.len() {
         t[i] = 255;

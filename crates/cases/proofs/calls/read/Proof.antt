@@ -6,8 +6,8 @@ use lib.Seq.{length-take-le}
 use Rattle.cases.proofs.calls.read.Statement.{statement}
 use Rattle.cases.proofs.calls.read.Tie as tie
 
-soil-requires : tie.Need-soil-requires
-soil-requires c κs = search needs
+poison-requires : tie.Need-poison-requires
+poison-requires c κs = search needs
 
 least-requires : tie.Need-least-requires
 least-requires c κs = search needs
@@ -20,7 +20,7 @@ slice-relend-prefix-read c = search needs
 
 slice-aggregate-read : tie.Need-slice-aggregate-read
 slice-aggregate-read c =
-    sym (length-take-le (c .before .before .least .result) (c .before .before .before .before .before .soil .last .0) (omega arith))
+    sym (length-take-le (c .before .before .least .result) (c .before .before .before .before .before .poison .last .0) (omega arith))
 
 read-requires : tie.Need-read-requires
 read-requires c κs = search needs
@@ -50,7 +50,7 @@ pub read-spec : {M : Type 1} → statement M
 read-spec =
     tie.close
     (tie.spec
-    soil-requires
+    poison-requires
     least-requires
     part-requires
     slice-relend-prefix-read

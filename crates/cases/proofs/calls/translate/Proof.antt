@@ -6,8 +6,8 @@ use lib.Seq.{length-take-le}
 use Rattle.cases.proofs.calls.translate.Statement.{statement}
 use Rattle.cases.proofs.calls.translate.Tie as tie
 
-soil-requires : tie.Need-soil-requires
-soil-requires c κs = search needs
+poison-requires : tie.Need-poison-requires
+poison-requires c κs = search needs
 
 least-requires : tie.Need-least-requires
 least-requires c κs = search needs
@@ -20,7 +20,7 @@ slice-relend-prefix-translate c = search needs
 
 slice-aggregate-translate : tie.Need-slice-aggregate-translate
 slice-aggregate-translate c =
-    sym (length-take-le (c .before .before .least .result) (c .before .before .before .before .before .soil .last .0) (omega arith))
+    sym (length-take-le (c .before .before .least .result) (c .before .before .before .before .before .poison .last .0) (omega arith))
 
 translate-requires : tie.Need-translate-requires
 translate-requires c κs = search needs
@@ -50,7 +50,7 @@ pub translate-spec : {M : Type 1} → statement M
 translate-spec =
     tie.close
     (tie.spec
-    soil-requires
+    poison-requires
     least-requires
     upto-requires
     slice-relend-prefix-translate

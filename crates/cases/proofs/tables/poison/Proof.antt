@@ -1,10 +1,10 @@
--- `cases::tables::soil` ends after the last cell.
+-- `cases::tables::poison` ends after the last cell.
 use mathlib.Core.Path.{_≡_}
 use borrow.Author.Needs.{needs}
 use Prim.Native.Nat.{_≤_, _<_, _-_, _+_}
 use lib.ListN.{length}
-use Rattle.cases.proofs.tables.soil.Statement.{statement}
-use Rattle.cases.proofs.tables.soil.Tie as tie
+use Rattle.cases.proofs.tables.poison.Statement.{statement}
+use Rattle.cases.proofs.tables.poison.Tie as tie
 
 abbrev Inv-loop : tie.InvT-loop
 Inv-loop t₀ i₀ t i = (i ≤ length t₀) × (length t ≡ length t₀)
@@ -33,8 +33,8 @@ same-length c = search needs
 returns : tie.Need-returns Inv-loop μ-loop
 returns c = search needs
 
-pub soil-spec : {M : Type 1} → statement M
-soil-spec =
+pub poison-spec : {M : Type 1} → statement M
+poison-spec =
     tie.close
     (tie.spec
     Inv-loop
