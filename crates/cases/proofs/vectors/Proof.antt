@@ -1,8 +1,6 @@
 -- `cases::vectors` ends after the last vector.
-use mathlib.Core.Path.{_≡_}
 use borrow.Author.Needs.{needs}
-use Prim.Native.Nat.{_≤_, _<_, _-_, _+_}
-use lib.ListN.{length}
+use Prim.Native.Nat.{_≤_, _-_}
 use Rattle.cases.proofs.vectors.Statement.{statement}
 use Rattle.cases.proofs.vectors.Tie as tie
 

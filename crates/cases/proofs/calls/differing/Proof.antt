@@ -1,7 +1,6 @@
 -- `cases::calls::differing` looks at each register once.
-use mathlib.Core.Path.{_≡_}
 use borrow.Author.Needs.{needs}
-use Prim.Native.Nat.{_≤_, _<_, _-_, _+_}
+use Prim.Native.Nat.{_≤_, _-_}
 use lib.ListN.{length}
 use Rattle.cases.proofs.calls.differing.Statement.{statement}
 use Rattle.cases.proofs.calls.differing.Tie as tie

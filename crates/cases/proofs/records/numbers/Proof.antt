@@ -1,7 +1,7 @@
 -- `cases::records::numbers` takes no more numbers than the bytes hold.
 use mathlib.Core.Path.{_≡_}
 use borrow.Author.Needs.{needs}
-use Prim.Native.Nat.{_≤_, _<_, _-_, _+_}
+use Prim.Native.Nat.{_≤_, _-_}
 use lib.ListN.{length}
 use Rattle.cases.proofs.records.numbers.Statement.{statement}
 use Rattle.cases.proofs.records.numbers.Tie as tie

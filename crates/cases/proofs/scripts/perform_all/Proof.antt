@@ -1,7 +1,7 @@
 -- `cases::scripts::perform_all` ends after the last record.
 use mathlib.Core.Path.{_≡_}
 use borrow.Author.Needs.{needs}
-use Prim.Native.Nat.{_≤_, _<_, _-_, _+_}
+use Prim.Native.Nat.{_≤_, _<_, _-_}
 use lib.ListN.{length}
 use Rattle.cases.proofs.scripts.perform_all.Statement.{statement}
 use Rattle.cases.proofs.scripts.perform_all.Tie as tie

@@ -1,7 +1,6 @@
 -- `cases::tables::differing` looks at each cell once.
-use mathlib.Core.Path.{_≡_}
 use borrow.Author.Needs.{needs}
-use Prim.Native.Nat.{_≤_, _<_, _-_, _+_}
+use Prim.Native.Nat.{_≤_, _-_}
 use lib.ListN.{length}
 use Rattle.cases.proofs.tables.differing.Statement.{statement}
 use Rattle.cases.proofs.tables.differing.Tie as tie

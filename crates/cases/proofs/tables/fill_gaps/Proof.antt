@@ -1,7 +1,7 @@
 -- `cases::tables::fill_gaps` ends: each turn takes eight bytes of the list.
 use mathlib.Core.Path.{_≡_}
 use borrow.Author.Needs.{needs}
-use Prim.Native.Nat.{_≤_, _<_, _-_, _+_}
+use Prim.Native.Nat.{_≤_, _<_, _-_}
 use lib.ListN.{length}
 use Rattle.cases.proofs.tables.fill_gaps.Statement.{statement}
 use Rattle.cases.proofs.tables.fill_gaps.Tie as tie

@@ -1,7 +1,7 @@
 -- `cases::tables::poison` ends after the last cell.
 use mathlib.Core.Path.{_≡_}
 use borrow.Author.Needs.{needs}
-use Prim.Native.Nat.{_≤_, _<_, _-_, _+_}
+use Prim.Native.Nat.{_≤_, _-_}
 use lib.ListN.{length}
 use Rattle.cases.proofs.tables.poison.Statement.{statement}
 use Rattle.cases.proofs.tables.poison.Tie as tie

@@ -1,7 +1,7 @@
 -- `cases::tables::put_cells` ends: each turn takes four bytes of the list.
 use mathlib.Core.Path.{_≡_}
 use borrow.Author.Needs.{needs}
-use Prim.Native.Nat.{_≤_, _<_, _-_, _+_}
+use Prim.Native.Nat.{_≤_, _-_}
 use lib.ListN.{length}
 use Rattle.cases.proofs.tables.put_cells.Statement.{statement}
 use Rattle.cases.proofs.tables.put_cells.Tie as tie

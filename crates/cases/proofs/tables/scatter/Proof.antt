@@ -1,7 +1,7 @@
 -- `cases::tables::scatter` goes from its first cell to its last.
 use mathlib.Core.Path.{_≡_}
 use borrow.Author.Needs.{needs}
-use Prim.Native.Nat.{_≤_, _<_, _-_, _+_}
+use Prim.Native.Nat.{_<_, _-_}
 use lib.ListN.{length}
 use Rattle.cases.proofs.tables.scatter.Statement.{statement}
 use Rattle.cases.proofs.tables.scatter.Tie as tie
