@@ -1,10 +1,37 @@
-// Runs the library on the outside vectors and on texts made here, and prints what it answers.
-mod made;
+// Runs the library by scripts, and prints what it answers: on the outside vectors, and on texts and tables made by document 01. `expected.py` makes the
+// scripts, and what must be printed, with no code of the library.
+mod answers;
+mod calls;
+mod files;
+mod records;
+mod scripts;
 mod tables;
-mod vectors;
+
+use scripts::script;
+
+// The script of vector i.
+fn path(i: usize) -> [u8; 9] {
+    let d = 48 + (i / 100 % 10) as u8;
+    let e = 48 + (i / 10 % 10) as u8;
+    let f = 48 + (i % 10) as u8;
+    [48, d, e, f, 46, 99, 97, 115, 101]
+}
+
+fn vectors() {
+    let mut i = 0;
+    while i < 320 {
+        script(&path(i));
+        i += 1;
+    }
+}
 
 fn main() {
-    vectors::all();
-    made::all();
-    tables::all();
+    vectors();
+    script(b"papers.case");
+    script(b"runs.case");
+    script(b"translations.case");
+    script(b"translated_sizes.case");
+    script(b"sizes.case");
+    script(b"texts.case");
+    script(b"faults.case");
 }
