@@ -21,7 +21,8 @@ use Rattle.checker.specs.Verdicts.{verdictOf}
 use Rattle.ial.specs.declared.running.Ran.{Ran}
 use Rattle.ial.specs.declared.running.Ran.the-variants as rans
 use Rattle.ial.specs.Runs.{ranOf}
-use Rattle.ial.specs.Demand.{TranslateCalled, CheckCalled, RunCalled, Alike, UsedUp, Compared, Demand3Called, Demand3OfCalls}
+use Rattle.ial.specs.Calls.{RunCalled}
+use Rattle.ial.specs.Demand.{Alike, UsedUp, Compared, Demand3Called, Demand3OfCalls}
 
 -- An answer is known by its numbers.
 accepted-is : (v : Verdict) → verdictOf v ≡ Verdictᴸ.accepted → v ≡ verdicts.Accepted
@@ -55,7 +56,7 @@ stopped-is (rans.Stopped a b c) n p k e =
     rw (h, i, j) refl
 stopped-is (rans.Refused a b) n p k e = absurd (let z : _≡_ {A = ℕ} 0 1 = cc in omega arith)
 
-alike : (x y : Ran) (o : Outcome) (p q n m : ℕ) → ranOf x ≡ outcomeOf o p n → ranOf y ≡ outcomeOf o q m → Alike n m x y
+alike : (x y : Ran) (o : Outcome) (p q n m : ℕ) → ranOf x ≡ outcomeOf o p n → ranOf y ≡ outcomeOf o q m → Alike n m o x y
 alike x y (Outcome.returned v) p q n m e f = rw (returned-is x v n e, returned-is y v m f) (Alike.returned v)
 alike x y Outcome.left p q n m e f = rw (left-is x n e, left-is y m f) Alike.left
 alike x y (Outcome.stopped k) p q n m e f = rw (stopped-is x k p n e, stopped-is y k q m f) (Alike.stopped k p q)
@@ -83,22 +84,22 @@ module _ (t : List ℕ) (i : ℕ) (args : List ℕ) (h : Translatable t i args) 
   abbrev f : Func
   f = functionOf t i
 
-  module _ (g k : List ℕ) (l : length (functionOf t i .registers) ≤ length g) (l′ : length (functionOf out 0 .registers) ≤ length k) where
-    agree : RunsAgree t i args out (length g) (length k)
-    agree = runs-over-tables t i args out (length g) (length k) h table l l′
+  module _ (c c′ : ℕ) (g k : List ℕ) (l : length (functionOf t i .registers) ≤ c) (l′ : length (functionOf out 0 .registers) ≤ c′) where
+    agree : RunsAgree t i args out c c′
+    agree = runs-over-tables t i args out c c′ h table l l′
 
-    both-used : (n : ℕ) (x y : Ran) → RunCalled t i args n x g → RunCalled out 0 args n y k → NotEnded (functionOf t i) args n → UsedUp n x × UsedUp n y
-    both-used n x y c d go =
+    both-used : (n : ℕ) (x y : Ran) → RunCalled t i args n c x g → RunCalled out 0 args n c′ y k → NotEnded (functionOf t i) args n → UsedUp n x × UsedUp n y
+    both-used n x y u v go =
         let a = agree .going n go in
-        ((a .0, stopped-is x 43 (a .0) n (answered c ∙ a .2)), (a .1, stopped-is y 43 (a .1) n (answered d ∙ a .3)))
+        ((a .0, stopped-is x 43 (a .0) n (answered u ∙ a .2)), (a .1, stopped-is y 43 (a .1) n (answered v ∙ a .3)))
 
-    compare : (b b′ : ℕ) (x y : Ran) → RunCalled t i args b x g → RunCalled out 0 args b′ y k → 3 * b ≤ b′ → Compared t i args b x y
-    compare b b′ x y c d m = elim (stands f args b) [
+    compare : (b b′ : ℕ) (x y : Ran) → RunCalled t i args b c x g → RunCalled out 0 args b′ c′ y k → 3 * b ≤ b′ → Compared t i args b x y
+    compare b b′ x y u v m = elim (stands f args b) [
       | Stands.ended n o e n≤b ↦
           let a = agree .ended n b b′ o e n≤b (omega arith) in
           Compared.ended n (stepFormula f args n) o e n≤b refl (table .atLeast n o e) (table .atMost n o e)
-          (alike x y o (a .0) (a .1) n (stepFormula f args n) (answered c ∙ a .2) (answered d ∙ a .3))
-      | Stands.going go ↦ Compared.going go ((let a = agree .going b go in (a .0, stopped-is x 43 (a .0) b (answered c ∙ a .2))))
+          (alike x y o (a .0) (a .1) n (stepFormula f args n) (answered u ∙ a .2) (answered v ∙ a .3))
+      | Stands.going go ↦ Compared.going go (let a = agree .going b go in (a .0, stopped-is x 43 (a .0) b (answered u ∙ a .2)))
     ]
 
 pub demand3-of-calls : Demand3OfCalls
@@ -109,6 +110,6 @@ demand3-of-calls t i args r out h e =
       done = accepted-is r (ap (λ (x : Filled). x .answer) e ∙ d .0);
       table = table;
       checked = λ v c. accepted-is v (c ∙ table .accepted);
-      compared = λ b b′ x y g k c c′ l l′ m. compare t i args h out table g k l l′ b b′ x y c c′ m;
-      neither = λ n x y g k c c′ l l′ go. both-used t i args h out table g k l l′ n x y c c′ go;
+      compared = λ b b′ c c′ x y g k u v l l′ m. compare t i args h out table c c′ g k l l′ b b′ x y u v m;
+      neither = λ n c c′ x y g k u v l l′ go. both-used t i args h out table c c′ g k l l′ n x y u v go;
     }

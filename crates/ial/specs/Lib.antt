@@ -1,4 +1,5 @@
 pub mod Verdicts
 pub mod Numbers
 pub mod Runs
+pub mod Calls
 pub mod Demand

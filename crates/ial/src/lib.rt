@@ -22,9 +22,9 @@ ghost use mathlib.Core.Path.{_≡_};
 ghost use Prim.Native.Nat.{_≤_};
 ghost use lib.ListN.{length};
 ghost use Rattle.language.specs.Reading.{read as readOf};
-ghost use Rattle.language.specs.Answers.{zeros, readAnswer, checkAnswer};
-ghost use Rattle.checker.specs.Verdicts.{verdictOf};
-ghost use Rattle.ial.specs.Verdicts.{filledOf, Into, Aside};
+ghost use Rattle.language.specs.Answers.{zeros};
+ghost use Rattle.ial.specs.Verdicts.{Into, Aside};
+ghost use Rattle.ial.specs.Calls.{ReadCalled, CheckCalled};
 
 // The cells of a table, and of the scratch that reading needs: 2,048 mentions of blocks, 69 cells each.
 const TABLE: usize = 555153;
@@ -60,7 +60,7 @@ fn read_aside(text: &[u8]) -> Verdict
 
 // Reads a text into a lent table: 1 to 8, and 22 last. After a refusal the table is all zero.
 pub fn read(text: &[u8], out: &mut [u8]) -> Verdict
-    ensures { λ r. ⌜ filledOf r (now (out .exit)) ≡ readAnswer (now (text .entry)) (length (now (out .entry))) ⌝ }
+    ensures { λ r. ⌜ ReadCalled (now (text .entry)) (length (now (out .entry))) r (now (out .exit)) ⌝ }
 {
     zero(out);
     if 65536 < text.len() {
@@ -79,7 +79,7 @@ pub fn read(text: &[u8], out: &mut [u8]) -> Verdict
 
 // Checks a lent table: accepted exactly if none of 9 to 17 holds.
 pub fn check(t: &[u8]) -> Verdict
-    ensures { λ r. ⌜ verdictOf r ≡ checkAnswer (now (t .entry)) ⌝ }
+    ensures { λ r. ⌜ CheckCalled (now (t .entry)) r ⌝ }
 {
     check_table(t)
 }

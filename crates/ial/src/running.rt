@@ -4,9 +4,10 @@ ghost use Prim.Native.Nat.{_<_};
 ghost use lib.ListN.{length};
 ghost use Rattle.language.specs.Checking.{Verdict as Verdictᴸ};
 ghost use Rattle.language.specs.Table.{decode};
-ghost use Rattle.language.specs.Answers.{zeros, checkAnswer, runFunction, runAnswer};
+ghost use Rattle.language.specs.Answers.{zeros, checkAnswer, runFunction};
 ghost use Rattle.machine.specs.Runs.{ranIn};
 ghost use Rattle.ial.specs.Runs.{ranOf, finishedOf, stopPlace};
+ghost use Rattle.ial.specs.Calls.{RunCalled};
 use checker::Verdict;
 use checker::check_table;
 use machine::Outcome;
@@ -74,7 +75,7 @@ fn run_checked(t: &[u8], function: u64, args: &[u64], budget: u64, registers: &m
 // Runs a function of a lent table on arguments, for at most `budget` steps: 9 to 17, 21, 20, 22; 27, 40 to 43. The lent registers hold the
 // function's registers afterwards, and 0 past them; after a refusal they are all zero.
 pub fn run(t: &[u8], function: u64, args: &[u64], budget: u64, registers: &mut [u64]) -> Ran
-    ensures { λ r. ⌜ finishedOf r (now (registers .exit)) ≡ runAnswer (now (t .entry)) function (now (args .entry)) budget (length (now (registers .entry))) ⌝ }
+    ensures { λ r. ⌜ RunCalled (now (t .entry)) function (now (args .entry)) budget (length (now (registers .entry))) r (now (registers .exit)) ⌝ }
 {
     start(&[], registers);
     match check_table(t) {

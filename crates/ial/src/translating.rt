@@ -3,8 +3,9 @@ ghost use mathlib.Core.Path.{_≡_};
 ghost use lib.ListN.{length};
 ghost use Rattle.language.specs.Checking.{Verdict as Verdictᴸ};
 ghost use Rattle.language.specs.Table.{decode};
-ghost use Rattle.language.specs.Answers.{zeros, checkAnswer, translateFunction, translateAnswer};
+ghost use Rattle.language.specs.Answers.{zeros, checkAnswer, translateFunction};
 ghost use Rattle.ial.specs.Verdicts.{filledOf};
+ghost use Rattle.ial.specs.Calls.{TranslateCalled};
 use checker::Verdict;
 use checker::check_table;
 use rules::prepare;
@@ -47,7 +48,7 @@ fn translate_checked(t: &[u8], function: u64, out: &mut [u8]) -> Verdict
 // Translates a function of a lent table out of ssa, to a lent table of that function alone: 9 to 17, 21, 30, 31, 22. After a refusal the
 // output is all zero.
 pub fn translate(t: &[u8], function: u64, out: &mut [u8]) -> Verdict
-    ensures { λ r. ⌜ filledOf r (now (out .exit)) ≡ translateAnswer (now (t .entry)) function (length (now (out .entry))) ⌝ }
+    ensures { λ r. ⌜ TranslateCalled (now (t .entry)) function (length (now (out .entry))) r (now (out .exit)) ⌝ }
 {
     zero(out);
     match check_table(t) {

@@ -126,7 +126,7 @@ inDigits Class.other = false
 abbrev pub digitByte : ℕ → Bool
 digitByte b = inDigits (classOf b)
 
--- The value of a hexadecimal digit, "of both cases", or 16 for another byte.
+-- The value of a hexadecimal digit, in capitals or not, or 16 for another byte.
 unfoldable pub hexValue : ℕ → ℕ
 hexValue b =
     cond (ltb b 48) 16

@@ -242,7 +242,7 @@ distinct (n ∷ ns) = (empty n || not (any (same n) ns)) && distinct ns
 unfoldable pub spelledOrNone : List ℕ → Bool
 spelledOrNone n = empty n || spelled n
 
--- "a size exceeded"
+-- "size exceeded"
 unfoldable pub sizesRight : Func → Bool
 sizesRight f =
     leb (length (f .registers)) maxRegisters && leb (length (f .blocks)) maxBlocks && leb (length (rowsOf f)) maxRows

@@ -117,7 +117,7 @@ isPhi (return s) = false
 isPhi leave = false
 isPhi (unknown op) = false
 
--- "Terminators: `jump`, `jump.cond`, `return`, `leave`"
+-- "Terminators: `jump` ..; `jump.cond` ..; `return` ..; `leave`"
 abbrev pub isTerminator : Row → Bool
 isTerminator nop = false
 isTerminator (load op t n) = false

@@ -1,0 +1,27 @@
+-- What the entry points promise of a call: the answer in document 01's numbers, and every cell of what was lent, are those of the definition.
+-- Assumes nothing.
+use mathlib.Core.Path.{_≡_}
+use mathlib.Core.List.{List}
+use Prim.Native.Nat.{ℕ}
+use Rattle.language.specs.Answers.{readAnswer, checkAnswer, runAnswer, translateAnswer}
+use Rattle.checker.specs.declared.Verdict.{Verdict}
+use Rattle.checker.specs.Verdicts.{verdictOf}
+use Rattle.ial.specs.declared.running.Ran.{Ran}
+use Rattle.ial.specs.Verdicts.{filledOf}
+use Rattle.ial.specs.Runs.{finishedOf}
+
+-- `read` with a text and a lent table of n cells answered r and left the table as `out`.
+abbrev pub ReadCalled : (text : List ℕ) (n : ℕ) (r : Verdict) (out : List ℕ) → Type 0
+ReadCalled text n r out = filledOf r out ≡ readAnswer text n
+
+-- `check` with table t answered r.
+abbrev pub CheckCalled : (t : List ℕ) (r : Verdict) → Type 0
+CheckCalled t r = verdictOf r ≡ checkAnswer t
+
+-- `run` with table t, function i, arguments, a budget and n lent registers answered x and left the registers as g.
+abbrev pub RunCalled : (t : List ℕ) (i : ℕ) (args : List ℕ) (budget n : ℕ) (x : Ran) (g : List ℕ) → Type 0
+RunCalled t i args budget n x g = finishedOf x g ≡ runAnswer t i args budget n
+
+-- `translate` with table t, function i and a lent table of n cells answered r and left that table as `out`.
+abbrev pub TranslateCalled : (t : List ℕ) (i n : ℕ) (r : Verdict) (out : List ℕ) → Type 0
+TranslateCalled t i n r out = filledOf r out ≡ translateAnswer t i n
