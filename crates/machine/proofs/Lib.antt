@@ -9,4 +9,5 @@ pub mod Values
 pub mod Testing
 pub mod Dispatch
 pub mod Midway
+pub mod Passing
 pub mod Answering

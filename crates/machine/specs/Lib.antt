@@ -2,3 +2,4 @@ pub mod Places
 pub mod Standing
 pub mod Phis
 pub mod Runs
+pub mod Passing
