@@ -1,11 +1,27 @@
-// Files and messages.
+// Files, words and messages.
 ghost use mathlib.Core.Path.{_≡_};
 ghost use Prim.Native.Nat.{_+_, _≤_};
 ghost use lib.ListN.{length, take};
 use libc::STDERR_FILENO;
 
+fn say(line: &[u8]) {
+    io::write_all(STDERR_FILENO, line);
+}
+
 pub fn say_wrong() {
-    io::write_all(STDERR_FILENO, b"ial: wrong words; say: ial list FILE\n");
+    say(
+        b"ial: wrong words; say: ial list FILE, ial run FILE FUNCTION BUDGET [ARG..] or ial translate FILE FUNCTION\n",
+    );
+}
+
+pub fn say_budget() {
+    say(
+        b"ial: the budget is not a decimal number from 0 on; say: ial run FILE FUNCTION BUDGET [ARG..]\n",
+    );
+}
+
+pub fn say_argument() {
+    say(b"ial: an argument is not a decimal number; say: ial run FILE FUNCTION BUDGET [ARG..]\n");
 }
 
 // The bytes of a file, as many as there is room for, and how many they are; one more than there is room for where it cannot be read, and

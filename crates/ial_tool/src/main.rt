@@ -1,7 +1,18 @@
-// The tool: opens, calls and writes. Wrong words and files that cannot be read get one line on standard error.
+// The tool: takes words, opens, calls and writes. Wrong words and files that cannot be read get one line on standard error.
+ghost use mathlib.Core.Path.{_≡_};
+ghost use Prim.Native.Nat.{_≤_};
+ghost use lib.ListN.{length};
+
 mod files;
 
+use calling::Budget;
+use calling::keep_argument;
+use calling::read_budget;
+use calling::run_text;
+use calling::translate_text;
 use files::load;
+use files::say_argument;
+use files::say_budget;
 use files::say_wrong;
 use files::upto;
 use libc::STDOUT_FILENO;
@@ -13,6 +24,15 @@ const LINES: usize = 2384;
 
 // One byte more than a text may have: such a text is refused as too long, whatever follows.
 const TEXT: usize = 65537;
+
+// The longest word that Linux hands to a program, its end included: no word is cut.
+const WORD: usize = 131072;
+
+// The words before the arguments: the program's name, `run`, FILE, FUNCTION, BUDGET.
+const ARGUMENTS: usize = 5;
+
+// The arguments that are kept: no function has more parameters.
+const KEPT: usize = 256;
 
 // `list FILE`: the listing of document 01.
 fn list(path: &[u8]) {
@@ -26,14 +46,105 @@ fn list(path: &[u8]) {
     io::write_all(STDOUT_FILENO, upto(&out, k));
 }
 
+// `translate FILE FUNCTION`: the listing of the translation.
+fn translate(path: &[u8], word: &[u8]) {
+    let mut text = [0u8; TEXT];
+    let n = load(path, &mut text);
+    if TEXT < n {
+        return;
+    }
+    let mut out = [0u8; LINES];
+    let k = translate_text(upto(&text, n), word, &mut out);
+    io::write_all(STDOUT_FILENO, upto(&out, k));
+}
+
+// Keeps word i as an argument, and says whether it is a number.
+fn keep_word(i: usize, signs: &mut [u8], magnitudes: &mut [u64]) -> bool
+    requires { ⌜ (5 ≤ i) × (length (now signs) ≡ 256) × (length (now magnitudes) ≡ 256) ⌝ }
+{
+    let mut word = [0u8; WORD];
+    let n = os::arg(i, &mut word);
+    keep_argument(upto(&word, n), i - ARGUMENTS, signs, magnitudes)
+}
+
+// Keeps the arguments among so many words, and says whether each is a number.
+fn keep_words(words: usize, signs: &mut [u8], magnitudes: &mut [u64]) -> bool
+    requires { ⌜ (length (now signs) ≡ 256) × (length (now magnitudes) ≡ 256) ⌝ }
+{
+    let mut i = ARGUMENTS;
+    while i < words {
+        if !keep_word(i, signs, magnitudes) {
+            return false;
+        }
+        i += 1;
+    }
+    true
+}
+
+// `run FILE FUNCTION BUDGET [ARG..]`: the line of the answer.
+fn run(path: &[u8], word: &[u8], budget: u64, words: usize)
+    requires { ⌜ 5 ≤ words ⌝ }
+{
+    let mut signs = [0u8; KEPT];
+    let mut magnitudes = [0u64; KEPT];
+    if !keep_words(words, &mut signs, &mut magnitudes) {
+        say_argument();
+        return;
+    }
+    let mut text = [0u8; TEXT];
+    let n = load(path, &mut text);
+    if TEXT < n {
+        return;
+    }
+    let mut out = [0u8; LINES];
+    let k = run_text(
+        upto(&text, n),
+        word,
+        words - ARGUMENTS,
+        &signs,
+        &magnitudes,
+        budget,
+        &mut out,
+    );
+    io::write_all(STDOUT_FILENO, upto(&out, k));
+}
+
+// The same once the budget is read.
+fn run_words(path: &[u8], word: &[u8], words: usize)
+    requires { ⌜ 5 ≤ words ⌝ }
+{
+    let mut budget = [0u8; WORD];
+    let n = os::arg(4, &mut budget);
+    match read_budget(&budget[..n]) {
+        Budget::Wrong => say_budget(),
+        Budget::Steps(most) => run(path, word, most, words),
+    }
+}
+
+// A command on a file's function.
+fn call(command: &[u8], path: &[u8], words: usize) {
+    let mut word = [0u8; WORD];
+    let n = os::arg(3, &mut word);
+    if words == 4 && same(command, b"translate") {
+        translate(path, &word[..n]);
+        return;
+    }
+    if ARGUMENTS <= words && same(command, b"run") {
+        run_words(path, &word[..n], words);
+        return;
+    }
+    say_wrong();
+}
+
 fn main() {
     let mut command = [0u8; 16];
     let n = os::arg(1, &mut command);
     let mut path = io::buffer();
     let k = os::arg(2, &mut path);
-    if os::arg_count() == 3 && same(&command[..n], b"list") {
+    let words = os::arg_count();
+    if words == 3 && same(&command[..n], b"list") {
         list(&path[..k]);
         return;
     }
-    say_wrong();
+    call(&command[..n], &path[..k], words);
 }

@@ -32,6 +32,11 @@ module _ (t : List ℕ) where
   pub accepted-answer : {v : Verdictᶜ} → verdictOf v ≡ checkAnswer t → v ≡ verdicts.Accepted → checkAnswer t ≡ Verdict.accepted
   accepted-answer e r = sym e ∙ ap verdictOf r
 
+-- The check of a table of the right length is its program's.
+pub table-check : (t : List ℕ) → length t ≡ tableLength → checkAnswer t ≡ check (decode t)
+unfolding checkAnswer
+table-check t e = rw (eq-eqb (length t) tableLength e) refl
+
 -- ---- a text
 
 -- A list of which every element is a byte.
@@ -65,17 +70,31 @@ read-reading t (Reading.refused k q) e =
     absurd (let z : _≡_ {A = ℕ} 0 1 = cc in omega arith)
 read-reading t (Reading.program q) e = ReadInto.program q (ap (λ (f : Filled). f .table) (e ∙ filled-table q))
 
+-- A text that is refused, and one whose program the table holds.
+pub read-refused : (text t : List ℕ) {v : Verdictᶜ} {n p : ℕ} → filledOf v t ≡ readAnswer text tableLength → v ≡ verdicts.Refused n p → read text ≡ Reading.refused n p
+unfolding readAnswer
+read-refused text t {n = n} {p = p} e r = refused-reading t (read text) n p (ap (λ w. filledOf w t) (sym r) ∙ e)
+
+pub record ReadAs (text t : List ℕ) : Type 0 where
+  pub program : read text ≡ Reading.program (decode t)
+  pub count : length t ≡ tableLength
+
+pub read-accepted : (text t : List ℕ) {v : Verdictᶜ} → Bytes text → filledOf v t ≡ readAnswer text tableLength → v ≡ verdicts.Accepted → ReadAs text t
+unfolding readAnswer
+read-accepted text t b e r = by (read text) refl (read-reading t (read text) (ap (λ w. filledOf w t) (sym r) ∙ e))
+  where
+    by : (x : Reading) → read text ≡ x → ReadInto t x → ReadAs text t
+    by (Reading.program p) s (ReadInto.program _ h) =
+        let held : Held p = table p (read-fits text b p s) in
+        record { program = s ∙ ap Reading.program (sym (ap decode h ∙ held .back)); count = ap length h ∙ held .count }
+
 pub listing-refused : (text t : List ℕ) {v : Verdictᶜ} {n p : ℕ} → filledOf v t ≡ readAnswer text tableLength → v ≡ verdicts.Refused n p → listing text ≡ refusedLine n p
-unfolding readAnswer listing
-listing-refused text t {n = n} {p = p} e r =
-    ap listed (refused-reading t (read text) n p (ap (λ w. filledOf w t) (sym r) ∙ e))
+unfolding listing
+listing-refused text t e r = ap listed (read-refused text t e r)
 
 pub listing-read : (text t : List ℕ) {v : Verdictᶜ} → Bytes text → filledOf v t ≡ readAnswer text tableLength → v ≡ verdicts.Accepted
     → listing text ≡ judged (decode t) (checkAnswer t)
-unfolding readAnswer listing checkAnswer
-listing-read text t b e r = by (read text) refl (read-reading t (read text) (ap (λ w. filledOf w t) (sym r) ∙ e))
-  where
-    by : (x : Reading) → read text ≡ x → ReadInto t x → listed x ≡ judged (decode t) (checkAnswer t)
-    by (Reading.program p) s (ReadInto.program _ h) =
-        let held : Held p = table p (read-fits text b p s) in
-        rw (h, held .back, eq-eqb (length (cells p)) tableLength (held .count)) refl
+unfolding listing
+listing-read text t b e r =
+    let x = read-accepted text t b e r in
+    ap listed (x .program) ∙ ap (judged (decode t)) (sym (table-check t (x .count)))

@@ -34,7 +34,7 @@ const LINE_FEED: u8 = 10;
 const FUNCTION: usize = 34697;
 
 // A tab and a number.
-fn put_number(n: u64, out: &mut [u8], at: usize) -> usize
+pub fn put_number(n: u64, out: &mut [u8], at: usize) -> usize
     requires { ⌜ at + 21 ≤ length (now out) ⌝ }
     ensures { λ r. ⌜ Written (now (out .entry)) at (tab ∷ digits n) (now (out .exit)) r × (r ≤ at + 21) ⌝ }
 {

@@ -1,0 +1,6 @@
+pub mod WordLaws
+pub mod ArgumentLaws
+pub mod AnswerLaws
+pub mod CallLaws
+pub mod TextLaws
+pub mod TranslationLaws
