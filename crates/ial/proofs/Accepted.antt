@@ -12,7 +12,7 @@ use Rattle.language.specs.Programs.{Func, noFunction, maxFunctions}
 use Rattle.language.specs.Table.{tableLength, functionLength, functionAt, functionCount, functionParams, registerCount, blocksPlaced, phisPlaced, decode, decodeFunction}
 use Rattle.language.specs.Checking.{Verdict, check, judgeFrom}
 use Rattle.language.specs.Answers.{checkAnswer}
-use Rattle.theorems.proofs.Clean.{Clean}
+use Rattle.theorems.specs.Clean.{Clean}
 use Rattle.theorems.proofs.AcceptanceCheck.{Sound, sound-parts, tested, clean-of-check}
 use Rattle.theorems.proofs.TableView.{function-count, function-is, register-count, block-count, rows-count, sequence-entries}
 use Rattle.rules.specs.Prepared.{Sized}

@@ -10,7 +10,7 @@ use Rattle.language.specs.Programs.{Func, firstRow}
 use Rattle.language.specs.Table.{decodeFunction}
 use Rattle.language.specs.Running.{Place, Outcome, Run, start, startRegisters, after, runOf, argumentsFit}
 use Rattle.language.specs.Answers.{Ran, placeOf, ranAs}
-use Rattle.theorems.proofs.Clean.{Clean}
+use Rattle.theorems.specs.Clean.{Clean}
 use Rattle.theorems.proofs.AcceptanceCheck.{sound-parts}
 use Rattle.theorems.proofs.SimulationRows.{entry-known}
 use Rattle.theorems.proofs.SimulationRuns.{First, first, after-go, after-end}

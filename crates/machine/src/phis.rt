@@ -5,7 +5,7 @@ ghost use Prim.Native.Nat.{_+_, _*_, _<_, _≤_};
 ghost use lib.ListN.{length};
 ghost use Rattle.language.specs.Table.{blockCount, decodeFunction};
 ghost use Rattle.language.specs.Checking.{goesTo};
-ghost use Rattle.theorems.proofs.Clean.{Clean};
+ghost use Rattle.theorems.specs.Clean.{Clean};
 ghost use Rattle.rules.specs.Prepared.{Sized, Prepared, rankOf};
 ghost use Rattle.machine.specs.Phis.{Readable, Taken, written};
 use table::block_first;

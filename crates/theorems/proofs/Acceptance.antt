@@ -20,7 +20,7 @@ use Rattle.language.specs.Programs.{Row, Register, Block, Func, Program, noFunc
 use Rattle.language.specs.Checking.{Spot, spotAt, Verdict, check, inRange, typed, breaks9, breaks10, breaks11, breaks12, breaks13, breaks14, breaks15, breaks16, breaks17, breaksRow, distinct, spelledOrNone}
 use Rattle.language.specs.Running.{phisOf, phiTarget}
 use Rattle.language.specs.Translating.{phiBlocks, edgesTo, keptBlock, registerFor, translation, translationFits}
-use Rattle.theorems.proofs.Clean.{Clean}
+use Rattle.theorems.specs.Clean.{Clean}
 use Rattle.theorems.proofs.Size.{size-registers, size-blocks, size-rows}
 use Rattle.theorems.proofs.AcceptanceCheck.{clean-of-check, check-of-clean, Sound, sound-parts, parts-sound, in-blocks, passes}
 use Rattle.theorems.proofs.AcceptanceRows.{phi-only, entries-none, range-parts, parts-range, Ended, ended-at, ended-filled}

@@ -16,7 +16,7 @@ use Rattle.language.specs.Programs.{Row, Block, Func, rowsAt, typeAt, isPhi, is
 use Rattle.language.specs.Checking.{goesTo, predecessors, shaped, numberFits, typed}
 use Rattle.language.specs.Running.{phisOf, phiTarget, entryAt}
 use Rattle.language.specs.Translating.{keptOf, phiBlocks, newRegister, retargeted, retarget, copyRow, edgeRows, edgesTo, keptBlock, translation}
-use Rattle.theorems.proofs.Clean.{Clean}
+use Rattle.theorems.specs.Clean.{Clean}
 use Rattle.theorems.proofs.AcceptanceRows.{names-last, kept-split, InRange, Ended, ended-last, Source, source-rows, source-ended, source-phis}
 use Rattle.theorems.proofs.AcceptanceNumbers.{type-kept, kept-lt, new-lt, type-new, block-lt, retargeted-lt}
 

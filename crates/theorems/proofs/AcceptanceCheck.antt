@@ -18,7 +18,7 @@ use Rattle.language.specs.Programs.{Row, Func, Program, noFunction, noBlock, ma
 use Rattle.language.specs.Checking.{Spot, spotAt, spotsFrom, spotsIn, spotsOf, inRange, breaks9, breaks10, breaks11, breaks12, breaks13, breaks14, breaks15, breaks16, breaks17, rowTests, breaksRow, Verdict, rowsThat, faults10, faults, firstFault, sizesRight, numbersRight, entryRight, namesRight, sound, judge, judgeFrom, check, rowNumber, spelledOrNone, distinct}
 use Rattle.language.specs.Instructions.{typeCount, void}
 use Rattle.language.specs.Names.{spelled}
-use Rattle.theorems.proofs.Clean.{Clean}
+use Rattle.theorems.specs.Clean.{Clean}
 
 -- ---- one row
 

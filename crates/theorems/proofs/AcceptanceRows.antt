@@ -19,7 +19,7 @@ use Rattle.language.specs.Programs.{Row, Func, rowsAt, typeAt, isPhi, isTermina
 use Rattle.language.specs.Checking.{Spot, spotAt, breaksRow, lastRow, predecessors, shaped, numberFits, inRange, typed, breaks9, breaks10, breaks11, breaks15}
 use Rattle.language.specs.Running.{phiTarget, phisOf}
 use Rattle.language.specs.Translating.{keptOf}
-use Rattle.theorems.proofs.Clean.{Clean}
+use Rattle.theorems.specs.Clean.{Clean}
 use Rattle.theorems.proofs.AcceptanceCheck.{passes9, passes10, passes11, passes15}
 
 -- ---- phi and terminators

@@ -1,4 +1,3 @@
-pub mod Clean
 pub mod Budgets
 pub mod TableParts
 pub mod TableFunction
@@ -27,3 +26,4 @@ pub mod Demand
 pub mod OverTables
 pub mod ReadMoves
 pub mod ReadFits
+pub mod Turn

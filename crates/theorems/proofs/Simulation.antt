@@ -14,7 +14,7 @@ use Rattle.language.specs.Checking.{Verdict, check}
 use Rattle.language.specs.Running.{Place, Outcome, Next, Run, Ends, NotEnded, phisOf, step, runOf, rowHere, start, startRegisters, phiSteps, edgeSteps, firstUnfit, argumentsFit}
 use Rattle.language.specs.Translating.{translation, stepFormula, phiCount}
 use Rattle.theorems.specs.Statements.{Translates}
-use Rattle.theorems.proofs.Clean.{Clean}
+use Rattle.theorems.specs.Clean.{Clean}
 use Rattle.theorems.proofs.SimulationRuns.{First, first, Goes, goes-more, goes-less, goes-after, after-goes, Stops, stops-once, ended-stops, stops-ends, ends-stops}
 use Rattle.theorems.proofs.SimulationRows.{entry-plain, entry-known, params-known}
 use Rattle.theorems.proofs.SimulationBlocks.{start-registers, start-length}

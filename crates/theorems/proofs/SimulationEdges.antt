@@ -17,7 +17,7 @@ use Rattle.language.specs.Programs.{Row, Func, rowsAt, hasPhi}
 use Rattle.language.specs.Checking.{predecessors}
 use Rattle.language.specs.Running.{Place, Next, onward, valueAt, phisOf, phiTarget, entryAt, writeAll, perform, step, rowHere}
 use Rattle.language.specs.Translating.{copyRow, edgeRows, translation, newRegister, pairsBefore, phisBefore, phiCount}
-use Rattle.theorems.proofs.Clean.{Clean}
+use Rattle.theorems.specs.Clean.{Clean}
 use Rattle.theorems.proofs.SimulationRuns.{Goes, goes-one, goes-more}
 use Rattle.theorems.proofs.SimulationRows.{step-row, phi-target, phi-entry}
 use Rattle.theorems.proofs.SimulationBlocks.{edge-rows, phis-fit}

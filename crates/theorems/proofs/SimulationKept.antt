@@ -17,7 +17,7 @@ use Rattle.language.specs.Programs.{Row, Func, rowsAt, typeAt, isPhi, isTermina
 use Rattle.language.specs.Checking.{goesTo, predecessors, inRange, lastRow}
 use Rattle.language.specs.Running.{Place, Outcome, Next, onward, enter, valueAt, phisOf, cameBy, assign, perform, step, rowHere}
 use Rattle.language.specs.Translating.{keptOf, retarget, retargeted, edgeOf, translation}
-use Rattle.theorems.proofs.Clean.{Clean}
+use Rattle.theorems.specs.Clean.{Clean}
 use Rattle.theorems.proofs.SimulationRuns.{goes-one}
 use Rattle.theorems.proofs.SimulationRows.{rowOf, in-range, rows-count, kept-at, kept-is, more-rows, last-row, step-row, targets-known, sources-known, named-known, first-lt, second-lt}
 use Rattle.theorems.proofs.SimulationBlocks.{kept-rows, type-kept}

@@ -15,7 +15,7 @@ use Rattle.laws.proofs.Keep.{any-failed}
 use Rattle.language.specs.Programs.{Row, Func, rowsAt, isPhi, isTerminator, hasPhi}
 use Rattle.language.specs.Running.{Place, onward, writeAll, phisOf, cameBy, phiStep, perform, step, rowHere}
 use Rattle.language.specs.Translating.{keptOf, edgeOf, translation}
-use Rattle.theorems.proofs.Clean.{Clean}
+use Rattle.theorems.specs.Clean.{Clean}
 use Rattle.theorems.proofs.SimulationRuns.{Goes, goes-less}
 use Rattle.theorems.proofs.SimulationRows.{IsPhi, is-phi, rowOf, rows-count, rows-split, phi-at, phi-is, more-rows, step-row}
 use Rattle.theorems.proofs.SimulationEdges.{Beside, Reaches, edgeLength, edge-run}

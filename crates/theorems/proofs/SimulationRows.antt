@@ -18,7 +18,7 @@ use Rattle.language.specs.Programs.{Row, Func, rowsAt, isPhi, isTerminator, tar
 use Rattle.language.specs.Checking.{spotAt, inRange, rowTests, breaksRow, breaks9, breaks10, breaks14, sound, numbersRight, entryRight, lastRow}
 use Rattle.language.specs.Running.{Place, phisOf, phiTarget, entryAt, perform, performAt, step, rowHere}
 use Rattle.language.specs.Translating.{keptOf}
-use Rattle.theorems.proofs.Clean.{Clean}
+use Rattle.theorems.specs.Clean.{Clean}
 
 -- The row at place j of block b.
 abbrev pub rowOf : Func → ℕ → ℕ → Row

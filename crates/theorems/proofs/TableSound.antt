@@ -23,7 +23,7 @@ use Rattle.theorems.specs.Statements.{AcceptedBack}
 use Rattle.theorems.specs.TableLaw.{NameFits, RegisterFits, RowFits, FunctionFits, Fits, Held, numberOf}
 use Rattle.theorems.proofs.AcceptanceCheck.{clean-of-check, Sound, sound-parts}
 use Rattle.theorems.proofs.AcceptanceRows.{InRange, range-parts}
-use Rattle.theorems.proofs.Clean.{Clean}
+use Rattle.theorems.specs.Clean.{Clean}
 use Rattle.theorems.proofs.Table.{table}
 
 -- ---- names

@@ -2,3 +2,4 @@ pub mod Statements
 pub mod TableLaw
 pub mod TableNeeds
 pub mod OverTables
+pub mod Clean

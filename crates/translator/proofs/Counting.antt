@@ -19,7 +19,7 @@ use Rattle.language.specs.Programs.{Row, Block, Func, noBlock, rowsAt, rowsOf, 
 use Rattle.language.specs.Checking.{goesTo, predecessors}
 use Rattle.language.specs.Running.{phisOf}
 use Rattle.language.specs.Translating.{keptOf, phiBlocks, phisBefore, pairsBefore, phiCount, pairCount, sizeOfEdges, translatedRegisters, translatedBlocks, translatedRows, translationFits}
-use Rattle.theorems.proofs.Clean.{Clean}
+use Rattle.theorems.specs.Clean.{Clean}
 use Rattle.theorems.proofs.SimulationRows.{phisAt, rows-split}
 use Rattle.rules.specs.Prepared.{leadingPhis, rankOf}
 use Rattle.translator.proofs.Running.{sum-take-suc, sum-below-suc, rank-below, leading-keep}

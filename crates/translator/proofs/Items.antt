@@ -22,7 +22,7 @@ use Rattle.language.specs.Running.{phisOf, phiTarget, entryAt}
 use Rattle.language.specs.Table.{registerCount, registerType, registerName, blockCount, blockFirst, blockRows, blockName, rowCount, rowsBefore, rowOp, rowTarget, phiFirst, phiCount, phiEntry, rowEntries, entriesBefore}
 use Rattle.language.specs.Table.{decodeAs, decodeRow, decodeRegister, decodeBlock, decodeFunction}
 use Rattle.language.specs.Translating.{keptOf, phisBefore, pairsBefore, newRegister, retarget, edgeRows, copyRow, keptBlock, registerFor, translation, phiCount as phiTotal}
-use Rattle.theorems.proofs.Clean.{Clean}
+use Rattle.theorems.specs.Clean.{Clean}
 use Rattle.theorems.proofs.TableView.{register-count, register-is, type-is, block-count, block-is, block-rows-count, block-row-is, block-first-is, phi-first-is}
 use Rattle.theorems.proofs.SimulationBlocks.{kept-block, kept-rows, edge-block, edge-rows}
 use Rattle.theorems.proofs.SimulationRows.{phisAt, phiOf, keptAt, keptRow, rowOf, phi-at, kept-at, phi-is, rows-count, phi-target}

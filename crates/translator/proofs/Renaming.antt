@@ -17,7 +17,7 @@ use Rattle.language.specs.Checking.{goesTo, predecessors, lastRow, inRange}
 use Rattle.language.specs.Table.{eightBytes, rowCells, rowOp, jumpFirst, jumpSecond, blockCount, blockRows, blockFirst, decodeAs, decodeRow, decodeFunction}
 use Rattle.language.specs.Translating.{pairsBefore, edgeOf, retargeted, retarget, translation}
 use Rattle.instructions.specs.Shapes.{shapeOf}
-use Rattle.theorems.proofs.Clean.{Clean}
+use Rattle.theorems.specs.Clean.{Clean}
 use Rattle.theorems.proofs.TableView.{block-count, block-rows-count, block-row-is}
 use Rattle.theorems.proofs.SimulationRows.{phisAt, rowOf, in-range, last-row, named-known, first-lt, second-lt}
 use Rattle.theorems.proofs.AcceptanceNumbers.{retargeted-lt}

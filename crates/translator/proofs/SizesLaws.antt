@@ -17,7 +17,7 @@ use Rattle.language.specs.Programs.{Func, rowsAt, rowsOf, firstRow, hasPhi}
 use Rattle.language.specs.Checking.{predecessors}
 use Rattle.language.specs.Table.{registerCount, blockCount, blockRows, decodeFunction}
 use Rattle.language.specs.Translating.{phisBefore, pairsBefore, phiCount, pairCount, sizeOfEdges, translatedRegisters, translatedBlocks, translatedRows, translationFits}
-use Rattle.theorems.proofs.Clean.{Clean}
+use Rattle.theorems.specs.Clean.{Clean}
 use Rattle.theorems.proofs.SimulationRows.{phisAt}
 use Rattle.theorems.proofs.TableView.{register-count, block-count, block-rows-count}
 use Rattle.rules.specs.Prepared.{Sized, Prepared}

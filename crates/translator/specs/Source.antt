@@ -11,7 +11,7 @@ use Rattle.language.specs.Table.{rowOp, rowTarget, rowLeft, rowRight, loadNumbe
 use Rattle.language.specs.Table.{functionResult, functionParams, functionEntry, functionName, blockCount, blockFirst, blockRows, decodeFunction}
 use Rattle.language.specs.Translating.{pairsBefore, newRegister, translation, translationFits}
 use Rattle.instructions.specs.Shapes.{shapeOf}
-use Rattle.theorems.proofs.Clean.{Clean}
+use Rattle.theorems.specs.Clean.{Clean}
 use Rattle.rules.specs.Prepared.{Sized}
 use Rattle.translator.specs.Filling.{filled}
 

@@ -3,7 +3,7 @@ ghost use mathlib.Core.Path.{_≡_};
 ghost use lib.ListN.{length};
 ghost use Rattle.language.specs.Table.{decodeFunction};
 ghost use Rattle.language.specs.Translating.{translationFits};
-ghost use Rattle.theorems.proofs.Clean.{Clean};
+ghost use Rattle.theorems.specs.Clean.{Clean};
 ghost use Rattle.rules.specs.Prepared.{Sized, Prepared};
 ghost use Rattle.translator.specs.Sizes.{sizesOf};
 ghost use Rattle.translator.specs.Source.{Translatable, Planned};
