@@ -1,7 +1,7 @@
 //! The verified library against the plain Rust implementation: same machine, same input, both built for release, one run. Calls of the
-//! two alternate, and figures are medians, so that a machine with other work slows both alike. Every call is lent the table that the last one
-//! left: each `read` clears it itself, and so is timed with it.
-use std::time::Instant;
+//! two alternate, figures are medians, and time is the processor time of the thread: on the wall a call of milliseconds that is interrupted
+//! counts the other work too, and the longer side is interrupted more often. Every call is lent the table that the last one left: each
+//! `read` clears it itself, and so is timed with it.
 
 #[repr(C)]
 struct Answer {
@@ -130,10 +130,27 @@ fn median(mut times: Vec<f64>) -> f64 {
     times[times.len() / 2]
 }
 
+#[repr(C)]
+struct Time {
+    seconds: i64,
+    nanoseconds: i64,
+}
+
+extern "C" {
+    fn clock_gettime(clock: i32, time: *mut Time) -> i32;
+}
+
+/// CLOCK_THREAD_CPUTIME_ID of Linux, in nanoseconds.
+fn thread_time() -> f64 {
+    let mut time = Time { seconds: 0, nanoseconds: 0 };
+    assert_eq!(unsafe { clock_gettime(3, &mut time) }, 0);
+    time.seconds as f64 * 1e9 + time.nanoseconds as f64
+}
+
 fn nanoseconds(work: &mut impl FnMut()) -> f64 {
-    let start = Instant::now();
+    let start = thread_time();
     work();
-    start.elapsed().as_nanos() as f64
+    thread_time() - start
 }
 
 /// The medians of so many rounds, each a call of one side and then of the other; the ratio is the median of the rounds' own.
