@@ -1,12 +1,12 @@
 -- Arguments that lie in their parameters' ranges, and the numbers that the registers hold of them. Assumes nothing.
-use mathlib.Core.Path.{_≡_, refl, sym, ap, subst⁻¹, _∙_}
-use mathlib.Core.Bool.{Bool, true, false}
+use mathlib.Core.Path.{_≡_, refl, sym, ap, _∙_}
+use mathlib.Core.Bool.{false}
 use mathlib.Core.List.{List, map}
 use Prim.Native.Nat.{ℕ, _+_, _≤_, _<_}
 use native.Mathlib.Nat.{not-suc-le-zero, zero-add}
 use native.Mathlib.Decide.{ℕ-discrete}
 use native.Mathlib.Omega.{arith}
-use lib.Dec.{eqb, ltb}
+use lib.Dec.{eqb}
 use lib.ListN.{length, getD, set, take, length-map}
 use lib.Seq.{ext-getD, getD-take, length-take-le}
 use borrow.Author.Tests.{lt-ltb, le-ltb}
@@ -15,7 +15,7 @@ use Rattle.laws.proofs.Positions.{position-below}
 use Rattle.laws.proofs.Searching.{getD-range}
 use Rattle.laws.proofs.Indexing.{length-below}
 use Rattle.laws.proofs.OneMore.{fill-more}
-use Rattle.language.specs.Programs.{Func, typeAt}
+use Rattle.language.specs.Programs.{Func}
 use Rattle.language.specs.Table.{registerCount, registerType, decodeFunction}
 use Rattle.theorems.proofs.TableView.{type-is}
 use Rattle.decimal.specs.Meanings.{bitsIn}

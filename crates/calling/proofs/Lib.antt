@@ -4,3 +4,5 @@ pub mod AnswerLaws
 pub mod CallLaws
 pub mod TextLaws
 pub mod TranslationLaws
+pub mod Examples
+pub mod Promise

@@ -5,11 +5,11 @@ use Prim.Native.Nat.{ℕ}
 use lib.ListN.{length}
 use Rattle.laws.specs.Sections.{Bytes}
 use Rattle.language.specs.Programs.{Program}
-use Rattle.language.specs.Reading.{Reading, read}
+use Rattle.language.specs.Reading.{read}
 use Rattle.language.specs.Checking.{Verdict, check}
 use Rattle.language.specs.Table.{tableLength, decode}
 use Rattle.language.specs.Listing.{refusedLine}
-use Rattle.language.specs.Answers.{ifAccepted, checkAnswer, readAnswer}
+use Rattle.language.specs.Answers.{checkAnswer, readAnswer}
 use Rattle.checker.specs.declared.Verdict.{Verdict as Verdictᶜ}
 use Rattle.checker.specs.declared.Verdict.the-variants as verdicts
 use Rattle.checker.specs.Verdicts.{verdictOf}

@@ -4,18 +4,16 @@ use mathlib.Core.Bool.{Bool, true, false}
 use mathlib.Core.List.{List}
 use Prim.Native.Nat.{ℕ, _+_, _*_, _<_}
 use native.Mathlib.Omega.{arith}
-use lib.Dec.{eqb}
 use lib.ListN.{length, getD}
 use borrow.Author.Tests.{eq-eqb, ne-eqb}
 use Rattle.laws.specs.Lists.{same, position, below}
 use Rattle.laws.proofs.Positions.{position-of}
 use Rattle.language.specs.Programs.{Func, noFunction}
-use Rattle.language.specs.Table.{functionAt, functionCount, functionName, nameAt, decodeFunction, decode}
+use Rattle.language.specs.Table.{functionAt, functionCount, nameAt, decodeFunction, decode}
 use Rattle.theorems.proofs.TableView.{function-count, function-is}
 use Rattle.table.specs.Named.{isNamed, firstNamed}
 use Rattle.decimal.specs.declared.words.Decimal.{Decimal}
 use Rattle.decimal.specs.declared.words.Decimal.the-variants as decimals
-use Rattle.calling.specs.declared.words.Budget.{Budget}
 use Rattle.calling.specs.declared.words.Budget.the-variants as budgets
 use Rattle.calling.specs.Words.{most, functionNamed, budgetFrom}
 

@@ -3,7 +3,7 @@
 use mathlib.Core.List.{List, [], _∷_, _++_}
 use Prim.Native.Nat.{ℕ, suc, _^_, _%_}
 use lib.IntN.{ℤ, pos, negsuc}
-use Rattle.language.specs.Bytes.{bytesOf, lineFeed, minus}
+use Rattle.language.specs.Bytes.{bytesOf, minus}
 use Rattle.language.specs.Instructions.{width}
 use Rattle.language.specs.Arithmetic.{meaning}
 use Rattle.language.specs.Answers.{Ran}

@@ -1,6 +1,5 @@
 -- `kept_bits`: the bits of a sign and a magnitude below 2^64.
 use borrow.Author.Needs.{needs}
-use native.Mathlib.Omega.{arith}
 use Rattle.calling.proofs.ArgumentLaws.{kept-within, kept-beyond}
 use Rattle.calling.proofs.arguments.kept_bits.Statement.{statement}
 use Rattle.calling.proofs.arguments.kept_bits.Tie as tie

@@ -1,5 +1,5 @@
 -- `result_of`: the cell of a function that is there.
-use Prim.Native.Nat.{_≤_, _<_}
+use Prim.Native.Nat.{_<_}
 use native.Mathlib.Omega.{arith}
 use borrow.Author.Needs.{needs}
 use Rattle.language.specs.Table.{functionCount}

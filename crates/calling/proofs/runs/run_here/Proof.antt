@@ -1,5 +1,4 @@
 -- `run_here`: the run's answer with 256 registers.
-use mathlib.Core.Path.{refl}
 use Prim.Native.Nat.{ℕ}
 use lib.ListN.{length-replicate}
 use borrow.Author.Needs.{needs}

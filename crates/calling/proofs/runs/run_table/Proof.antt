@@ -1,7 +1,6 @@
 -- `run_table`: the refusal of the check, or the line of the run.
 use native.Mathlib.Omega.{arith}
 use borrow.Author.Needs.{needs}
-use Rattle.language.specs.Table.{decode}
 use Rattle.calling.specs.Calls.{givenOf, runLine}
 use Rattle.calling.proofs.TextLaws.{line-refused, line-accepted, accepted-table}
 use Rattle.calling.proofs.runs.run_table.Statement.{statement}

@@ -1,8 +1,7 @@
 -- `translate_table`: the refusal of the check, or the line of the function that the word means.
-use mathlib.Core.Path.{_≡_, sym}
+use mathlib.Core.Path.{sym}
 use native.Mathlib.Omega.{arith}
 use borrow.Author.Needs.{needs}
-use Rattle.language.specs.Table.{decode}
 use Rattle.calling.specs.Calls.{translateLine}
 use Rattle.calling.proofs.TextLaws.{line-refused, line-accepted, accepted-table}
 use Rattle.calling.proofs.translations.translate_table.Statement.{statement}

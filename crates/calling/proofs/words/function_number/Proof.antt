@@ -1,5 +1,4 @@
 -- `function_number`: the word's number, or the function that it names.
-use mathlib.Core.Path.{_≡_}
 use borrow.Author.Needs.{needs}
 use Rattle.calling.specs.Words.{functionNumber}
 use Rattle.calling.proofs.words.function_number.Statement.{statement}

@@ -1,0 +1,78 @@
+-- Calls of document 01's whole function and of smaller words, by computation: what a must-fail edit of these definitions runs into.
+-- Assumes nothing.
+use mathlib.Core.Path.{_≡_, refl, ap, _∙_}
+use mathlib.Core.List.{[], _∷_}
+use Prim.Native.Nat.{ℕ}
+use Rattle.language.specs.Bytes.{bytesOf}
+use Rattle.language.specs.Reading.{inRange, bitsOf}
+use Rattle.language.specs.Answers.{Ran, placeOf, refusedRun, runFunction}
+use Rattle.language.specs.Listing.{digits, line, refusedLine}
+use Rattle.language.proofs.Computing.{computing}
+use Rattle.language.proofs.ReadingFacts.{turnText, turn, turn-reads}
+use Rattle.language.proofs.WholeFunction.{turned-listed}
+use Rattle.decimal.specs.Meanings.{bitsIn}
+use Rattle.decimal.specs.Numbers.{isDigit, decimalFrom, unsigned, numberOf}
+use Rattle.calling.specs.declared.words.Budget.the-variants as budgets
+use Rattle.calling.specs.Words.{functionNamed, functionNumber, budgetOf, keptBits}
+use Rattle.calling.specs.Lines.{valueOf}
+use Rattle.calling.specs.Calls.{Given, givenOf, firstOutside, argumentsOf, callFunction, runLine, translatedLine, translateLine, readLine, runPrinted, translatePrinted}
+
+unfoldable calling : Unit {0}
+unfolding computing inRange bitsOf placeOf refusedRun runFunction digits line refusedLine bitsIn isDigit decimalFrom unsigned numberOf functionNamed functionNumber budgetOf keptBits valueOf firstOutside argumentsOf callFunction runLine translatedLine translateLine
+calling = tt
+
+-- ---- words
+
+functions : functionNumber (turn ∷ []) (bytesOf "turn") ∷ functionNumber (turn ∷ []) (bytesOf "007") ∷ functionNumber (turn ∷ []) (bytesOf "-0") ∷ functionNumber (turn ∷ []) (bytesOf "tur") ∷ [] ≡ 0 ∷ 7 ∷ 1 ∷ 1 ∷ []
+unfolding calling turn
+functions = refl
+
+large-number : functionNumber (turn ∷ []) (bytesOf "18446744073709551616") ≡ 18446744073709551615
+unfolding calling turn
+large-number = refl
+
+budgets-said : budgetOf (bytesOf "12") ∷ budgetOf (bytesOf "-0") ∷ budgetOf (bytesOf "-1") ∷ budgetOf (bytesOf "1x") ∷ budgetOf [] ∷ [] ≡ budgets.Steps 12 ∷ budgets.Steps 0 ∷ budgets.Wrong ∷ budgets.Wrong ∷ budgets.Wrong ∷ []
+unfolding calling
+budgets-said = refl
+
+-- P4: int8 100 + 100 = -56
+least-values : valueOf 0 200 ∷ valueOf 0 128 ∷ valueOf 4 200 ∷ [] ≡ bytesOf "-56" ∷ bytesOf "-128" ∷ bytesOf "200" ∷ []
+unfolding calling
+least-values = refl
+
+-- ---- calls
+
+-- turn(7, 9, n)
+abbrev numbers : ℕ → Given
+numbers n = givenOf 3 (0 ∷ 0 ∷ 0 ∷ []) (7 ∷ 9 ∷ n ∷ [])
+
+-- 21 before the count, the count before the arguments, the first argument of two that lie outside.
+refusals :
+    callFunction (turn ∷ []) 1 (givenOf 0 [] []) 9
+    ∷ callFunction (turn ∷ []) 0 (givenOf 2 (1 ∷ 0 ∷ []) (7 ∷ 9 ∷ [])) 9
+    ∷ callFunction (turn ∷ []) 0 (givenOf 3 (0 ∷ 1 ∷ 0 ∷ []) (7 ∷ 9 ∷ 256 ∷ [])) 9
+    ∷ callFunction (turn ∷ []) 0 (givenOf 3 (0 ∷ 0 ∷ 2 ∷ []) (7 ∷ 9 ∷ 0 ∷ [])) 9
+    ∷ []
+    ≡ Ran.refused 21 0 ∷ Ran.refused 20 2 ∷ Ran.refused 20 1 ∷ Ran.refused 20 2 ∷ []
+unfolding calling turn
+refusals = refl
+
+-- P1 to P3, and a budget of one step less.
+runs :
+    runLine (turn ∷ []) (bytesOf "turn") (numbers 0) 9
+    ∷ runLine (turn ∷ []) (bytesOf "0") (numbers 1) 16
+    ∷ runLine (turn ∷ []) (bytesOf "turn") (numbers 2) 23
+    ∷ runLine (turn ∷ []) (bytesOf "turn") (numbers 2) 22
+    ∷ []
+    ≡ bytesOf "returned\t7\t9\n" ∷ bytesOf "returned\t9\t16\n" ∷ bytesOf "returned\t7\t23\n" ∷ bytesOf "stopped\t43\t10\t22\n" ∷ []
+unfolding calling turn
+runs = refl
+
+-- From the text: "Translated: 13, 6, 22."
+printed-run : runPrinted turnText (bytesOf "turn") (numbers 0) 9 ≡ bytesOf "returned\t7\t9\n"
+unfolding runPrinted calling turn
+printed-run = ap (readLine (λ p. runLine p (bytesOf "turn") (numbers 0) 9)) turn-reads
+
+printed-translation : translatePrinted turnText (bytesOf "turn") ≡ bytesOf "turn\t0\t13\t6\t22\n"
+unfolding translatePrinted calling turn
+printed-translation = ap (readLine (λ p. translateLine p (bytesOf "turn"))) turn-reads ∙ turned-listed
