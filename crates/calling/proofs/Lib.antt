@@ -1,3 +1,4 @@
+pub mod Printing
 pub mod WordLaws
 pub mod ArgumentLaws
 pub mod AnswerLaws

@@ -14,7 +14,7 @@ use Rattle.checker.specs.declared.Verdict.{Verdict as Verdictᶜ}
 use Rattle.checker.specs.declared.Verdict.the-variants as verdicts
 use Rattle.checker.specs.Verdicts.{verdictOf}
 use Rattle.ial.specs.Verdicts.{filledOf}
-use Rattle.listing.proofs.Printing.{table-check, read-refused, read-accepted}
+use Rattle.calling.proofs.Printing.{table-check, read-refused, read-accepted}
 use Rattle.calling.specs.Calls.{checkedLine, readLine}
 
 module _ (line : Program → List ℕ) where

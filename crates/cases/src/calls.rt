@@ -10,7 +10,7 @@ use crate::records::numbers;
 use crate::records::part;
 use crate::tables::compare;
 use crate::tables::poison;
-use listing::list_text;
+use calling::list_text;
 
 // The registers that are lent, more than a function may have.
 const CELLS: usize = 300;

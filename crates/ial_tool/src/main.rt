@@ -7,6 +7,7 @@ mod files;
 
 use calling::Budget;
 use calling::keep_argument;
+use calling::list_text;
 use calling::read_budget;
 use calling::run_text;
 use calling::translate_text;
@@ -16,7 +17,6 @@ use files::say_budget;
 use files::say_wrong;
 use files::upto;
 use libc::STDOUT_FILENO;
-use listing::list_text;
 use table::same;
 
 // Room for the lines of 16 functions.

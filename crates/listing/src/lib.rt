@@ -12,9 +12,6 @@ ghost use Rattle.language.specs.Table.{functionSsa, decodeFunction, decode};
 ghost use Rattle.theorems.specs.TableLaw.{FunctionFits};
 ghost use Rattle.decimal.specs.Writing.{Written};
 ghost use Rattle.listing.specs.Lines.{sizesOf};
-
-mod texts;
-
 use decimal::put_digits;
 use table::block_count;
 use table::block_first;
@@ -24,7 +21,6 @@ use table::function_name;
 use table::function_ssa;
 use table::put_bytes;
 use table::register_count;
-pub use texts::list_text;
 
 const TAB: u8 = 9;
 

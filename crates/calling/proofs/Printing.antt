@@ -29,9 +29,6 @@ module _ (t : List ℕ) where
   pub judged-accepted : {v : Verdictᶜ} → verdictOf v ≡ checkAnswer t → v ≡ verdicts.Accepted → judged (decode t) (checkAnswer t) ≡ listingOf (decode t)
   judged-accepted e r = rw (sym e, r) refl
 
-  pub accepted-answer : {v : Verdictᶜ} → verdictOf v ≡ checkAnswer t → v ≡ verdicts.Accepted → checkAnswer t ≡ Verdict.accepted
-  accepted-answer e r = sym e ∙ ap verdictOf r
-
 -- The check of a table of the right length is its program's.
 pub table-check : (t : List ℕ) → length t ≡ tableLength → checkAnswer t ≡ check (decode t)
 unfolding checkAnswer

@@ -6,11 +6,11 @@ ghost use Rattle.language.specs.Answers.{checkAnswer};
 ghost use Rattle.language.specs.Listing.{judged, listing as listingOfText};
 ghost use Rattle.language.specs.Table.{decode};
 ghost use Rattle.decimal.specs.Writing.{Written};
-use crate::list_program;
-use crate::list_refusal;
 use ial::Verdict;
 use ial::check;
 use ial::read;
+use listing::list_program;
+use listing::list_refusal;
 
 const TABLE: usize = 555153;
 

@@ -1,9 +1,9 @@
 -- `list_text`: the refusal of reading, or what is printed of the table.
 use native.Mathlib.Omega.{arith}
 use borrow.Author.Needs.{needs}
-use Rattle.listing.proofs.Printing.{bytes-from, listing-refused, listing-read}
-use Rattle.listing.proofs.texts.list_text.Statement.{statement}
-use Rattle.listing.proofs.texts.list_text.Tie as tie
+use Rattle.calling.proofs.Printing.{bytes-from, listing-refused, listing-read}
+use Rattle.calling.proofs.listings.list_text.Statement.{statement}
+use Rattle.calling.proofs.listings.list_text.Tie as tie
 
 slice-aggregate-read : tie.Need-slice-aggregate-read
 slice-aggregate-read c = search needs

@@ -2,9 +2,10 @@
 use native.Mathlib.Omega.{arith}
 use borrow.Author.Needs.{needs}
 use Rattle.theorems.proofs.OverTables.{accepted-program}
-use Rattle.listing.proofs.Printing.{judged-refused, judged-accepted, accepted-answer}
-use Rattle.listing.proofs.texts.list_table.Statement.{statement}
-use Rattle.listing.proofs.texts.list_table.Tie as tie
+use Rattle.calling.proofs.Printing.{judged-refused, judged-accepted}
+use Rattle.calling.proofs.TextLaws.{accepted-table}
+use Rattle.calling.proofs.listings.list_table.Statement.{statement}
+use Rattle.calling.proofs.listings.list_table.Tie as tie
 
 check-requires : tie.Need-check-requires
 check-requires c κs = search needs
@@ -22,7 +23,7 @@ list-program-requires : tie.Need-list-program-requires
 list-program-requires c κs =
     let s = c .before .before .before .before .before .before in (
       s .pre .0,
-      accepted-program (s .args .t .now) (accepted-answer (s .args .t .now) (c .before .before .before .check .ensures) (c .before .enum-told .given .1)),
+      accepted-program (s .args .t .now) (accepted-table (s .args .t .now) (c .before .before .before .check .ensures) (c .before .enum-told .given .1)),
       s .pre .1,
     )
 
