@@ -1,72 +1,67 @@
--- Demand 3 for the entry points themselves: a call is known here by what its contract says of it, and by nothing else.
+-- Demand 3 for the entry points themselves: a call is known here by what its contract says of it, and by nothing else. Its words are those of
+-- `theorems`' Demand3 and OverTables.
 -- Assumes nothing.
 use mathlib.Core.Path.{_≡_}
 use mathlib.Core.List.{List}
-use Prim.Native.Nat.{ℕ, _*_, _≤_}
+use Prim.Native.Nat.{ℕ, _≤_}
+use lib.Dec.{T}
 use lib.ListN.{length}
 use Rattle.language.specs.Table.{tableLength}
-use Rattle.language.specs.Running.{Outcome, Ends, NotEnded}
-use Rattle.language.specs.Translating.{stepFormula}
-use Rattle.theorems.specs.OverTables.{functionOf, Translatable, TranslatedTable}
+use Rattle.language.specs.Checking.{Verdict as Verdictᴸ}
+use Rattle.language.specs.Running.{argumentsFit}
+use Rattle.language.specs.Answers.{Answer as Answerᴸ, verdictNumbers, ranNumbers}
+use Rattle.theorems.specs.OverTables.{functionOf, TranslatableIn, Translated, RunsAgree}
 use Rattle.checker.specs.declared.Verdict.{Verdict}
 use Rattle.checker.specs.declared.Verdict.the-variants as verdicts
 use Rattle.ial.specs.declared.running.Ran.{Ran}
-use Rattle.ial.specs.declared.running.Ran.the-variants as rans
-use Rattle.ial.specs.Calls.{CheckCalled, RunCalled, TranslateCalled}
+use Rattle.ial.specs.declared.c.Answer.{Answer}
+use Rattle.ial.specs.Numbers.{answerOf}
+use Rattle.ial.specs.Verdicts.{filledOf}
+use Rattle.ial.specs.Runs.{ranOf}
+use Rattle.ial.specs.Calls.{CheckCalled, RunCalled, TranslateCalled, CheckLinked, RunLinked, TranslateLinked}
 
--- Two answers "with the same outcome" o: the same returned value, no value, or the same stop, after n steps and after m.
-pub data Alike (n m : ℕ) : Outcome → Ran → Ran → Type 0 where
-  returned : (v : ℕ) → Alike n m (Outcome.returned v) (rans.Returned v n) (rans.Returned v m)
-  left : Alike n m Outcome.left (rans.Left n) (rans.Left m)
-  stopped : (k p q : ℕ) → Alike n m (Outcome.stopped k) (rans.Stopped k p n) (rans.Stopped k q m)
-
--- An answer that says no more than that the budget was used up: "43".
-abbrev pub UsedUp : ℕ → Ran → Type 0
-UsedUp b x = (p : ℕ) × (x ≡ rans.Stopped 43 p b)
-
--- What calls of `run` on the source with budget b and on its translation with three times as much or more answer: either the source ends within
--- its budget and both answers are alike, "after exactly the steps of document 01's formula, at least n and at most 3n", or it has not ended. (What the
--- translation answers then depends on its budget; `neither` below says it for the same one.)
-pub data Compared (t : List ℕ) (i : ℕ) (args : List ℕ) (b : ℕ) (x y : Ran) : Type 0 where
-  ended :
-      (n m : ℕ) (o : Outcome)
-      → Ends (functionOf t i) args n o
-      → n ≤ b
-      → m ≡ stepFormula (functionOf t i) args n
-      → n ≤ m
-      → m ≤ 3 * n
-      → Alike n m o x y
-      → Compared t i args b x y
-  going : NotEnded (functionOf t i) args b → UsedUp b x → Compared t i args b x y
-
--- What holds of a call of `translate` that demand 3 speaks of, and of every call of `check` and `run` on its output.
-pub record Demand3Called (t : List ℕ) (i : ℕ) (args : List ℕ) (r : Verdict) (out : List ℕ) : Type 0 where
-  -- it does not refuse, and "translates to document 01's translation"
+-- What holds of a call of `translate` that demand 3 speaks of, and of every call of `check` and `run` on its output: runs on arguments that fit,
+-- with c and c′ lent registers that suffice, under any budgets b and b′.
+pub record Demand3Called (t : List ℕ) (i : ℕ) (r : Verdict) (out : List ℕ) : Type 0 where
   pub done : r ≡ verdicts.Accepted
-  pub table : TranslatedTable t i args out
+  pub translated : Translated t i (filledOf r out)
   pub checked : (v : Verdict) → CheckCalled out v → v ≡ verdicts.Accepted
-  -- "ending exactly if the source does, with the same outcome": runs with c and c′ lent registers, under budgets that suffice
-  pub compared :
-      (b b′ c c′ : ℕ) (x y : Ran) (g h : List ℕ)
+  pub runs :
+      (args : List ℕ) (b b′ c c′ : ℕ) (x y : Ran) (g h : List ℕ)
+      → T (argumentsFit (functionOf t i) args)
       → RunCalled t i args b c x g
       → RunCalled out 0 args b′ c′ y h
       → length (functionOf t i .registers) ≤ c
       → length (functionOf out 0 .registers) ≤ c′
-      → 3 * b ≤ b′
-      → Compared t i args b x y
-  -- "not ended after n if the source has not"
-  pub neither :
-      (n c c′ : ℕ) (x y : Ran) (g h : List ℕ)
-      → RunCalled t i args n c x g
-      → RunCalled out 0 args n c′ y h
-      → length (functionOf t i .registers) ≤ c
-      → length (functionOf out 0 .registers) ≤ c′
-      → NotEnded (functionOf t i) args n
-      → UsedUp n x × UsedUp n y
+      → RunsAgree (λ a. a) (functionOf t i) args b b′ (ranOf x) (ranOf y)
 
 abbrev pub Demand3OfCalls : Type 0
 Demand3OfCalls =
-    (t : List ℕ) (i : ℕ) (args : List ℕ) (r : Verdict) (out : List ℕ)
-    → Translatable t i args
+    (t : List ℕ) (i : ℕ) (r : Verdict) (out : List ℕ)
+    → TranslatableIn t i
     → TranslateCalled t i tableLength r out
-    → Demand3Called t i args r out
+    → Demand3Called t i r out
+
+-- The same of `ial_translate`, `ial_check` and `ial_run`, by their four numbers; all four are 0 where nothing is refused.
+abbrev pub noRefusal : Answerᴸ
+noRefusal = verdictNumbers Verdictᴸ.accepted
+
+pub record Demand3Linked (t : List ℕ) (i : ℕ) (r : Answer) (out : List ℕ) : Type 0 where
+  pub done : answerOf r ≡ noRefusal
+  pub translated : Translated t i (record { answer = Verdictᴸ.accepted; table = out })
+  pub checked : (v : Answer) → CheckLinked out v → answerOf v ≡ noRefusal
+  pub runs :
+      (args : List ℕ) (b b′ c c′ : ℕ) (x y : Answer) (g h : List ℕ)
+      → T (argumentsFit (functionOf t i) args)
+      → RunLinked t i args b c x g
+      → RunLinked out 0 args b′ c′ y h
+      → length (functionOf t i .registers) ≤ c
+      → length (functionOf out 0 .registers) ≤ c′
+      → RunsAgree ranNumbers (functionOf t i) args b b′ (answerOf x) (answerOf y)
+
+abbrev pub Demand3OfSymbols : Type 0
+Demand3OfSymbols =
+    (t : List ℕ) (i : ℕ) (r : Answer) (out : List ℕ)
+    → TranslatableIn t i
+    → TranslateLinked t i tableLength r out
+    → Demand3Linked t i r out

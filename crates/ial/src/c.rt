@@ -7,10 +7,11 @@ use crate::run;
 use crate::translate;
 ghost use mathlib.Core.Path.{_≡_};
 ghost use lib.ListN.{length};
-ghost use Rattle.language.specs.Answers.{readAnswer, checkAnswer, runAnswer, translateAnswer, verdictNumbers, ranNumbers};
+ghost use Rattle.language.specs.Answers.{verdictNumbers, ranNumbers};
 ghost use Rattle.checker.specs.Verdicts.{verdictOf};
 ghost use Rattle.ial.specs.Numbers.{answerOf};
 ghost use Rattle.ial.specs.Runs.{ranOf};
+ghost use Rattle.ial.specs.Calls.{ReadLinked, CheckLinked, RunLinked, TranslateLinked};
 
 // "Unstated numbers of an answer are 0."
 #[repr(C)]
@@ -44,8 +45,7 @@ fn numbers(v: Verdict) -> Answer
 // Reads a text into a lent table: 1 to 8, and 22 last. After a refusal the table is all zero.
 #[no_mangle]
 pub extern "C" fn ial_read(text: &[u8], out: &mut [u8]) -> Answer
-    ensures { λ r. ⌜ answerOf r ≡ verdictNumbers (readAnswer (now (text .entry)) (length (now (out .entry))) .answer) ⌝ }
-    ensures { λ r. ⌜ now (out .exit) ≡ readAnswer (now (text .entry)) (length (now (out .entry))) .table ⌝ }
+    ensures { λ r. ⌜ ReadLinked (now (text .entry)) (length (now (out .entry))) r (now (out .exit)) ⌝ }
 {
     numbers(read(text, out))
 }
@@ -53,7 +53,7 @@ pub extern "C" fn ial_read(text: &[u8], out: &mut [u8]) -> Answer
 // Checks a lent table: all four numbers are 0 exactly if none of 9 to 17 holds.
 #[no_mangle]
 pub extern "C" fn ial_check(table: &[u8]) -> Answer
-    ensures { λ r. ⌜ answerOf r ≡ verdictNumbers (checkAnswer (now (table .entry))) ⌝ }
+    ensures { λ r. ⌜ CheckLinked (now (table .entry)) r ⌝ }
 {
     numbers(check(table))
 }
@@ -100,8 +100,7 @@ pub extern "C" fn ial_run(
     budget: u64,
     registers: &mut [u64],
 ) -> Answer
-    ensures { λ r. ⌜ answerOf r ≡ ranNumbers (runAnswer (now (table .entry)) function (now (arguments .entry)) budget (length (now (registers .entry))) .answer) ⌝ }
-    ensures { λ r. ⌜ now (registers .exit) ≡ runAnswer (now (table .entry)) function (now (arguments .entry)) budget (length (now (registers .entry))) .registers ⌝ }
+    ensures { λ r. ⌜ RunLinked (now (table .entry)) function (now (arguments .entry)) budget (length (now (registers .entry))) r (now (registers .exit)) ⌝ }
 {
     run_numbers(run(table, function, arguments, budget, registers))
 }
@@ -110,8 +109,7 @@ pub extern "C" fn ial_run(
 // output is all zero.
 #[no_mangle]
 pub extern "C" fn ial_translate(table: &[u8], function: u64, out: &mut [u8]) -> Answer
-    ensures { λ r. ⌜ answerOf r ≡ verdictNumbers (translateAnswer (now (table .entry)) function (length (now (out .entry))) .answer) ⌝ }
-    ensures { λ r. ⌜ now (out .exit) ≡ translateAnswer (now (table .entry)) function (length (now (out .entry))) .table ⌝ }
+    ensures { λ r. ⌜ TranslateLinked (now (table .entry)) function (length (now (out .entry))) r (now (out .exit)) ⌝ }
 {
     numbers(translate(table, function, out))
 }

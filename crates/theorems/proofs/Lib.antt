@@ -22,6 +22,7 @@ pub mod SimulationRelation
 pub mod SimulationKept
 pub mod SimulationPhis
 pub mod Simulation
+pub mod StopNumbers
 pub mod Demand
 pub mod OverTables
 pub mod ReadMoves

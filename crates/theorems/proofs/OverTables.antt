@@ -1,32 +1,34 @@
 -- Demand 3 over tables as lent, and the answers of runs on source and translation.
 -- Assumes nothing.
 use mathlib.Core.Path.{_≡_, refl, sym, ap, subst, subst⁻¹, _∙_}
-use mathlib.Core.Bool.{Bool, true, cond}
+use mathlib.Core.Bool.{Bool, cond}
 use mathlib.Core.List.{List, [], _∷_, _++_, map}
-use Prim.Native.Nat.{ℕ, zero, suc, _+_, _*_, _^_, _≤_, _<_}
+use Prim.Native.Nat.{ℕ, _^_, _≤_, _<_}
 use native.Mathlib.Nat.{not-suc-le-zero, le-of-suc-le-suc}
 use native.Mathlib.Omega.{arith}
-use lib.Dec.{T, eqb, leb, ltb, eqb→eq}
+use lib.Dec.{T, eqb, ltb, eqb→eq}
 use lib.Ieee.Bits.{is-true}
-use lib.Ieee.Fits.{and-l, and-r, and-i}
+use lib.Ieee.Fits.{and-l, and-r}
 use lib.ListN.{length, getD}
 use borrow.Author.Tests.{eq-eqb, lt-ltb, le-ltb}
-use Rattle.laws.specs.Lists.{any, position, together}
+use Rattle.laws.specs.Lists.{together}
 use Rattle.language.specs.Instructions.{width}
-use Rattle.language.specs.Programs.{Func, Register, Program, noFunction, isSsa, isPhi, rowsOf}
-use Rattle.language.specs.Table.{tableLength, functionCount, cells, decode}
+use Rattle.language.specs.Programs.{Func, Program, noFunction, isSsa, rowsOf}
+use Rattle.language.specs.Table.{tableLength, cells, decode}
 use Rattle.language.specs.Checking.{Verdict, check}
-use Rattle.language.specs.Running.{Outcome, Ends, NotEnded, argumentsFit, firstUnfit, runOf, phisOf}
-use Rattle.language.specs.Answers.{Ran, Filled, checkAnswer, runAnswer, runFunction, translateAnswer, translateFunction, fill, ranAs}
+use Rattle.language.specs.Running.{Outcome, Ends, argumentsFit, firstUnfit, runOf, phisOf}
+use Rattle.language.specs.Answers.{Ran, checkAnswer, runAnswer, runFunction, translateAnswer, translateFunction, fill, ranAs}
 use Rattle.language.specs.Translating.{translation, translationFits, stepFormula, registerFor}
-use Rattle.theorems.specs.Statements.{Translates, ranOf}
+use Rattle.theorems.specs.Statements.{ranOf}
+use Rattle.theorems.specs.Demand3.{RunsAlike, Translates}
 use Rattle.theorems.specs.TableLaw.{Held}
-use Rattle.theorems.specs.OverTables.{functionOf, Translatable, TranslatedTable, Demand3OverTables, RunsAgree, RunsOverTables}
-use Rattle.theorems.proofs.AcceptanceCheck.{Sound, sound-parts, tested, clean-of-check}
+use Rattle.theorems.specs.OverTables.{functionOf, TranslatableIn, Translated, Demand3OverTables, EndedWith, UsedUp, EndsBoth, Compared, RunsAgree, RunsOverTables}
+use Rattle.theorems.proofs.AcceptanceCheck.{sound-parts, tested, clean-of-check}
 use Rattle.theorems.proofs.Demand.{demand3}
 use Rattle.theorems.proofs.Budgets.{budget-agrees}
 use Rattle.theorems.proofs.TableSound.{accepted-held}
-use Rattle.theorems.proofs.TableView.{function-count}
+use Rattle.theorems.proofs.SimulationRuns.{Stands, stands, ends-once, goes-before, going-less}
+use Rattle.theorems.proofs.StopNumbers.{no-end-is-43, run-of-43}
 
 -- A case whose test holds.
 first : {A : Type 0} (b : Bool) (x y : A) → T b → cond b x y ≡ x
@@ -40,15 +42,12 @@ module _ (t : List ℕ) (e : checkAnswer t ≡ Verdict.accepted) where
 
 -- ---- translating
 
-module _ (t : List ℕ) (i : ℕ) (args : List ℕ) (h : Translatable t i args) where
+module _ (t : List ℕ) (i : ℕ) (h : TranslatableIn t i) where
   abbrev source : Func
   source = functionOf t i
 
-  inside : i < length (decode t)
-  inside = subst⁻¹ (λ (n : ℕ). i < n) (function-count t) (h .there)
-
-  translates : Translates source args
-  translates = demand3 (decode t) i args (accepted-program t (h .passes)) inside (h .marked) (h .sized) (h .fitting)
+  translates : Translates source (translation source)
+  translates = demand3 (decode t) i (record { passes = accepted-program t (h .passes); there = h .there; marked = h .marked; sized = h .sized })
 
   held : Held (translation source ∷ [])
   held = accepted-held (translation source ∷ []) (translates .accepted)
@@ -56,7 +55,7 @@ module _ (t : List ℕ) (i : ℕ) (args : List ℕ) (h : Translatable t i args) 
   answered : translateAnswer t i tableLength ≡ record { answer = Verdict.accepted; table = cells (translation source ∷ []) }
   unfolding translateAnswer translateFunction fill
   answered =
-      rw (h .passes, lt-ltb i (length (decode t)) inside, is-true (isSsa source) (h .marked), is-true (translationFits source) (h .sized)) refl
+      rw (h .passes, lt-ltb i (length (decode t)) (h .there), is-true (isSsa source) (h .marked), is-true (translationFits source) (h .sized)) refl
 
   abbrev written : List ℕ
   written = cells (translation source ∷ [])
@@ -68,25 +67,18 @@ module _ (t : List ℕ) (i : ℕ) (args : List ℕ) (h : Translatable t i args) 
   unfolding checkAnswer
   passing = rw (eq-eqb (length written) tableLength (held .count), held .back) (translates .accepted)
 
-  translated-table : TranslatedTable t i args written
-  translated-table =
+  translated : Translated t i (record { answer = Verdict.accepted; table = written })
+  translated =
       record {
+        done = refl;
         written = refl;
-        holds = held .back;
-        noPhi = rw alone (translates .noPhi);
-        unmarked = rw alone (translates .unmarked);
-        accepted = passing;
-        ends = λ n o x. rw alone (translates .ends n o x);
-        onlyIf = λ m o x. translates .onlyIf m o (rw alone at x);
-        atLeast = translates .atLeast;
-        atMost = translates .atMost;
-        notEnded = λ n x. rw alone (translates .notEnded n x);
+        passes = passing;
+        holds = held .back ∙ ap (λ (g : Func). g ∷ []) (sym alone);
+        translates = rw alone translates;
       }
 
 pub demand3-over-tables : Demand3OverTables
-demand3-over-tables t i args h =
-    let e = answered t i args h in
-    (ap (λ (x : Filled). x .answer) e, rw e (translated-table t i args h))
+demand3-over-tables t i h = rw (answered t i h) (translated t i h)
 
 -- ---- runs
 
@@ -127,32 +119,106 @@ fits-translation f args l a =
     let n = eqb→eq (length args) (f .params) (and-l (eqb (length args) (f .params)) (eqb (firstUnfit f args) (length args)) a) in
     rw (together-prefix (λ r v. ltb v (2 ^ width (r .type))) (f .registers) (map (registerFor f) (phisOf (rowsOf f))) args (omega arith)) a
 
+-- What the runs of a source and its translation answer, whichever their budgets.
+module _ (f g : Func) (args : List ℕ) (h : RunsAlike f g args) (i j b b′ : ℕ) where
+  abbrev x : Ran
+  x = ranAs i f (runOf f args b)
+
+  abbrev y : Ran
+  y = ranAs j g (runOf g args b′)
+
+  both-end : (n : ℕ) (o : Outcome) → Ends f args n o → EndsBoth f args n (stepFormula f args n) o
+  both-end n o e = record { ends = e; formula = refl; atLeast = h .atLeast n o e; atMost = h .atMost n o e }
+
+  compare : Stands f args b → Stands g args b′ → Compared (λ r. r) f args b b′ x y
+  compare (Stands.ended n o e l) (Stands.ended m u d k) =
+      let w = h .onlyIf m u d in
+      let same = ends-once f args (w .1) e in
+      Compared.both n m o
+      (subst⁻¹ (λ (v : ℕ). EndsBoth f args n v o) (w .2 ∙ ap (stepFormula f args) (same .0)) (both-end n o e))
+      l k
+      (budget-agrees i f args b .ended n o l e)
+      (budget-agrees j g args b′ .ended m o k (subst (Ends g args m) (same .1) d))
+  compare (Stands.ended n o e l) (Stands.going k) =
+      Compared.sourceAlone n (stepFormula f args n) o (both-end n o e) l
+      (goes-before g args (h .ends n o e) k)
+      (budget-agrees i f args b .ended n o l e)
+      (budget-agrees j g args b′ .going k)
+  compare (Stands.going l) (Stands.ended m u d k) =
+      let w = h .onlyIf m u d in
+      Compared.translationAlone (w .0) m u
+      (subst⁻¹ (λ (v : ℕ). EndsBoth f args (w .0) v u) (w .2) (both-end (w .0) u (w .1)))
+      (goes-before f args (w .1) l)
+      k
+      (budget-agrees i f args b .going l)
+      (budget-agrees j g args b′ .ended m u k d)
+  compare (Stands.going l) (Stands.going k) = Compared.neither l (budget-agrees i f args b .going l) (budget-agrees j g args b′ .going k)
+
+  agree : RunsAgree (λ r. r) f args b b′ x y
+  agree =
+      record {
+        compared = compare (stands f args b) (stands g args b′);
+        suffices =
+            λ n o e l m. (
+              budget-agrees i f args b .ended n o l e,
+              budget-agrees j g args b′ .ended (stepFormula f args n) o (omega (arith, h .atMost n o e)) (h .ends n o e),
+            );
+        neither =
+            λ p s e l.
+            let k = h .notEnded b (run-of-43 i f args b p s e .0) in
+            budget-agrees j g args b′ .going (going-less g args b′ l k);
+      }
+
 pub runs-over-tables : RunsOverTables
-runs-over-tables t i args out c c′ h x l l′ =
+runs-over-tables t i x args b b′ c c′ h d a l l′ =
     let f = functionOf t i in
-    let e = accepted-program t (h .passes) in
-    let inside = subst⁻¹ (λ (n : ℕ). i < n) (function-count t) (h .there) in
-    let sound = sound-parts [] f (clean-of-check (decode t) i e inside .head) in
-    let alone : functionOf out 0 ≡ translation f = ap (λ (p : Program). getD p 0 noFunction) (x .holds) in
-    let fits = subst⁻¹ (λ (g : Func). T (argumentsFit g args)) alone (fits-translation f args (sound .params) (h .fitting)) in
-    let one : 0 < length (decode out) = subst⁻¹ (λ (p : Program). 0 < length p) (x .holds) (omega arith) in
-    record {
-      ended =
-          λ n b b′ o end m m′.
-          let p = budget-agrees i f args b .ended n o m end in
-          let p′ = budget-agrees 0 (functionOf out 0) args b′ .ended (stepFormula f args n) o (omega (arith, x .atMost n o end)) (x .ends n o end) in (
-            p .0,
-            p′ .0,
-            run-answer t i args b c (h .passes) inside (h .fitting) l ∙ p .1,
-            run-answer out 0 args b′ c′ (x .accepted) one fits l′ ∙ p′ .1,
-          );
-      going =
-          λ n go.
-          let p = budget-agrees i f args n .going go in
-          let p′ = budget-agrees 0 (functionOf out 0) args n .going (x .notEnded n go) in (
-            p .0,
-            p′ .0,
-            run-answer t i args n c (h .passes) inside (h .fitting) l ∙ p .1,
-            run-answer out 0 args n c′ (x .accepted) one fits l′ ∙ p′ .1,
-          );
-    }
+    let g = functionOf (x .table) 0 in
+    let sound = sound-parts [] f (clean-of-check (decode t) i (accepted-program t (h .passes)) (h .there) .head) in
+    let fits = subst⁻¹ (λ (k : Func). T (argumentsFit k args)) (d .translates .defined) (fits-translation f args (sound .params) a) in
+    let one : 0 < length (decode (x .table)) = subst⁻¹ (λ (p : Program). 0 < length p) (d .holds) (omega arith) in
+    rw (run-answer t i args b c (h .passes) (h .there) a l, run-answer (x .table) 0 args b′ c′ (d .passes) one fits l′)
+    (agree f g args (d .translates .runs args a) i 0 b b′)
+
+-- ---- answers as a caller has them
+
+-- In this form an end and a budget used up are told apart.
+abbrev pub Tells : {A : Type 0} → (Ran → A) → Type 0
+Tells told = (o : Outcome) (p n q s : ℕ) → told (ranOf o p n) ≡ told (Ran.stopped 43 q s) → o ≡ Outcome.stopped 43
+
+module _ {A : Type 0} (told : Ran → A) (tells : Tells told) (f : Func) (args : List ℕ) (b b′ : ℕ) (x y : Ran) where
+  ended-told : (o : Outcome) (n : ℕ) (z : Ran) → EndedWith (λ r. r) o n z → EndedWith told o n (told z)
+  ended-told o n z e = (e .0, ap told (e .1))
+
+  used-told : (n : ℕ) (z : Ran) → UsedUp (λ r. r) n z → UsedUp told n (told z)
+  used-told n z e = (e .0, ap told (e .1))
+
+  compared-told : Compared (λ r. r) f args b b′ x y → Compared told f args b b′ (told x) (told y)
+  compared-told (Compared.both n m o e l k u v) = Compared.both n m o e l k (ended-told o n x u) (ended-told o m y v)
+  compared-told (Compared.sourceAlone n m o e l k u v) = Compared.sourceAlone n m o e l k (ended-told o n x u) (used-told b′ y v)
+  compared-told (Compared.translationAlone n m o e l k u v) = Compared.translationAlone n m o e l k (used-told b x u) (ended-told o m y v)
+  compared-told (Compared.neither e u v) = Compared.neither e (used-told b x u) (used-told b′ y v)
+
+  -- no end is told as 43
+  not-ended : (n m : ℕ) (o : Outcome) (p s : ℕ) → EndsBoth f args n m o → EndedWith (λ r. r) o n x → told x ≡ told (Ran.stopped 43 p s) → ⊥
+  not-ended n m o p s e u k =
+      no-end-is-43 f args n (subst (Ends f args n) (tells o (u .0) n p s (sym (ap told (u .1)) ∙ k)) (e .ends))
+
+  used-up : (p s : ℕ) → Compared (λ r. r) f args b b′ x y → told x ≡ told (Ran.stopped 43 p s) → UsedUp (λ r. r) b x
+  used-up p s (Compared.both n m o e l k u v) d = absurd (not-ended n m o p s e u d)
+  used-up p s (Compared.sourceAlone n m o e l k u v) d = absurd (not-ended n m o p s e u d)
+  used-up p s (Compared.translationAlone n m o e l k u v) d = u
+  used-up p s (Compared.neither e u v) d = u
+
+  pub runs-told : RunsAgree (λ r. r) f args b b′ x y → RunsAgree told f args b b′ (told x) (told y)
+  runs-told h =
+      record {
+        compared = compared-told (h .compared);
+        suffices =
+            λ n o e l m.
+            let k = h .suffices n o e l m in
+            (ended-told o n x (k .0), ended-told o (stepFormula f args n) y (k .1));
+        neither =
+            λ p s d l.
+            let u = used-up p s (h .compared) d in
+            used-told b′ y (h .neither (u .0) b (u .1) l);
+      }

@@ -1,19 +1,17 @@
 -- The translation's run is the source's: it ends exactly if the source's does, with the same outcome, after the formula's steps.
 -- Assumes nothing.
 use mathlib.Core.Path.{_≡_, refl, sym, ap, _∙_}
-use mathlib.Core.Bool.{Bool, true, false, cond, not, _&&_}
-use mathlib.Core.List.{List, [], _∷_}
+use mathlib.Core.Bool.{Bool, true, false, cond, _&&_}
+use mathlib.Core.List.{List}
 use Prim.Native.Nat.{ℕ, zero, suc, _+_, _*_, _≤_}
 use native.Mathlib.Omega.{arith}
 use lib.Dec.{T, eqb, eqb→eq, lit≤}
 use lib.ListN.{length, replicate, length-replicate}
 use lib.Ieee.Fits.{and-l}
-use Rattle.laws.specs.Lists.{any}
-use Rattle.language.specs.Programs.{Row, Func, rowsAt, isPhi, isTerminator, hasPhi, rowsOf}
-use Rattle.language.specs.Checking.{Verdict, check}
+use Rattle.language.specs.Programs.{Row, Func, rowsAt, isPhi, isTerminator, hasPhi}
 use Rattle.language.specs.Running.{Place, Outcome, Next, Run, Ends, NotEnded, phisOf, step, runOf, rowHere, start, startRegisters, phiSteps, edgeSteps, firstUnfit, argumentsFit}
 use Rattle.language.specs.Translating.{translation, stepFormula, phiCount}
-use Rattle.theorems.specs.Statements.{Translates}
+use Rattle.theorems.specs.Demand3.{RunsAlike}
 use Rattle.theorems.specs.Clean.{Clean}
 use Rattle.theorems.proofs.SimulationRuns.{First, first, Goes, goes-more, goes-less, goes-after, after-goes, Stops, stops-once, ended-stops, stops-ends, ends-stops}
 use Rattle.theorems.proofs.SimulationRows.{entry-plain, entry-known, params-known}
@@ -179,7 +177,7 @@ module _ (f : Func) (args : List ℕ) (c : Clean f) (ct : Clean (translation f))
       Related.level (record { block = refl; known = known; row = row; inside = c .filled (f .entry) known; beside = b }) refl
 
   -- it ends "if the source does, with the same outcome, after exactly the steps of document 01's formula"
-  pub sim-ends : (n : ℕ) (o : Outcome) → Ends f args n o → Ends (translation f) args (stepFormula f args n) o
+  sim-ends : (n : ℕ) (o : Outcome) → Ends f args n o → Ends (translation f) args (stepFormula f args n) o
   unfolding stepFormula formula
   sim-ends n o e =
       let s = ends-stops f args e in
@@ -187,7 +185,7 @@ module _ (f : Func) (args : List ℕ) (c : Clean f) (ct : Clean (translation f))
       rw (s .1, ← (t .1)) (stops-ends (translation f) args (t .2))
 
   -- "not ended after n if the source has not"
-  pub sim-notEnded : (n : ℕ) → NotEnded f args n → NotEnded (translation f) args n
+  sim-notEnded : (n : ℕ) → NotEnded f args n → NotEnded (translation f) args n
   unfolding runOf formula
   sim-notEnded n e =
       let w = after-goes n f (start f) (startRegisters f args) (e .place) (e .registers) (e .run) in
@@ -197,7 +195,7 @@ module _ (f : Func) (args : List ℕ) (c : Clean f) (ct : Clean (translation f))
       record { place = r .0; registers = r .1; run = goes-after (r .2) }
 
   -- and only then: a source that had not ended by then would have kept the translation going
-  pub sim-onlyIf :
+  sim-onlyIf :
       (m : ℕ) (o : Outcome)
       → Ends (translation f) args m o
       → (n : ℕ) × Ends f args n o × (m ≡ stepFormula f args n)
@@ -217,28 +215,13 @@ module _ (f : Func) (args : List ℕ) (c : Clean f) (ct : Clean (translation f))
           (suc (k .0), rw (same .1) source, a .1 ∙ ap suc (same .0) ∙ sym (b .1))
 
   -- "at least n and at most 3n"
-  pub sim-atLeast : (n : ℕ) (o : Outcome) → Ends f args n o → n ≤ stepFormula f args n
+  sim-atLeast : (n : ℕ) (o : Outcome) → Ends f args n o → n ≤ stepFormula f args n
   unfolding stepFormula
   sim-atLeast n o e = omega arith
 
-  pub sim-atMost : (n : ℕ) (o : Outcome) → Ends f args n o → stepFormula f args n ≤ 3 * n
+  sim-atMost : (n : ℕ) (o : Outcome) → Ends f args n o → stepFormula f args n ≤ 3 * n
   unfolding stepFormula formula
   sim-atMost n o e = omega (arith, formula-le n f (start f) (startRegisters f args))
 
-  -- demand 3, where the translation has no phi and is accepted
-  pub translates :
-      T (not (any isPhi (rowsOf (translation f))))
-      → check (translation f ∷ []) ≡ Verdict.accepted
-      → Translates f args
-  unfolding translation
-  translates n a =
-      record {
-        noPhi = n;
-        unmarked = refl;
-        accepted = a;
-        ends = sim-ends;
-        onlyIf = sim-onlyIf;
-        atLeast = sim-atLeast;
-        atMost = sim-atMost;
-        notEnded = sim-notEnded;
-      }
+  pub runs-alike : RunsAlike f (translation f) args
+  runs-alike = record { onlyIf = sim-onlyIf; ends = sim-ends; atLeast = sim-atLeast; atMost = sim-atMost; notEnded = sim-notEnded }

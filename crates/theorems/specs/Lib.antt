@@ -1,5 +1,6 @@
 pub mod Statements
 pub mod TableLaw
 pub mod TableNeeds
+pub mod Demand3
 pub mod OverTables
 pub mod Clean

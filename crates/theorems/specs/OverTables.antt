@@ -1,84 +1,95 @@
--- Demand 3 in one piece, for what the entry points answer: over tables as they are lent.
+-- Demand 3 for what the entry points answer: over tables as they are lent, and over budgets.
 -- Assumes nothing.
 use mathlib.Core.Path.{_≡_}
-use mathlib.Core.Bool.{Bool, not}
 use mathlib.Core.List.{List, [], _∷_}
 use Prim.Native.Nat.{ℕ, _*_, _≤_, _<_}
 use lib.Dec.{T}
 use lib.ListN.{length, getD}
-use Rattle.laws.specs.Lists.{any}
-use Rattle.language.specs.Programs.{Func, noFunction, isSsa, isPhi, rowsOf}
-use Rattle.language.specs.Table.{tableLength, functionCount, cells, decode}
+use Rattle.language.specs.Programs.{Func, noFunction}
+use Rattle.language.specs.Table.{tableLength, cells, decode}
 use Rattle.language.specs.Checking.{Verdict}
 use Rattle.language.specs.Running.{Outcome, Ends, NotEnded, argumentsFit}
-use Rattle.language.specs.Answers.{Ran, checkAnswer, runAnswer, translateAnswer}
-use Rattle.language.specs.Translating.{translation, translationFits, stepFormula}
+use Rattle.language.specs.Answers.{Ran, Filled, checkAnswer, runAnswer, translateAnswer}
+use Rattle.language.specs.Translating.{translation, stepFormula}
 use Rattle.theorems.specs.Statements.{ranOf}
+use Rattle.theorems.specs.Demand3.{Translatable, Translates}
 
 -- Function i of a table, as its cells give it.
 abbrev pub functionOf : List ℕ → ℕ → Func
 functionOf t i = getD (decode t) i noFunction
 
--- A function of a table that demand 3 speaks of: "functions in a table that passes its check whole, .. arguments that fit"; it is marked
--- ssa and its "translated size fits".
-pub record Translatable (t : List ℕ) (i : ℕ) (args : List ℕ) : Type 0 where
-  pub passes : checkAnswer t ≡ Verdict.accepted
-  pub there : i < functionCount t
-  pub marked : T (isSsa (functionOf t i))
-  pub sized : T (translationFits (functionOf t i))
-  pub fitting : T (argumentsFit (functionOf t i) args)
+-- Function i of a table is one that demand 3 speaks of.
+abbrev pub TranslatableIn : List ℕ → ℕ → Type 0
+TranslatableIn t i = Translatable (checkAnswer t) (decode t) i
 
--- What demand 3 says of the table `out` that translating function i of t gave, and of runs on these arguments: f is the source, g the function
--- that the output holds.
-pub record TranslatedTable (t : List ℕ) (i : ℕ) (args out : List ℕ) : Type 0 where
-  -- "translates to document 01's translation": its cells, and what they hold is that one function
-  pub written : out ≡ cells (translation (functionOf t i) ∷ [])
-  pub holds : decode out ≡ translation (functionOf t i) ∷ []
-  -- "no phi, accepted without ssa"
-  pub noPhi : T (not (any isPhi (rowsOf (functionOf out 0))))
-  pub unmarked : functionOf out 0 .ssa ≡ 0
-  pub accepted : checkAnswer out ≡ Verdict.accepted
-  -- "ending exactly if the source does, with the same outcome, after exactly the steps of document 01's formula"
-  pub ends : (n : ℕ) (o : Outcome) → Ends (functionOf t i) args n o → Ends (functionOf out 0) args (stepFormula (functionOf t i) args n) o
-  pub onlyIf :
-      (m : ℕ) (o : Outcome) → Ends (functionOf out 0) args m o → (n : ℕ) × Ends (functionOf t i) args n o × (m ≡ stepFormula (functionOf t i) args n)
-  -- "at least n and at most 3n"
-  pub atLeast : (n : ℕ) (o : Outcome) → Ends (functionOf t i) args n o → n ≤ stepFormula (functionOf t i) args n
-  pub atMost : (n : ℕ) (o : Outcome) → Ends (functionOf t i) args n o → stepFormula (functionOf t i) args n ≤ 3 * n
-  -- "not ended after n if the source has not"
-  pub notEnded : (n : ℕ) → NotEnded (functionOf t i) args n → NotEnded (functionOf out 0) args n
+-- What demand 3 says of the answer and output of translating function i of t: it is not refused, and the output is the cells of the translation,
+-- passes its check, and holds that one function.
+pub record Translated (t : List ℕ) (i : ℕ) (x : Filled) : Type 0 where
+  pub done : x .answer ≡ Verdict.accepted
+  pub written : x .table ≡ cells (translation (functionOf t i) ∷ [])
+  pub passes : checkAnswer (x .table) ≡ Verdict.accepted
+  pub holds : decode (x .table) ≡ functionOf (x .table) 0 ∷ []
+  pub translates : Translates (functionOf t i) (functionOf (x .table) 0)
 
--- Translating such a function to an output of the stated length does not refuse, and gives such a table.
 abbrev pub Demand3OverTables : Type 0
-Demand3OverTables =
-    (t : List ℕ) (i : ℕ) (args : List ℕ)
-    → Translatable t i args
-    → (translateAnswer t i tableLength .answer ≡ Verdict.accepted) × TranslatedTable t i args (translateAnswer t i tableLength .table)
+Demand3OverTables = (t : List ℕ) (i : ℕ) → TranslatableIn t i → Translated t i (translateAnswer t i tableLength)
 
--- The answers of runs of source and translation, with budgets b and b′ and lent registers that hold theirs: where the source ends after n steps
--- within its budget, both answer its outcome, with n steps and the formula's; a source that has not ended after n steps answers 43, and so does
--- the translation with the same budget.
-pub record RunsAgree (t : List ℕ) (i : ℕ) (args out : List ℕ) (c c′ : ℕ) : Type 0 where
-  pub ended :
-      (n b b′ : ℕ) (o : Outcome)
-      → Ends (functionOf t i) args n o
+-- ---- under budgets
+
+-- "43 | stop: budget used up" is no end of a run: no run ends with that stop, so that a call which answers 43 says that its run has not ended.
+abbrev pub NoEndIs43 : Type 0
+NoEndIs43 = (f : Func) (args : List ℕ) (n : ℕ) → Ends f args n (Outcome.stopped 43) → ⊥
+
+abbrev pub AnsweredIs43 : Type 0
+AnsweredIs43 =
+    (t : List ℕ) (i : ℕ) (args : List ℕ) (b c p s : ℕ)
+    → runAnswer t i args b c .answer ≡ Ran.stopped 43 p s
+    → NotEnded (functionOf t i) args b × (s ≡ b)
+
+-- An answer as a caller has it, `told` giving its form: that the run ended with outcome o after n steps; that its budget b was used up.
+abbrev pub EndedWith : {A : Type 0} → (Ran → A) → Outcome → ℕ → A → Type 0
+EndedWith told o n x = (p : ℕ) × (x ≡ told (ranOf o p n))
+
+abbrev pub UsedUp : {A : Type 0} → (Ran → A) → ℕ → A → Type 0
+UsedUp told b x = (p : ℕ) × (x ≡ told (Ran.stopped 43 p b))
+
+-- The source ends after n steps with outcome o, and its translation after m.
+pub record EndsBoth (f : Func) (args : List ℕ) (n m : ℕ) (o : Outcome) : Type 0 where
+  pub ends : Ends f args n o
+  pub formula : m ≡ stepFormula f args n
+  pub atLeast : n ≤ m
+  pub atMost : m ≤ 3 * n
+
+-- What source f, called with budget b, and its translation, called with budget b′, may answer: x and y.
+pub data Compared {A : Type 0} (told : Ran → A) (f : Func) (args : List ℕ) (b b′ : ℕ) (x y : A) : Type 0 where
+  -- both end within their budgets, with the same outcome
+  both : (n m : ℕ) (o : Outcome) → EndsBoth f args n m o → n ≤ b → m ≤ b′ → EndedWith told o n x → EndedWith told o m y → Compared told f args b b′ x y
+  -- the source ends, and the translation needs more than its budget
+  sourceAlone : (n m : ℕ) (o : Outcome) → EndsBoth f args n m o → n ≤ b → b′ < m → EndedWith told o n x → UsedUp told b′ y → Compared told f args b b′ x y
+  -- the source needs more than its budget, and the translation, whose is larger, ends with the outcome that the source comes to
+  translationAlone : (n m : ℕ) (o : Outcome) → EndsBoth f args n m o → b < n → m ≤ b′ → UsedUp told b x → EndedWith told o m y → Compared told f args b b′ x y
+  -- neither ends
+  neither : NotEnded f args b → UsedUp told b x → UsedUp told b′ y → Compared told f args b b′ x y
+
+pub record RunsAgree {A : Type 0} (told : Ran → A) (f : Func) (args : List ℕ) (b b′ : ℕ) (x y : A) : Type 0 where
+  pub compared : Compared told f args b b′ x y
+  -- where the source ends after n steps within its budget, a budget of 3n suffices for the translation
+  pub suffices :
+      (n : ℕ) (o : Outcome)
+      → Ends f args n o
       → n ≤ b
       → 3 * n ≤ b′
-      → (p p′ : ℕ)
-      × (runAnswer t i args b c .answer ≡ ranOf o p n)
-      × (runAnswer out 0 args b′ c′ .answer ≡ ranOf o p′ (stepFormula (functionOf t i) args n))
-  pub going :
-      (n : ℕ)
-      → NotEnded (functionOf t i) args n
-      → (p p′ : ℕ)
-      × (runAnswer t i args n c .answer ≡ Ran.stopped 43 p n)
-      × (runAnswer out 0 args n c′ .answer ≡ Ran.stopped 43 p′ n)
+      → EndedWith told o n x × EndedWith told o (stepFormula f args n) y
+  -- where the source answered 43, so does the translation under the same budget or a smaller one
+  pub neither : (p s : ℕ) → x ≡ told (Ran.stopped 43 p s) → b′ ≤ b → UsedUp told b′ y
 
+-- Runs of function i of t and of its translation, on arguments that fit, with lent registers that suffice: c and c′.
 abbrev pub RunsOverTables : Type 0
 RunsOverTables =
-    (t : List ℕ) (i : ℕ) (args out : List ℕ) (c c′ : ℕ)
-    → Translatable t i args
-    → TranslatedTable t i args out
+    (t : List ℕ) (i : ℕ) (x : Filled) (args : List ℕ) (b b′ c c′ : ℕ)
+    → TranslatableIn t i
+    → Translated t i x
+    → T (argumentsFit (functionOf t i) args)
     → length (functionOf t i .registers) ≤ c
-    → length (functionOf out 0 .registers) ≤ c′
-    → RunsAgree t i args out c c′
+    → length (functionOf (x .table) 0 .registers) ≤ c′
+    → RunsAgree (λ r. r) (functionOf t i) args b b′ (runAnswer t i args b c .answer) (runAnswer (x .table) 0 args b′ c′ .answer)
