@@ -71,7 +71,7 @@ module _ (t a k : ℕ) {w : ℕ} (e : w ≡ width t) (l : k < w) where
       let h : ((a * 2 ^ (w - 1 - k)) % 2 ^ 64 * 2) % 2 ^ 64 ≡ (a * 2 ^ (width t - k)) % 2 ^ 64 = mod-mul-mod (a * 2 ^ (w - 1 - k)) 2 (2 ^ 64) ∙ ap (λ (n : ℕ). n % 2 ^ 64) g in
       rw (reduced t (a * 2 ^ (width t - k)) h f)
 
--- "41: shift or rotation by w or more"
+-- 41, "shift or rotation by w or more"
 module _ (t k x : ℕ) {w : ℕ} (e : w ≡ width t) where
   pub runs : {r : ℕ} → k < w → r ≡ x → Computed.value r ≡ within (width t) k x
   unfolding within

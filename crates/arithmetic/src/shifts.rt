@@ -1,4 +1,4 @@
-// Shifts and rotations. "41: shift or rotation by w or more"
+// Shifts and rotations. 41, "shift or rotation by w or more"
 use super::Computed;
 use super::signs::negative;
 use super::wrapping::flip;

@@ -52,7 +52,7 @@ fn with_sign(t: u8, minus: bool, m: u64) -> u64
     m
 }
 
-// "42: least signed number `ari.div` -1"
+// 42, "least signed number `ari.div` -1"
 fn overflows(t: u8, a: u64, b: u64) -> bool
     ensures { λ r. ⌜ r ≡ overflowsOf t a b ⌝ }
 {

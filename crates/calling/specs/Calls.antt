@@ -45,8 +45,8 @@ firstOutside f g = position (λ k. isOutside (argumentBits f g k)) (below (g .co
 unfoldable pub argumentsOf : Func → Given → List ℕ
 argumentsOf f g = map (λ k. bitsHeld (argumentBits f g k)) (below (g .count))
 
--- Function i of an accepted program, called by meaning: 21; 20 with the count given; "an argument outside its parameter's range by meaning is
--- `refused` 20 with its number"; then the run on the numbers that the registers hold, of which there are never more than 256.
+-- Function i of an accepted program, called by meaning: 21; 20 with the count given, or with the number of an argument outside its parameter's
+-- range by meaning; then the run on the numbers that the registers hold, of which there are never more than 256.
 unfoldable pub callFunction : Program → ℕ → Given → (budget : ℕ) → Ran
 callFunction p i g budget =
     let f = getD p i noFunction in

@@ -1,4 +1,4 @@
--- The line of a run's answer, tabs between: "`returned` value steps; `left` steps; `stopped` number place steps; `refused` number place".
+-- The line of a run's answer, tabs between: `returned`, value, steps; `left`, steps; `stopped`, number, place, steps; `refused`, number, place.
 -- Assumes nothing.
 use mathlib.Core.List.{List, [], _∷_, _++_}
 use Prim.Native.Nat.{ℕ, suc, _^_, _%_}

@@ -35,7 +35,7 @@ functionNumber p word = numberOr (numberOf word) (functionNamed p word)
 
 -- ---- a budget
 
--- "-0 is 0"; a budget of 2^64 or more is 2^64 - 1.
+-- "`-0` is 0"; a budget of 2^64 or more is 2^64 - 1.
 abbrev pub budgetFrom : Decimal → Budget
 budgetFrom decimals.Malformed = budgets.Wrong
 budgetFrom (decimals.Value s n) = cond s (cond (eqb n 0) (budgets.Steps 0) budgets.Wrong) (budgets.Steps n)

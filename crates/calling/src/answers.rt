@@ -50,7 +50,7 @@ fn put_value(kind: u8, v: u64, out: &mut [u8], at: usize) -> usize
     put_digits(m.magnitude, out, at + 1)
 }
 
-// "`returned` value steps"
+// `returned`, the value, the steps.
 fn put_returned(kind: u8, v: u64, steps: u64, out: &mut [u8]) -> usize
     requires { ⌜ 100 ≤ length (now out) ⌝ }
     ensures { λ r. ⌜ Written (now (out .entry)) 0 (ranLine kind (Ranᴸ.returned v steps)) (now (out .exit)) r × (r ≤ 100) ⌝ }
@@ -62,7 +62,7 @@ fn put_returned(kind: u8, v: u64, steps: u64, out: &mut [u8]) -> usize
     f + 1
 }
 
-// "`left` steps"
+// `left`, the steps.
 fn put_left(steps: u64, out: &mut [u8]) -> usize
     requires { ⌜ 100 ≤ length (now out) ⌝ }
     ensures { λ r. ⌜ Written (now (out .entry)) 0 (line (bytesOf "left") (steps ∷ [])) (now (out .exit)) r × (r ≤ 100) ⌝ }
@@ -73,7 +73,7 @@ fn put_left(steps: u64, out: &mut [u8]) -> usize
     e + 1
 }
 
-// "`stopped` number place steps"
+// `stopped`, the number, its place, the steps.
 fn put_stopped(number: u8, place: usize, steps: u64, out: &mut [u8]) -> usize
     requires { ⌜ 100 ≤ length (now out) ⌝ }
     ensures { λ r. ⌜ Written (now (out .entry)) 0 (line (bytesOf "stopped") (number ∷ place ∷ steps ∷ [])) (now (out .exit)) r × (r ≤ 100) ⌝ }

@@ -10,7 +10,7 @@ use Rattle.decimal.specs.declared.words.Decimal.the-variants as decimals
 use Rattle.decimal.specs.declared.words.Amount.{Amount}
 use Rattle.decimal.specs.declared.words.Amount.the-variants as amounts
 
--- "0" to "9"
+-- A decimal digit.
 unfoldable pub isDigit : ℕ → Bool
 isDigit b = leb 48 b && ltb b 58
 

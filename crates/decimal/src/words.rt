@@ -78,7 +78,7 @@ fn read_digits(negative: bool, digits: &[u8]) -> Decimal
     signed_amount(negative, a)
 }
 
-// A decimal word, "by meaning, minus allowed".
+// A decimal word by meaning: a minus may stand before the digits.
 pub fn read_decimal(word: &[u8]) -> Decimal
     ensures { λ r. ⌜ r ≡ numberOf (now (word .entry)) ⌝ }
 {

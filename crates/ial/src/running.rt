@@ -31,7 +31,7 @@ pub enum Ran {
     Refused(u8, usize),
 }
 
-// The answer of a run of function i: "43: budget used up" where it is still going.
+// The answer of a run of function i: 43, "budget used up" where it is still going.
 fn answer_of(i: usize, r: Run) -> Ran
     requires { ⌜ stopPlace (ranIn i r) < 32768 ⌝ }
     ensures { λ x. ⌜ ranOf x ≡ ranIn i r ⌝ }

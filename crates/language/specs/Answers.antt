@@ -86,7 +86,7 @@ checkAnswer t = cond (eqb (length t) tableLength) (check (decode t)) (Verdict.re
 unfoldable pub placeOf : ℕ → Func → Place → ℕ
 placeOf i f p = rowPlace i (firstRow f (p .block) + p .row)
 
--- A run of function i that used up its budget, or ended within it: "43: budget used up", placed at the "next row".
+-- A run of function i that used up its budget, or ended within it: 43, "budget used up", placed at the "next row".
 abbrev pub ranAs : ℕ → Func → Run → Ran
 ranAs i f (Run.going p g) = Ran.stopped 43 (placeOf i f p) (p .steps)
 ranAs i f (Run.ended (Outcome.returned v) p g) = Ran.returned v (p .steps)

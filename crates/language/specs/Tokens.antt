@@ -161,7 +161,7 @@ stepAs Mode.hexadecimal l b = cond (hexByte b) (hexadecimalDigit l b) (endsNumbe
 unfoldable pub lexStep : Lexer → ℕ → Lexed
 lexStep l b = stepAs (l .mode) l b
 
--- The end of the text: "the end's [byte is] the text's length".
+-- The end of the text: "A token's byte is its first, the end's the text's length."
 unfoldable pub lexEnd : Lexer → List Found
 lexEnd l = ended l ++ (token (l .next) Token.end ∷ [])
 

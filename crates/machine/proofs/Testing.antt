@@ -112,7 +112,7 @@ module _ {t : List ℕ} {a : ℕ} {p : Place} {g : List ℕ} (x : Met t a p g) w
         row = omega (arith, x .low);
       }
 
-  -- "27: a row met in a run breaks 9 to 16"
+  -- 27, "a row met in a run breaks 9 to 16"
   pub fault-step : (r : Bool) → r ≡ not (breaksRow (decodeFunction t a) (spotAt (decodeFunction t a) (p .block) (p .row - blockFirst t a (p .block)))) → r ≡ false → step (decodeFunction t a) (placeIn t a p) g ≡ Nextᴸ.end (Outcomeᴸ.stopped 27)
   unfolding step performAt
   fault-step r e h =

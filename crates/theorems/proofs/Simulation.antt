@@ -176,7 +176,7 @@ module _ (f : Func) (args : List ℕ) (c : Clean f) (ct : Clean (translation f))
       let known = entry-known f c in
       Related.level (record { block = refl; known = known; row = row; inside = c .filled (f .entry) known; beside = b }) refl
 
-  -- it ends "if the source does, with the same outcome, after exactly the steps of document 01's formula"
+  -- "If the source ends after n steps, the translation ends", "after exactly the steps that document 01's step formula counts"
   sim-ends : (n : ℕ) (o : Outcome) → Ends f args n o → Ends (translation f) args (stepFormula f args n) o
   unfolding stepFormula formula
   sim-ends n o e =
@@ -184,7 +184,7 @@ module _ (f : Func) (args : List ℕ) (c : Clean f) (ct : Clean (translation f))
       let t = stops-follow f c ct (start (translation f)) (startRegisters (translation f) args) start-related (s .2) in
       rw (s .1, ← (t .1)) (stops-ends (translation f) args (t .2))
 
-  -- "not ended after n if the source has not"
+  -- "if the source has not ended after n steps, the translation has not ended after n steps either"
   sim-notEnded : (n : ℕ) → NotEnded f args n → NotEnded (translation f) args n
   unfolding runOf formula
   sim-notEnded n e =
