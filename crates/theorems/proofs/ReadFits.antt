@@ -3,28 +3,28 @@
 use mathlib.Core.Path.{_≡_, refl, sym, ap, subst, subst⁻¹, _∙_}
 use mathlib.Core.Bool.{Bool, true, false, cond}
 use mathlib.Core.List.{List, [], _∷_, _++_, map, foldl, map-append, append-assoc, append-nil}
-use Prim.Native.Nat.{ℕ, zero, suc, _+_, _-_, _*_, _%_, _^_, _≤_, _<_}
+use Prim.Native.Nat.{ℕ, _+_, _-_, _^_, _≤_, _<_}
 use native.Mathlib.Nat.{mod-lt, lt-of-lt-of-le, zero-add}
 use native.Mathlib.Omega.{arith}
 use native.Mathlib.Decide.{decLt}
-use lib.Dec.{T, eqb, leb, ltb, leb→le, ltb→lt, eqb→eq, lit<, lit≤}
-use lib.ListN.{length, getD, length-append, length-map}
+use lib.Dec.{T, ltb, lit<, lit≤}
+use lib.ListN.{length, length-append, length-map}
 use lib.Pow.{pow-mono, pow-pos}
 use borrow.Author.Tests.{ltb-true, lt-ltb}
-use Rattle.laws.specs.Lists.{all, gather, sum, position, same}
+use Rattle.laws.specs.Lists.{gather, sum, same}
 use Rattle.laws.specs.Sections.{Bytes}
 use Rattle.laws.proofs.Every.{Every, none, more, every-append, every-left, every-at, every-map, every-all}
 use Rattle.laws.proofs.Positions.{position-le}
 use Rattle.laws.proofs.Sections.{bytes-append, byte-at}
 use Rattle.laws.proofs.Sums.{gather-append}
 use Rattle.language.specs.Instructions.{Form, formOf, width, signed, loadType}
-use Rattle.language.specs.Programs.{Row, Register, Block, Func, Program, noRegister, noBlock, noFunction, rowsOf, entryCount, opOf, formIn, targetsOf, sourcesOf, entriesOf, namedBy, blockAt, maxText, maxFunctions, maxRegisters, maxBlocks, maxRows, maxEntries}
+use Rattle.language.specs.Programs.{Row, Register, Block, Func, Program, noRegister, noBlock, noFunction, rowsOf, entryCount, opOf, formIn, targetsOf, sourcesOf, entriesOf, maxText, maxFunctions, maxRegisters, maxBlocks, maxRows, maxEntries}
 use Rattle.language.specs.Tokens.{Token, Found, token, stray, tokensOf}
 use Rattle.language.specs.Grammar.{Stage, Act, gram}
 use Rattle.language.specs.Reading.{Parts, Mention, Draft, Outcome, Parse, Reading, openFunction, rowCount, phiEntries, functionNumber, registerNumber, blockNumber, inRange, bitsOf, rowAs, rowOf, resolveRow, resolveBlock, resolve, undeclared, ifResolved, beginFunction, markSsa, setResult, nameFunction, beginRegister, nameRegister, beginBlock, nameBlock, endBlock, beginInstruction, setTarget, setInstruction, addSource, addEntry, addMention, setNumber, endInstruction, endFunction, perform, onward, take, parse₀, finish, read}
-use Rattle.language.specs.Table.{cells, decode}
 use Rattle.language.proofs.NameLaws.{isSpelled, names-spelled}
 use Rattle.language.proofs.ReadingLaws.{read-by-tokens}
+use Rattle.theorems.specs.Statements.{ReadBack}
 use Rattle.theorems.specs.TableLaw.{numberOf, NameFits, RegisterFits, RowFits, FunctionFits, Fits}
 use Rattle.theorems.proofs.Table.{table}
 use Rattle.theorems.proofs.TableSound.{spelled-fits, width-most}
@@ -657,6 +657,5 @@ read-fits text b p e = by (decLt maxText (length text))
     by (yes h) = subst ReadingFits (sym (too-long text h) ∙ e) tt
     by (no h) = subst ReadingFits e (reading-fits text b (omega arith))
 
--- A text's program is what its table holds.
-pub read-back : (text : List ℕ) → Bytes text → (p : Program) → read text ≡ Reading.program p → decode (cells p) ≡ p
-read-back text b p e = table p (read-fits text b p e) .back
+pub read-back : ReadBack
+read-back text p b e = table p (read-fits text b p e) .back

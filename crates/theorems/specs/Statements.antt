@@ -5,6 +5,8 @@ use mathlib.Core.List.{List}
 use Prim.Native.Nat.{ℕ, _≤_}
 use lib.ListN.{length}
 use Rattle.language.specs.Programs.{Func, Program, rowsOf}
+use Rattle.laws.specs.Sections.{Bytes}
+use Rattle.language.specs.Reading.{Reading, read}
 use Rattle.language.specs.Table.{cells, decode}
 use Rattle.language.specs.Checking.{Verdict, check}
 use Rattle.language.specs.Running.{Place, Outcome, Run, runOf, Ends, NotEnded}
@@ -44,3 +46,7 @@ pub record BudgetAgrees (i : ℕ) (f : Func) (args : List ℕ) (budget : ℕ) : 
 -- Decoding the cells of an accepted program gives it back. (TableLaw says it of every program that fits the cells.)
 abbrev pub AcceptedBack : Type 0
 AcceptedBack = (p : Program) → check p ≡ Verdict.accepted → decode (cells p) ≡ p
+
+-- So it does of every program that reading gives: the table of a text of bytes holds what the text means.
+abbrev pub ReadBack : Type 0
+ReadBack = (text : List ℕ) (p : Program) → Bytes text → read text ≡ Reading.program p → decode (cells p) ≡ p
