@@ -8,12 +8,13 @@ use Rattle.language.specs.Running.{Outcome}
 use Rattle.language.specs.Answers.{Answer, Filled, Finished, runAnswer, translateAnswer, verdictNumbers, ranNumbers}
 use Rattle.language.specs.Table.{tableLength}
 use Rattle.theorems.specs.OverTables.{functionOf, Translated}
+use Rattle.theorems.proofs.StopNumbers.{answered-is-43}
 use Rattle.theorems.proofs.OverTables.{demand3-over-tables, runs-over-tables, Tells, runs-told}
 use Rattle.checker.specs.declared.Verdict.{Verdict}
 use Rattle.checker.specs.declared.Verdict.the-variants as verdicts
 use Rattle.checker.specs.Verdicts.{verdictOf}
 use Rattle.ial.specs.Verdicts.{filledOf}
-use Rattle.ial.specs.Demand.{Demand3OfCalls, Demand3OfSymbols}
+use Rattle.ial.specs.Demand.{Demand3OfCalls, Demand3OfSymbols, Call43, Symbol43}
 
 -- An answer is known by its numbers.
 accepted-is : (v : Verdict) → verdictOf v ≡ Verdictᴸ.accepted → v ≡ verdicts.Accepted
@@ -59,3 +60,17 @@ demand3-of-symbols t i r out h e =
           (runs-told ranNumbers numbers-tell (functionOf t i) args b b′ (runAnswer t i args b c .answer) (runAnswer out 0 args b′ c′ .answer)
           (runs-over-tables t i filled args b b′ c c′ h table a l l′));
     }
+
+-- ---- 43
+
+pub call-43 : Call43
+unfolding ranNumbers
+call-43 t i args b c p s g u =
+    let e = ap (λ (z : Finished). ranNumbers (z .answer)) u in
+    let d = answered-is-43 t i args b c (sym (ap (λ (a : Answer). a .number) e)) in
+    (d .0, ap (λ (a : Answer). a .steps) e ∙ d .1)
+
+pub symbol-43 : Symbol43
+symbol-43 t i args b c x g u n =
+    let d = answered-is-43 t i args b c (sym (ap (λ (a : Answer). a .number) (u .0)) ∙ n) in
+    (d .0, ap (λ (a : Answer). a .steps) (u .0) ∙ d .1)

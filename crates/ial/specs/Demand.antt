@@ -8,12 +8,13 @@ use lib.Dec.{T}
 use lib.ListN.{length}
 use Rattle.language.specs.Table.{tableLength}
 use Rattle.language.specs.Checking.{Verdict as Verdictᴸ}
-use Rattle.language.specs.Running.{argumentsFit}
+use Rattle.language.specs.Running.{NotEnded, argumentsFit}
 use Rattle.language.specs.Answers.{Answer as Answerᴸ, verdictNumbers, ranNumbers}
 use Rattle.theorems.specs.OverTables.{functionOf, TranslatableIn, Translated, RunsAgree}
 use Rattle.checker.specs.declared.Verdict.{Verdict}
 use Rattle.checker.specs.declared.Verdict.the-variants as verdicts
 use Rattle.ial.specs.declared.running.Ran.{Ran}
+use Rattle.ial.specs.declared.running.Ran.the-variants as rans
 use Rattle.ial.specs.declared.c.Answer.{Answer}
 use Rattle.ial.specs.Numbers.{answerOf}
 use Rattle.ial.specs.Verdicts.{filledOf}
@@ -65,3 +66,17 @@ Demand3OfSymbols =
     → TranslatableIn t i
     → TranslateLinked t i tableLength r out
     → Demand3Linked t i r out
+
+-- An answer 43 of a call, whatever it was called with, says that its run has not ended: of `run`, and of `ial_run`.
+abbrev pub Call43 : Type 0
+Call43 =
+    (t : List ℕ) (i : ℕ) (args : List ℕ) (b c p s : ℕ) (g : List ℕ)
+    → RunCalled t i args b c (rans.Stopped 43 p s) g
+    → NotEnded (functionOf t i) args b × (s ≡ b)
+
+abbrev pub Symbol43 : Type 0
+Symbol43 =
+    (t : List ℕ) (i : ℕ) (args : List ℕ) (b c : ℕ) (x : Answer) (g : List ℕ)
+    → RunLinked t i args b c x g
+    → x .number ≡ 43
+    → NotEnded (functionOf t i) args b × (x .steps ≡ b)

@@ -17,7 +17,7 @@ use Rattle.language.specs.Programs.{Func, Program, noFunction, isSsa, rowsOf}
 use Rattle.language.specs.Table.{tableLength, cells, decode}
 use Rattle.language.specs.Checking.{Verdict, check}
 use Rattle.language.specs.Running.{Outcome, Ends, argumentsFit, firstUnfit, runOf, phisOf}
-use Rattle.language.specs.Answers.{Ran, checkAnswer, runAnswer, runFunction, translateAnswer, translateFunction, fill, ranAs}
+use Rattle.language.specs.Answers.{Ran, ranNumbers, checkAnswer, runAnswer, runFunction, translateAnswer, translateFunction, fill, ranAs}
 use Rattle.language.specs.Translating.{translation, translationFits, stepFormula, registerFor}
 use Rattle.theorems.specs.Statements.{ranOf}
 use Rattle.theorems.specs.Demand3.{RunsAlike, Translates}
@@ -155,6 +155,7 @@ module _ (f g : Func) (args : List ℕ) (h : RunsAlike f g args) (i j b b′ : �
   compare (Stands.going l) (Stands.going k) = Compared.neither l (budget-agrees i f args b .going l) (budget-agrees j g args b′ .going k)
 
   agree : RunsAgree (λ r. r) f args b b′ x y
+  unfolding ranNumbers
   agree =
       record {
         compared = compare (stands f args b) (stands g args b′);
@@ -165,7 +166,7 @@ module _ (f g : Func) (args : List ℕ) (h : RunsAlike f g args) (i j b b′ : �
             );
         neither =
             λ p s e l.
-            let k = h .notEnded b (run-of-43 i f args b p s e .0) in
+            let k = h .notEnded b (run-of-43 i f args b (ap (λ (r : Ran). ranNumbers r .number) e) .0) in
             budget-agrees j g args b′ .going (going-less g args b′ l k);
       }
 

@@ -3,17 +3,17 @@
 use mathlib.Core.Path.{_≡_, refl, subst}
 use mathlib.Core.Bool.{Bool, true, false, cond}
 use mathlib.Core.List.{List, [], _∷_}
-use Prim.Native.Nat.{ℕ, suc, _<_}
+use Prim.Native.Nat.{ℕ, zero, suc, _+_, _≤_, _<_}
 use native.Mathlib.Omega.{arith}
-use lib.Dec.{eqb, ltb}
+use lib.Dec.{eqb, ltb, leb, lit≤}
 use lib.ListN.{length, drop}
 use Rattle.laws.specs.Lists.{any}
 use Rattle.language.specs.Arithmetic.{Computed, binaryOf, div, rem, within, overflows}
-use Rattle.language.specs.Programs.{Row, Func, rowsAt, typeAt, isPhi}
-use Rattle.language.specs.Checking.{Verdict, breaksRow}
+use Rattle.language.specs.Programs.{Row, Func, maxFunctions, rowsAt, typeAt, isPhi}
+use Rattle.language.specs.Checking.{Verdict, breaksRow, sound, faults, firstFault, judge, judgeFrom, check}
 use Rattle.language.specs.Running.{Place, Outcome, Next, Run, NotEnded, onward, valueAt, writeAll, phisOf, cameBy, phiStep, assign, perform, performAt, step, start, startRegisters, runOf, firstUnfit}
-use Rattle.language.specs.Table.{decode}
-use Rattle.language.specs.Answers.{Ran, Finished, checkAnswer, refusedRun, ifAccepted, runFunction, runAnswer, ranAs, leftIn}
+use Rattle.language.specs.Table.{tableLength, decode}
+use Rattle.language.specs.Answers.{Finished, ranNumbers, checkAnswer, refusedRun, ifAccepted, runFunction, runAnswer, ranAs, leftIn}
 use Rattle.theorems.specs.OverTables.{NoEndIs43, AnsweredIs43, functionOf}
 use Rattle.theorems.proofs.Budgets.{going-counts}
 use Rattle.theorems.proofs.SimulationRuns.{ended-stops, ends-stops}
@@ -107,51 +107,96 @@ no-end-is-43 f args n e =
     let s = ends-stops f args e .2 in
     omega (arith, step-stops f _ _ _ (s .stop))
 
--- ---- what a call answers
-
--- The case that is not refused.
-not-refused : (b : Bool) (x : Finished) (n k q p s : ℕ) → cond b x (refusedRun n k q) .answer ≡ Ran.stopped 43 p s → x .answer ≡ Ran.stopped 43 p s
-unfolding refusedRun
-not-refused true x n k q p s e = e
-not-refused false x n k q p s e = absurd (let z : _≡_ {A = ℕ} 0 1 = cc in omega arith)
-
-refused-first : (b : Bool) (x : Finished) (n k q p s : ℕ) → cond b (refusedRun n k q) x .answer ≡ Ran.stopped 43 p s → x .answer ≡ Ran.stopped 43 p s
-unfolding refusedRun
-refused-first true x n k q p s e = absurd (let z : _≡_ {A = ℕ} 0 1 = cc in omega arith)
-refused-first false x n k q p s e = e
-
-if-accepted : (v : Verdict) (x : Finished) (n p s : ℕ) → ifAccepted v (refusedRun n) x .answer ≡ Ran.stopped 43 p s → x .answer ≡ Ran.stopped 43 p s
-unfolding refusedRun
-if-accepted Verdict.accepted x n p s e = e
-if-accepted (Verdict.refused k q) x n p s e = absurd (let z : _≡_ {A = ℕ} 0 1 = cc in omega arith)
-
-pub run-of-43 : (i : ℕ) (f : Func) (args : List ℕ) (b p s : ℕ) → ranAs i f (runOf f args b) ≡ Ran.stopped 43 p s → NotEnded f args b × (s ≡ b)
-unfolding runOf start
-run-of-43 i f args b p s e = by (runOf f args b) refl e
+-- Where the number answered is 43, the run has not ended.
+pub run-of-43 :
+    (i : ℕ) (f : Func) (args : List ℕ) (b : ℕ)
+    → (let a = ranNumbers (ranAs i f (runOf f args b)) in a .number ≡ 43 → NotEnded f args b × (a .steps ≡ b))
+unfolding runOf start ranNumbers
+run-of-43 i f args b = by (runOf f args b) refl
   where
-    by : (r : Run) → runOf f args b ≡ r → ranAs i f r ≡ Ran.stopped 43 p s → NotEnded f args b × (s ≡ b)
+    by : (r : Run) → runOf f args b ≡ r → (let a = ranNumbers (ranAs i f r) in a .number ≡ 43 → NotEnded f args b × (a .steps ≡ b))
     by (Run.going q g) r e =
-        let c = going-counts b f (start f) (startRegisters f args) q g r in
-        let n : q .steps ≡ s = cc in
-        (record { place = q; registers = g; run = r }, omega (arith, c, n))
-    by (Run.ended (Outcome.returned v) q g) r e = absurd (let z : _≡_ {A = ℕ} 0 1 = cc in omega arith)
-    by (Run.ended Outcome.left q g) r e = absurd (let z : _≡_ {A = ℕ} 0 1 = cc in omega arith)
+        (record { place = q; registers = g; run = r }, omega (arith, going-counts b f (start f) (startRegisters f args) q g r))
+    by (Run.ended (Outcome.returned v) q g) r e = absurd (omega (arith, e))
+    by (Run.ended Outcome.left q g) r e = absurd (omega (arith, e))
     by (Run.ended (Outcome.stopped k) q g) r e =
         let h = ended-stops b f (start f) (startRegisters f args) (Outcome.stopped k) q g r .2 in
-        let n : k ≡ 43 = cc in
-        absurd (omega (arith, n, step-stops f (h .place) (h .registers) k (h .stop)))
+        absurd (omega (arith, e, step-stops f _ _ _ (h .stop)))
+
+-- ---- what a check refuses with
+
+abbrev RefusedBelow : ℕ → Verdict → Type 0
+RefusedBelow n Verdict.accepted = Unit {0}
+RefusedBelow n (Verdict.refused k p) = k < n
+
+below-cond : (n : ℕ) (b : Bool) (x y : Verdict) → RefusedBelow n x → RefusedBelow n y → RefusedBelow n (cond b x y)
+below-cond n true x y p q = p
+below-cond n false x y p q = q
+
+fault-below : (i k n : ℕ) (ls : List (List ℕ)) → k + length ls ≤ n → RefusedBelow n (firstFault i k ls)
+fault-below i k n [] l = tt
+fault-below i k n ([] ∷ ls) l = fault-below i (suc k) n ls (omega (arith, l))
+fault-below i k n ((r ∷ rs) ∷ ls) l = omega (arith, l)
+
+judged-below : (names : List (List ℕ)) (i : ℕ) (f : Func) → RefusedBelow 18 (judge names i f)
+unfolding judge faults
+judged-below names i f =
+    below-cond 18 (sound names f) (firstFault i 10 (faults f)) (Verdict.refused 9 i) (fault-below i 10 18 (faults f) (lit≤ tt)) (omega arith)
+
+judges-below : (names : List (List ℕ)) (i : ℕ) (fs : List Func) → RefusedBelow 18 (judgeFrom names i fs)
+unfolding judgeFrom
+judges-below names i [] = tt
+judges-below names i (f ∷ fs) = by (judge names i f) (judged-below names i f) (judges-below (f .name ∷ names) (suc i) fs)
+  where
+    by :
+        (v : Verdict)
+        → RefusedBelow 18 v
+        → RefusedBelow 18 (judgeFrom (f .name ∷ names) (suc i) fs)
+        → RefusedBelow 18 (elim v [ Verdict.accepted ↦ judgeFrom (f .name ∷ names) (suc i) fs | Verdict.refused k r ↦ Verdict.refused k r ])
+    by Verdict.accepted p q = q
+    by (Verdict.refused k r) p q = p
+
+check-below : (t : List ℕ) → RefusedBelow 18 (checkAnswer t)
+unfolding checkAnswer check
+check-below t =
+    let d = decode t in
+    below-cond 18 (eqb (length t) tableLength) (check d) (Verdict.refused 9 0)
+    (below-cond 18 (leb (length d) maxFunctions) (judgeFrom [] zero d) (Verdict.refused 9 0) (judges-below [] zero d) (omega arith)) (omega arith)
+
+-- ---- what a call answers
+
+-- Where the number is 43, the run has not ended.
+abbrev Told43 : Func → List ℕ → ℕ → Finished → Type 0
+Told43 f args b x = ranNumbers (x .answer) .number ≡ 43 → NotEnded f args b × (ranNumbers (x .answer) .steps ≡ b)
+
+module _ (f : Func) (args : List ℕ) (b : ℕ) where
+  told-cond : (c : Bool) (x y : Finished) → Told43 f args b x → Told43 f args b y → Told43 f args b (cond c x y)
+  told-cond true x y p q = p
+  told-cond false x y p q = q
+
+  told-refused : (n k p : ℕ) → k < 43 → Told43 f args b (refusedRun n k p)
+  unfolding refusedRun ranNumbers
+  told-refused n k p l e = absurd (omega (arith, l, e))
+
+  told-accepted : (v : Verdict) (n : ℕ) (x : Finished) → RefusedBelow 18 v → Told43 f args b x → Told43 f args b (ifAccepted v (refusedRun n) x)
+  told-accepted Verdict.accepted n x l h = h
+  told-accepted (Verdict.refused k p) n x l h = told-refused n k p (omega (arith, l))
 
 pub answered-is-43 : AnsweredIs43
 unfolding runAnswer runFunction
-answered-is-43 t i args b c p s e =
+answered-is-43 t i args b c =
     let f = functionOf t i in
     let d = decode t in
+    let unfit = firstUnfit f args in
     let done : Finished = record { answer = ranAs i f (runOf f args b); registers = leftIn c (runOf f args b) } in
     let roomy = cond (ltb c (length (f .registers))) (refusedRun c 22 0) done in
-    let fitted = cond (eqb (firstUnfit f args) (length args)) roomy (refusedRun c 20 (firstUnfit f args)) in
-    let e1 = if-accepted (checkAnswer t) (runFunction d i args b c) c p s e in
-    let e2 = not-refused (ltb i (length d)) (cond (eqb (length args) (f .params)) fitted (refusedRun c 20 (length args))) c 21 0 p s e1 in
-    let e3 = not-refused (eqb (length args) (f .params)) fitted c 20 (length args) p s e2 in
-    let e4 = not-refused (eqb (firstUnfit f args) (length args)) roomy c 20 (firstUnfit f args) p s e3 in
-    let e5 = refused-first (ltb c (length (f .registers))) done c 22 0 p s e4 in
-    run-of-43 i f args b p s e5
+    let fitted = cond (eqb unfit (length args)) roomy (refusedRun c 20 unfit) in
+    let counted = cond (eqb (length args) (f .params)) fitted (refusedRun c 20 (length args)) in
+    told-accepted f args b (checkAnswer t) c (runFunction d i args b c) (check-below t)
+    (told-cond f args b (ltb i (length d)) counted (refusedRun c 21 0)
+    (told-cond f args b (eqb (length args) (f .params)) fitted (refusedRun c 20 (length args))
+    (told-cond f args b (eqb unfit (length args)) roomy (refusedRun c 20 unfit)
+    (told-cond f args b (ltb c (length (f .registers))) (refusedRun c 22 0) done (told-refused f args b c 22 0 (omega arith)) (run-of-43 i f args b))
+    (told-refused f args b c 20 unfit (omega arith)))
+    (told-refused f args b c 20 (length args) (omega arith)))
+    (told-refused f args b c 21 0 (omega arith)))

@@ -9,7 +9,7 @@ use Rattle.language.specs.Programs.{Func, noFunction}
 use Rattle.language.specs.Table.{tableLength, cells, decode}
 use Rattle.language.specs.Checking.{Verdict}
 use Rattle.language.specs.Running.{Outcome, Ends, NotEnded, argumentsFit}
-use Rattle.language.specs.Answers.{Ran, Filled, checkAnswer, runAnswer, translateAnswer}
+use Rattle.language.specs.Answers.{Ran, Filled, ranNumbers, checkAnswer, runAnswer, translateAnswer}
 use Rattle.language.specs.Translating.{translation, stepFormula}
 use Rattle.theorems.specs.Statements.{ranOf}
 use Rattle.theorems.specs.Demand3.{Translatable, Translates}
@@ -36,15 +36,15 @@ Demand3OverTables = (t : List ℕ) (i : ℕ) → TranslatableIn t i → Translat
 
 -- ---- under budgets
 
--- "43 | stop: budget used up" is no end of a run: no run ends with that stop, so that a call which answers 43 says that its run has not ended.
+-- "43 | stop: budget used up" is no end of a run: no run ends with that stop, so that a call which answers 43, whatever it was called with, says
+-- that its run has not ended after as many steps as its budget.
 abbrev pub NoEndIs43 : Type 0
 NoEndIs43 = (f : Func) (args : List ℕ) (n : ℕ) → Ends f args n (Outcome.stopped 43) → ⊥
 
 abbrev pub AnsweredIs43 : Type 0
 AnsweredIs43 =
-    (t : List ℕ) (i : ℕ) (args : List ℕ) (b c p s : ℕ)
-    → runAnswer t i args b c .answer ≡ Ran.stopped 43 p s
-    → NotEnded (functionOf t i) args b × (s ≡ b)
+    (t : List ℕ) (i : ℕ) (args : List ℕ) (b c : ℕ)
+    → (let a = ranNumbers (runAnswer t i args b c .answer) in a .number ≡ 43 → NotEnded (functionOf t i) args b × (a .steps ≡ b))
 
 -- An answer as a caller has it, `told` giving its form: that the run ended with outcome o after n steps; that its budget b was used up.
 abbrev pub EndedWith : {A : Type 0} → (Ran → A) → Outcome → ℕ → A → Type 0
