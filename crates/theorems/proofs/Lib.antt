@@ -6,7 +6,9 @@ pub mod TableZero
 pub mod Table
 pub mod TableIgnored
 pub mod TableView
+pub mod Judged
 pub mod AcceptanceCheck
+pub mod Accepted
 pub mod Spots
 pub mod Size
 pub mod AcceptanceRows
