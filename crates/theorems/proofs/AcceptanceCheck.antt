@@ -7,20 +7,20 @@ use Prim.Native.Nat.{ℕ, zero, suc, _+_, _≤_, _<_, suc-le-suc}
 use native.Mathlib.Nat.{not-suc-le-zero, le-of-suc-le-suc, zero-add, add-zero, zero-lt-suc, add-suc, suc-add}
 use native.Mathlib.Omega.{arith}
 use native.Mathlib.Decide.{decLt}
-use lib.Dec.{T, leb, ltb, leb→le, le→leb, lit<, lit≤}
+use lib.Dec.{T, ltb, leb→le, le→leb, lit<, lit≤}
 use lib.Ieee.Bits.{is-true}
 use lib.Ieee.Fits.{and-l, and-r, and-i}
 use lib.ListN.{length, getD, List·getD-eq-default}
 use Rattle.laws.specs.Lists.{any, all, keep, gather, below, empty, same}
 use Rattle.laws.proofs.Tests.{not-is-false}
 use Rattle.laws.proofs.Every.{Every, none, more, every-at, every-imp, every-gather, every-gathered, every-below, every-below-at, every-all, every-none, none-every, every-kept, kept-every, every-empty, empty-every}
-use Rattle.language.specs.Programs.{Row, Func, Program, noFunction, noBlock, maxRegisters, maxBlocks, maxRows, maxEntries, entryCount, blockAt, rowsAt, rowsOf, firstRow, maxFunctions}
-use Rattle.language.specs.Checking.{Spot, spotAt, spotsFrom, spotsIn, spotsOf, inRange, breaks9, breaks10, breaks11, breaks12, breaks13, breaks14, breaks15, breaks16, breaks17, rowTests, breaksRow, Verdict, rowsThat, faults10, faults, firstFault, sizesRight, numbersRight, entryRight, namesRight, sound, judge, judgeFrom, check, rowNumber, spelledOrNone, distinct}
+use Rattle.language.specs.Programs.{Row, Func, Program, noBlock, maxRegisters, maxBlocks, maxRows, maxEntries, entryCount, blockAt, rowsAt, rowsOf, firstRow, maxFunctions}
+use Rattle.language.specs.Checking.{Spot, spotAt, spotsFrom, spotsIn, spotsOf, inRange, breaks9, breaks10, breaks11, breaks12, breaks13, breaks14, breaks15, breaks16, breaks17, rowTests, breaksRow, Verdict, rowsThat, faults10, faults, firstFault, sizesRight, numbersRight, entryRight, namesRight, sound, judge, check, rowNumber, spelledOrNone, distinct}
 use Rattle.language.specs.Instructions.{typeCount, void}
 use Rattle.language.specs.Names.{spelled}
 use Rattle.theorems.specs.Clean.{Clean}
 use Rattle.theorems.specs.Accepted.{functionIn, namesBefore}
-use Rattle.theorems.proofs.Judged.{judged, accepted-each, each-accepted}
+use Rattle.theorems.proofs.Judged.{accepted-each, each-accepted}
 
 -- ---- one row
 
@@ -87,7 +87,7 @@ in-blocks f b j l = elim (decLt b (length (f .blocks))) [ yes h ↦ h | no h ↦
         not-suc-le-zero (subst (λ k. j < length (k .rows)) (List·getD-eq-default (f .blocks) noBlock {n = b} (omega arith)) l)
 
 -- The spots of one block, from place k on.
-spots-from :
+pub spots-from :
     {P : Spot → Type 0} (b k : ℕ) (rows : List Row)
     → Every P (spotsFrom b k rows)
     → (j : ℕ)
@@ -97,7 +97,7 @@ spots-from b k [] h j l = absurd (not-suc-le-zero l)
 spots-from b k (r ∷ rs) (more p h) zero l = rw add-zero p
 spots-from b k (r ∷ rs) (more p h) (suc j) l = rw (add-suc, ← suc-add) (spots-from b (suc k) rs h j (le-of-suc-le-suc l))
 
-from-spots :
+pub from-spots :
     {P : Spot → Type 0} (b k : ℕ) (rows : List Row)
     → ((j : ℕ) → j < length rows → P (record { block = b; index = k + j; row = getD rows j Row.nop }))
     → Every P (spotsFrom b k rows)

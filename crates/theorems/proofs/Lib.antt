@@ -10,6 +10,8 @@ pub mod Judged
 pub mod AcceptanceCheck
 pub mod Accepted
 pub mod Spots
+pub mod FirstBroken
+pub mod Refused
 pub mod Size
 pub mod AcceptanceRows
 pub mod AcceptanceNumbers

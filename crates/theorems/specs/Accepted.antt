@@ -2,7 +2,7 @@
 -- paths here, never by the computation that finds them.
 -- Assumes nothing.
 use mathlib.Core.Path.{_≡_}
-use mathlib.Core.Bool.{Bool, true, false, cond}
+use mathlib.Core.Bool.{false, cond}
 use mathlib.Core.List.{List, map}
 use Prim.Native.Nat.{ℕ, _≤_, _<_}
 use lib.Dec.{T, eqb}
@@ -30,7 +30,7 @@ pub record RulesHold (names : List (List ℕ)) (f : Func) : Type 0 where
   -- 9 to 16 of every row
   pub rows : (b j : ℕ) → j < length (rowsAt f b) → breaksRow f (spotAt f b j) ≡ false
   -- 17 of every row, "over all paths from entry"
-  pub paths : T (isSsa f) → (b j : ℕ) → j < length (rowsAt f b) → Missing f (spotAt f b j) → ⊥
+  pub paths : (b j : ℕ) → j < length (rowsAt f b) → T (isSsa f) → Missing f (spotAt f b j) → ⊥
 
 pub record Right (p : Program) : Type 0 where
   pub count : length p ≤ maxFunctions
@@ -61,17 +61,17 @@ pub data Breaks (f : Func) (s : Spot) : (number : ℕ) → Type 0 where
   -- "ssa: some path from entry reaches the use without an assignment"
   missing : T (isSsa f) → Missing f s → Breaks f s 17
 
--- The numbers 10 to 17 that a function breaks, each with its row.
-pub data Broken (f : Func) : (number row : ℕ) → Type 0 where
-  row : (k b j : ℕ) → j < length (rowsAt f b) → Breaks f (spotAt f b j) k → Broken f k (rowNumber f (spotAt f b j))
+-- What a function breaks of 9 to 17, those before it having these names: the number and its row, 0 for 9.
+pub data Broken (names : List (List ℕ)) (f : Func) : (number row : ℕ) → Type 0 where
+  head : sound names f ≡ false → Broken names f 9 0
   -- "A block with no rows is placed at the row where it would begin."
-  block : (b : ℕ) → b < length (f .blocks) → length (rowsAt f b) ≡ 0 → Broken f 10 (firstRow f b)
+  block : (b : ℕ) → b < length (f .blocks) → length (rowsAt f b) ≡ 0 → Broken names f 10 (firstRow f b)
+  row : (k b j : ℕ) → j < length (rowsAt f b) → Breaks f (spotAt f b j) k → Broken names f k (rowNumber f (spotAt f b j))
 
 -- All that is wrong with a program: function, number and row.
 pub data Fault (p : Program) : (function number row : ℕ) → Type 0 where
   count : maxFunctions < length p → Fault p 0 9 0
-  head : (i : ℕ) → i < length p → sound (namesBefore p i) (functionIn p i) ≡ false → Fault p i 9 0
-  rows : (i k r : ℕ) → i < length p → Broken (functionIn p i) k r → Fault p i k r
+  function : (i k r : ℕ) → i < length p → Broken (namesBefore p i) (functionIn p i) k r → Fault p i k r
 
 -- Where it is placed, 9 at the "function; 0 if the function count": "a row as a place is 2,048 times the function's number plus the row".
 abbrev pub placeOf : (function number row : ℕ) → ℕ

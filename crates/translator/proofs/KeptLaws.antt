@@ -24,7 +24,7 @@ use Rattle.theorems.proofs.SimulationRows.{phisAt, keptAt, keptRow, rowOf, kept
 use Rattle.theorems.proofs.AcceptanceNumbers.{block-lt}
 use Rattle.rules.specs.Prepared.{Prepared}
 use Rattle.translator.specs.Source.{Translatable, Planned, translated, built, phisIn, keptCells, Naming, KeptRows}
-use Rattle.translator.proofs.Counting.{first-next}
+use Rattle.theorems.proofs.Spots.{first-next}
 use Rattle.translator.proofs.Filling.{length-filled, block-stored, row-stored}
 use Rattle.translator.proofs.Items.{row-in-block, row-within, first-within, row-of-block, op-decoded, kept-name, kept-height, kept-row}
 use Rattle.translator.proofs.RegistersLaws.{target-fits, plain, name-cells}
