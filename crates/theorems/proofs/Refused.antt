@@ -1,4 +1,4 @@
--- The refusal is the first fault of the program: the check answers of every fault or none, and the first is unique.
+-- The refusal is the first fault of the program: the check's verdict is such a fault or that there is none, and no two faults are first.
 -- Assumes nothing.
 use mathlib.Core.Path.{_≡_, refl, sym, ap, _∙_, subst}
 use mathlib.Core.Bool.{Bool, true, false, cond}
@@ -14,7 +14,7 @@ use Rattle.language.specs.Programs.{Program, maxFunctions}
 use Rattle.language.specs.Checking.{Verdict, check}
 use Rattle.language.specs.Table.{tableLength, decode}
 use Rattle.language.specs.Answers.{checkAnswer}
-use Rattle.theorems.specs.Accepted.{namesBefore, functionIn, Broken, Fault, placeOf, Before, Refused, RefusedExactly, TableRefused, TableRefusedExactly}
+use Rattle.theorems.specs.Accepted.{namesBefore, functionIn, Broken, Fault, AcceptedWithoutFault, placeOf, Before, Refused, RefusedExactly, TableRefused, TableRefusedExactly}
 use Rattle.theorems.proofs.Judged.{judged, refused-not-accepted, Checked, checked}
 use Rattle.theorems.proofs.FirstBroken.{First, numbers, first-broken}
 
@@ -104,6 +104,17 @@ answered p = by (check p) (checked p)
     by v (Checked.accepted h a) = Answered.accepted (no-fault p h a)
     by v (Checked.refused i k r h l a e) =
         subst (Answered p) e (here i k r (judged p i) h l a (first-broken (namesBefore p i) (functionIn p i) i) e)
+
+pub accepted-without-fault : AcceptedWithoutFault
+accepted-without-fault p = (to (check p) (answered p), of (check p) (answered p))
+  where
+    to : (v : Verdict) → Answered p v → v ≡ Verdict.accepted → (i k r : ℕ) → Fault p i k r → ⊥
+    to v (Answered.accepted h) e = h
+    to v (Answered.refused x) e = absurd (refused-not-accepted e)
+
+    of : (v : Verdict) → Answered p v → ((i k r : ℕ) → Fault p i k r → ⊥) → v ≡ Verdict.accepted
+    of v (Answered.accepted h) n = refl
+    of v (Answered.refused {k = k} x) n = absurd (n (x .function) k (x .row) (x .fault))
 
 -- Of two different faults one is before the other.
 ordered :

@@ -73,6 +73,13 @@ pub data Fault (p : Program) : (function number row : ℕ) → Type 0 where
   count : maxFunctions < length p → Fault p 0 9 0
   function : (i k r : ℕ) → i < length p → Broken (namesBefore p i) (functionIn p i) k r → Fault p i k r
 
+-- Accepted, by the table: "none of 9 to 17 holds".
+abbrev pub AcceptedWithoutFault : Type 0
+AcceptedWithoutFault =
+    (p : Program)
+    → (check p ≡ Verdict.accepted → (i k r : ℕ) → Fault p i k r → ⊥)
+    × (((i k r : ℕ) → Fault p i k r → ⊥) → check p ≡ Verdict.accepted)
+
 -- Where it is placed, 9 at the "function; 0 if the function count": "a row as a place is 2,048 times the function's number plus the row".
 abbrev pub placeOf : (function number row : ℕ) → ℕ
 placeOf i k r = cond (eqb k 9) i (rowPlace i r)
@@ -83,7 +90,7 @@ pub data Before (i k r i′ k′ r′ : ℕ) : Type 0 where
   number : i ≡ i′ → k < k′ → Before i k r i′ k′ r′
   row : i ≡ i′ → k ≡ k′ → r < r′ → Before i k r i′ k′ r′
 
--- A fault of this number and place before which there is none.
+-- A fault of this number and place before which there is none: the one that is answered.
 pub record Refused (p : Program) (k place : ℕ) : Type 0 where
   pub function : ℕ
   pub row : ℕ
@@ -104,7 +111,7 @@ TableAcceptedExactly =
     → (checkAnswer t ≡ Verdict.accepted → (length t ≡ tableLength) × Right (decode t))
     × (length t ≡ tableLength → Right (decode t) → checkAnswer t ≡ Verdict.accepted)
 
--- 9 at "0 if the .. length"; else as its program is refused.
+-- 9 at "0 if the function count or length"; a table of the one length is refused as its program is.
 pub data TableRefused (t : List ℕ) : (number place : ℕ) → Type 0 where
   size : (length t ≡ tableLength → ⊥) → TableRefused t 9 0
   program : (k place : ℕ) → length t ≡ tableLength → Refused (decode t) k place → TableRefused t k place
