@@ -278,7 +278,7 @@ module _ (names : List (List ℕ)) (f : Func) where
       (Listed.next (column 17 (breaks17 f) (lit< tt) (λ s t. let m = missing-sound f s t in Breaks.missing (m .0) (m .1)) (λ s t. t))
       (Listed.end (λ k r q. numbers k r q .1)))))))))
 
-  -- The verdict on a function is the first of what it breaks, and no verdict if it breaks nothing.
+  -- The verdict on a function is the first of what it breaks; one that breaks nothing is accepted.
   pub first-broken : (i : ℕ) → First (Broken names f) i 9 (judge names i f)
   unfolding judge
   first-broken i = by (sound names f) refl
