@@ -17,7 +17,7 @@ use Rattle.laws.proofs.Rising.{Rising, StartsBy, rising-first, Span, rising-gat
 use Rattle.language.specs.Programs.{Row, Func, rowsAt, firstRow, rowPlace}
 use Rattle.language.specs.Checking.{Spot, spotAt, spotsFrom, spotsIn, spotsOf, rowNumber, breaks10, breaks11, breaks12, breaks13, breaks14, breaks15, breaks16, breaks17, Verdict, rowsThat, faults10, faults, firstFault, sound, judge}
 use Rattle.language.proofs.Paths.{missing-sound, missing-complete}
-use Rattle.theorems.specs.Accepted.{Breaks, Broken, placeOf}
+use Rattle.theorems.specs.Accepted.{Breaks, Broken, faultPlace}
 use Rattle.theorems.proofs.AcceptanceCheck.{in-blocks, spots-from, from-spots, at-spots, every-spot}
 use Rattle.theorems.proofs.Spots.{first-next}
 
@@ -178,7 +178,7 @@ pub data First (P : ℕ → ℕ → Type 0) (i k : ℕ) : Verdict → Type 0 whe
       → P m r
       → ((m′ r′ : ℕ) → P m′ r′ → m′ < m → m′ < k)
       → ((r′ : ℕ) → P m r′ → r ≤ r′)
-      → First P i k (Verdict.refused m (placeOf i m r))
+      → First P i k (Verdict.refused m (faultPlace i m r))
 
 module _ (P : ℕ → ℕ → Type 0) (i : ℕ) where
   none-at : (k : ℕ) → ((r : ℕ) → P k r → ⊥) → (m r : ℕ) → P m r → m < suc k → m < k

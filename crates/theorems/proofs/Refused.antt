@@ -14,7 +14,7 @@ use Rattle.language.specs.Programs.{Program, maxFunctions}
 use Rattle.language.specs.Checking.{Verdict, check}
 use Rattle.language.specs.Table.{tableLength, decode}
 use Rattle.language.specs.Answers.{checkAnswer}
-use Rattle.theorems.specs.Accepted.{namesBefore, functionIn, Broken, Fault, AcceptedWithoutFault, placeOf, Before, Refused, RefusedExactly, TableRefused, TableRefusedExactly}
+use Rattle.theorems.specs.Accepted.{namesBefore, functionIn, Broken, Fault, AcceptedWithoutFault, faultPlace, Before, Refused, RefusedExactly, TableRefused, TableRefusedExactly}
 use Rattle.theorems.proofs.Judged.{judged, refused-not-accepted, Checked, checked}
 use Rattle.theorems.proofs.FirstBroken.{First, numbers, first-broken}
 
@@ -60,7 +60,7 @@ module _ (p : Program) where
       → Broken (namesBefore p i) (functionIn p i) m n
       → ((m′ n′ : ℕ) → Broken (namesBefore p i) (functionIn p i) m′ n′ → m′ < m → ⊥)
       → ((n′ : ℕ) → Broken (namesBefore p i) (functionIn p i) m n′ → n ≤ n′)
-      → Refused p m (placeOf i m n)
+      → Refused p m (faultPlace i m n)
   refused-at i m n h l before q a b =
       record { function = i; row = n; fault = Fault.function i m n l q; placed = refl; first = first }
     where
@@ -150,7 +150,7 @@ only p k place k′ place′ x y = by (ordered (x .function) k (x .row) (y .func
     by (inl b) = absurd (y .first (x .function) k (x .row) (x .fault) b)
     by (inr (inl b)) = absurd (x .first (y .function) k′ (y .row) (y .fault) b)
     by (inr (inr (e, q, w))) =
-        let at : place ≡ place′ = x .placed ∙ (λ j. placeOf (e j) (q j) (w j)) ∙ sym (y .placed) in
+        let at : place ≡ place′ = x .placed ∙ (λ j. faultPlace (e j) (q j) (w j)) ∙ sym (y .placed) in
         λ j. Verdict.refused (sym q j) (sym at j)
 
 pub refused-exactly : RefusedExactly

@@ -81,8 +81,8 @@ AcceptedWithoutFault =
     × (((i k r : ℕ) → Fault p i k r → ⊥) → check p ≡ Verdict.accepted)
 
 -- Where it is placed, 9 at the "function; 0 if the function count": "a row as a place is 2,048 times the function's number plus the row".
-abbrev pub placeOf : (function number row : ℕ) → ℕ
-placeOf i k r = cond (eqb k 9) i (rowPlace i r)
+abbrev pub faultPlace : (function number row : ℕ) → ℕ
+faultPlace i k r = cond (eqb k 9) i (rowPlace i r)
 
 -- "functions in order, lowest number first, then earliest row"
 pub data Before (i k r i′ k′ r′ : ℕ) : Type 0 where
@@ -95,7 +95,7 @@ pub record Refused (p : Program) (k place : ℕ) : Type 0 where
   pub function : ℕ
   pub row : ℕ
   pub fault : Fault p function k row
-  pub placed : place ≡ placeOf function k row
+  pub placed : place ≡ faultPlace function k row
   pub first : (i′ k′ r′ : ℕ) → Fault p i′ k′ r′ → Before i′ k′ r′ function k row → ⊥
 
 abbrev pub RefusedExactly : Type 0
