@@ -6,6 +6,9 @@ pub mod TokenFacts
 pub mod ReadingFacts
 pub mod SizeFacts
 pub mod ReadingLaws
+pub mod FirstRefusal
+pub mod Begun
+pub mod Rooms
 pub mod NameLaws
 pub mod SpelledNames
 pub mod TableFacts
