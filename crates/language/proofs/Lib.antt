@@ -9,6 +9,7 @@ pub mod ReadingLaws
 pub mod FirstRefusal
 pub mod Begun
 pub mod Rooms
+pub mod Continuing
 pub mod NameLaws
 pub mod SpelledNames
 pub mod TableFacts

@@ -1,5 +1,5 @@
 -- Room is lacking at the first token of an item alone: a draft has room for all that its stage has begun, so that 5 comes from
--- the acts that begin an item.
+-- the acts that begin an item. And 3 comes from a token that is wrong.
 -- Assumes nothing.
 use mathlib.Core.Bool.{Bool, true, false, cond}
 use mathlib.Core.List.{List, [], _∷_, _++_, map, foldl, append-nil}
@@ -101,10 +101,11 @@ entries-now d =
 
 -- ---- an act that puts down what is begun
 
--- What an act comes to: room for what it leaves begun, or else no 5 but at the first token of the item beyond.
+-- What an act comes to: room for what it leaves begun, or else no 5 but at the first token of the item beyond, and no 3 but at
+-- a token that is wrong.
 module _ (d : Draft) (p : ℕ) (a : Act) (y : Begun) where
   abbrev After : Outcome → Type 0
-  After (Outcome.refuse n q) = n ≡ 5 → (q ≡ p) × Beyond d a
+  After (Outcome.refuse n q) = (n ≡ 5 → (q ≡ p) × Beyond d a) × (n ≡ 3 → (q ≡ p) × (a ≡ Act.wrong))
   After (Outcome.proceed e) = Room y (counts e)
 
   -- A test of room that passes, and one at the first token of an item.
@@ -116,20 +117,23 @@ module _ (d : Draft) (p : ℕ) (a : Act) (y : Begun) where
     where
       by : (b : Bool) → ltb k m ≡ b → After (cond b o (Outcome.refuse 5 p))
       by true e = h (ltb-true k m e)
-      by false e = λ five. (refl, f (omega (arith, ltb-false k m e)))
+      by false e = ((λ five. (refl, f (omega (arith, ltb-false k m e)))), (λ three. absurd (let z : 5 ≡ 3 = three in omega arith)))
 
   -- The other tests.
-  unless : (b : Bool) (n q : ℕ) (o : Outcome) → (n ≡ 5 → ⊥) → After o → After (cond b (Outcome.refuse n q) o)
-  unless true n q o l h = λ e. absurd (l e)
-  unless false n q o l h = h
+  other : (n q : ℕ) → 3 < n → (n ≡ 5 → ⊥) → After (Outcome.refuse n q)
+  other n q l h = ((λ five. absurd (h five)), (λ three. absurd (omega arith)))
 
-  provided : (b : Bool) (n q : ℕ) (o : Outcome) → (n ≡ 5 → ⊥) → After o → After (cond b o (Outcome.refuse n q))
-  provided true n q o l h = h
-  provided false n q o l h = λ e. absurd (l e)
+  unless : (b : Bool) (n q : ℕ) (o : Outcome) → 3 < n → (n ≡ 5 → ⊥) → After o → After (cond b (Outcome.refuse n q) o)
+  unless true n q o l g h = other n q l g
+  unless false n q o l g h = h
+
+  provided : (b : Bool) (n q : ℕ) (o : Outcome) → 3 < n → (n ≡ 5 → ⊥) → After o → After (cond b o (Outcome.refuse n q))
+  provided true n q o l g h = h
+  provided false n q o l g h = other n q l g
 
   resolved : (ms : List Mention) (o : Outcome) → After o → After (ifResolved ms o)
   resolved [] o h = h
-  resolved (m ∷ ms) o h = λ e. absurd (let z : 7 ≡ 5 = e in omega arith)
+  resolved (m ∷ ms) o h = other 7 (m .place) (omega arith) (λ e. omega arith)
 
 module _ (d : Draft) (p : ℕ) where
   after-beginFunction : Room outside (counts d) → After d p Act.beginFunction inFunction (beginFunction p d)
@@ -141,7 +145,7 @@ module _ (d : Draft) (p : ℕ) where
   unfolding nameFunction
   after-nameFunction n h =
       let k = length (d .functions) in
-      passes d p _ _ k maxFunctions _ (omega arith) (unless d p _ _ (ltb (functionNumber (d .functions) n) k) 6 p _ (λ e. omega arith) h)
+      passes d p _ _ k maxFunctions _ (omega arith) (unless d p _ _ (ltb (functionNumber (d .functions) n) k) 6 p _ (omega arith) (λ e. omega arith) h)
 
   after-beginRegister : Room inFunction (counts d) → After d p Act.beginRegister inRegister (beginRegister p d)
   unfolding beginRegister
@@ -153,7 +157,7 @@ module _ (d : Draft) (p : ℕ) where
   after-nameRegister k t n a h =
       let rs = d .function .registers in
       passes d p _ _ (length rs) maxRegisters _ (omega arith)
-      (unless d p _ _ (ltb (registerNumber (d .function) n) (length rs)) 6 p _ (λ e. omega arith)
+      (unless d p _ _ (ltb (registerNumber (d .function) n) (length rs)) 6 p _ (omega arith) (λ e. omega arith)
       (omega (arith, length-append rs (record { type = t; name = n } ∷ []))))
 
   after-beginBlock : Room inFunction (counts d) → After d p Act.beginBlock atBlock (beginBlock p d)
@@ -167,7 +171,7 @@ module _ (d : Draft) (p : ℕ) where
   after-nameBlock n h =
       let k = length (d .function .blocks) in
       passes d p _ _ k maxBlocks _ (omega arith)
-      (unless d p _ _ (ltb (blockNumber (d .function) n) k) 6 p _ (λ e. omega arith) (omega arith))
+      (unless d p _ _ (ltb (blockNumber (d .function) n) k) 6 p _ (omega arith) (λ e. omega arith) (omega arith))
 
   after-endBlock : Room inBlock (counts d) → After d p Act.endBlock inFunction (endBlock p d)
   unfolding endBlock
@@ -189,7 +193,7 @@ module _ (d : Draft) (p : ℕ) where
   after-setTarget n h =
       let r = registerNumber (d .function) n in
       begins d p _ _ (rowCount d) maxRows _ (omega (arith, rows-now d)) (Beyond.target n)
-      (λ e. provided d p _ _ (ltb r (length (d .function .registers))) 7 p _ (λ e. omega arith) (omega (arith, rows-now d)))
+      (λ e. provided d p _ _ (ltb r (length (d .function .registers))) 7 p _ (omega arith) (λ e. omega arith) (omega (arith, rows-now d)))
 
   after-setInstruction : (op m : ℕ) → m ≤ 2 → Room (inRow 2) (counts d) → After d p (Act.setInstruction op) (inRow m) (setInstruction op d)
   unfolding setInstruction
@@ -198,14 +202,14 @@ module _ (d : Draft) (p : ℕ) where
   after-addSource : (n : List ℕ) (m : ℕ) → Room (inRow m) (counts d) → After d p (Act.addSource n) (inRow m) (addSource n p d)
   unfolding addSource
   after-addSource n m h =
-      provided d p _ _ (ltb (registerNumber (d .function) n) (length (d .function .registers))) 7 p _ (λ e. omega arith) h
+      provided d p _ _ (ltb (registerNumber (d .function) n) (length (d .function .registers))) 7 p _ (omega arith) (λ e. omega arith) h
 
   after-addEntry : (n : List ℕ) (m : ℕ) → Room (inRow m) (counts d) → After d p (Act.addEntry n) (inRow m) (addEntry n p d)
   unfolding addEntry
   after-addEntry n m h =
       let r = registerNumber (d .function) n in
       begins d p _ _ (phiEntries d) maxEntries _ (omega (arith, entries-now d)) (Beyond.entry n)
-      (λ l. provided d p _ _ (ltb r (length (d .function .registers))) 7 p _ (λ e. omega arith)
+      (λ l. provided d p _ _ (ltb r (length (d .function .registers))) 7 p _ (omega arith) (λ e. omega arith)
       (omega (arith, entries-now d, length-append (d .parts .entries) (r ∷ []))))
 
   after-addMention : (n : List ℕ) (m : ℕ) → Room (inRow (suc m)) (counts d) → After d p (Act.addMention n) (inRow m) (addMention n p d)
@@ -216,7 +220,7 @@ module _ (d : Draft) (p : ℕ) where
 
   after-setNumber : (s : Bool) (v m : ℕ) → Room (inRow m) (counts d) → After d p (Act.setNumber s v) (inRow m) (setNumber s v p d)
   unfolding setNumber
-  after-setNumber s v m h = provided d p _ _ (inRange (loadType (d .parts .op)) s v) 4 p _ (λ e. omega arith) h
+  after-setNumber s v m h = provided d p _ _ (inRange (loadType (d .parts .op)) s v) 4 p _ (omega arith) (λ e. omega arith) h
 
   after-endInstruction : Room (inRow 0) (counts d) → After d p Act.endInstruction inBlock (endInstruction p d)
   unfolding endInstruction
@@ -230,7 +234,7 @@ module _ (d : Draft) (p : ℕ) where
   unfolding endFunction
   after-endFunction h =
       let f = d .function in
-      provided d p _ _ (ltb (blockNumber f []) (length (f .blocks))) 8 p _ (λ e. omega arith)
+      provided d p _ _ (ltb (blockNumber f []) (length (f .blocks))) 8 p _ (omega arith) (λ e. omega arith)
       (resolved d p _ _ (undeclared f (d .mentions)) _
       (passes d p _ _ (length (d .functions)) maxFunctions _ (omega arith)
       (omega (arith, length-append (d .functions) (resolve f (d .mentions) ∷ [])))))
@@ -238,7 +242,7 @@ module _ (d : Draft) (p : ℕ) where
 -- Every act of the grammar.
 after-perform : {a : Act} {x y : Begun} → Moves a x y → (d : Draft) (p : ℕ) → Room x (counts d) → After d p a y (perform a p d)
 unfolding perform markSsa setResult
-after-perform Moves.wrong d p h = λ e. absurd (let z : 3 ≡ 5 = e in omega arith)
+after-perform Moves.wrong d p h = ((λ five. absurd (let z : 3 ≡ 5 = five in omega arith)), (λ three. (refl, refl)))
 after-perform Moves.pass d p h = h
 after-perform Moves.beginFunction d p h = after-beginFunction d p h
 after-perform Moves.markSsa d p h = h
@@ -296,20 +300,35 @@ beyond-refused {d} (Beyond.instruction op e) p = rw (le-ltb (rowCount d) maxRows
 beyond-refused {d} (Beyond.target n e) p = rw (le-ltb (rowCount d) maxRows (omega arith))
 beyond-refused {d} (Beyond.entry n e) p = rw (le-ltb (phiEntries d) maxEntries (omega arith))
 
--- A 5 that an act gives is placed at its token, the first of the item beyond.
-refused-beyond : (d : Draft) (q : ℕ) (a : Act) (y : Begun) (o : Outcome) → After d q a y o → (p : ℕ) → o ≡ Outcome.refuse 5 p → (p ≡ q) × Beyond d a
-refused-beyond d q a y (Outcome.refuse n r) h p e =
-    let five : n ≡ 5 = cc in
-    let same : p ≡ r = cc in
-    (same ∙ h five .0, h five .1)
-refused-beyond d q a y (Outcome.proceed e) h p k = absurd (let z : _≡_ {A = ℕ} 0 1 = cc in omega arith)
+-- A 5 that an act gives is placed at its token, the first of the item beyond; a 3 likewise, and the token is wrong.
+module _ (d : Draft) (q : ℕ) (a : Act) (y : Begun) where
+  given-beyond : (o : Outcome) → After d q a y o → (p : ℕ) → o ≡ Outcome.refuse 5 p → (p ≡ q) × Beyond d a
+  given-beyond (Outcome.refuse n r) h p e =
+      let five : n ≡ 5 = cc in
+      let same : p ≡ r = cc in
+      (same ∙ h .0 five .0, h .0 five .1)
+  given-beyond (Outcome.proceed e) h p k = absurd (let z : _≡_ {A = ℕ} 0 1 = cc in omega arith)
+
+  given-wrong : (o : Outcome) → After d q a y o → (p : ℕ) → o ≡ Outcome.refuse 3 p → (p ≡ q) × (a ≡ Act.wrong)
+  given-wrong (Outcome.refuse n r) h p e =
+      let three : n ≡ 3 = cc in
+      let same : p ≡ r = cc in
+      (same ∙ h .1 three .0, h .1 three .1)
+  given-wrong (Outcome.proceed e) h p k = absurd (let z : _≡_ {A = ℕ} 0 1 = cc in omega arith)
+
+module _ {text : List ℕ} {n p : ℕ} (b : By text n p) where
+  after-by : After (b .draft) (b .place) (gram (b .stage) (b .token) .act) (begunAt (gram (b .stage) (b .token) .stage)) (perform (gram (b .stage) (b .token) .act) (b .place) (b .draft))
+  after-by = after-perform (moves (b .stage) (b .token) .moves) (b .draft) (b .place) (room-reached (b .reached))
+
+pub refused-beyond : {text : List ℕ} {p : ℕ} (b : By text 5 p) → (p ≡ b .place) × Beyond (b .draft) (gram (b .stage) (b .token) .act)
+refused-beyond {p} b = given-beyond _ _ _ _ _ (after-by b) p (b .refuses)
+
+pub refused-wrong : {text : List ℕ} {p : ℕ} (b : By text 3 p) → (p ≡ b .place) × (gram (b .stage) (b .token) .act ≡ Act.wrong)
+refused-wrong {p} b = given-wrong _ _ _ _ _ (after-by b) p (b .refuses)
 
 pub five-beyond : FiveBeyond
 unfolding FiveBeyond
 five-beyond text p = ((λ e. first (refused-by text 5 p (lit≤ tt) e)), (λ r. refuses-text (r .3) (beyond-refused (r .4) p)))
   where
     first : By text 5 p → (s : Stage) × (d : Draft) × (t : Token) × Reaches text p s d t × Beyond d (gram s t .act)
-    first b =
-        let m = moves (b .stage) (b .token) .moves in
-        let h = refused-beyond (b .draft) (b .place) _ _ _ (after-perform m (b .draft) (b .place) (room-reached (b .reached))) p (b .refuses) in
-        (b .stage, b .draft, b .token, rw (h .0) (b .reached), h .1)
+    first b = let h = refused-beyond b in (b .stage, b .draft, b .token, rw (h .0) (b .reached), h .1)

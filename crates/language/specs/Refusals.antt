@@ -1,7 +1,7 @@
 -- What is claimed of the answers 5 and 3 of reading, of every text: in which case they are given, and where (document 01,
 -- "Numbers we answer").
 -- Assumes nothing.
-use mathlib.Core.List.{List, _∷_, _++_, foldl}
+use mathlib.Core.List.{List, [], _∷_, _++_, foldl}
 use mathlib.Core.Path.{_≡_}
 use mathlib.Core.Logic.{_↔_}
 use Prim.Native.Nat.{ℕ, _≤_}
@@ -36,3 +36,21 @@ unfoldable pub FiveBeyond : Type 0
 FiveBeyond =
     (text : List ℕ) (p : ℕ)
     → (read text ≡ Reading.refused 5 p) ↔ ((s : Stage) × (d : Draft) × (t : Token) × Reaches text p s d t × Beyond d (gram s t .act))
+
+-- These tokens lead the grammar from a stage to the end of a text: each of them is allowed where it comes, and the end comes
+-- last, between functions.
+pub data Leads : Stage → List Token → Type 0 where
+  end : Leads Stage.top (Token.end ∷ [])
+  token :
+      {s : Stage} {t : Token} {ts : List Token}
+      → ¬ (t ≡ Token.end) → ¬ (gram s t .act ≡ Act.wrong) → Leads (gram s t .stage) ts → Leads s (t ∷ ts)
+
+-- No stage is a dead end: from each some tokens lead on.
+unfoldable pub EveryStageLeads : Type 0
+EveryStageLeads = (s : Stage) → (ts : List Token) × Leads s ts
+
+-- "3 | token not allowed here, end included | byte": with this token, as the first, the text so far cannot be continued.
+unfoldable pub ThreeStuck : Type 0
+ThreeStuck =
+    (text : List ℕ) (p : ℕ)
+    → (read text ≡ Reading.refused 3 p) ↔ ((s : Stage) × (d : Draft) × (t : Token) × Reaches text p s d t × ¬ ((ts : List Token) × Leads s (t ∷ ts)))
