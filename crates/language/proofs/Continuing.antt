@@ -1,26 +1,21 @@
--- From every stage some tokens lead to the end of a text, so that a token which is allowed can always be continued, and 3 comes at
--- the first that cannot.
+-- From every stage some tokens lead to the end of a text, so that a token which is allowed can always be continued.
 -- Assumes nothing.
 use mathlib.Core.Bool.{false}
 use mathlib.Core.List.{List, [], _∷_}
 use mathlib.Core.Path.{_≡_, refl}
 use Prim.Native.Nat.{ℕ, zero, suc, _+_}
 use native.Mathlib.Omega.{arith}
-use lib.Dec.{lit≤}
 use Rattle.language.specs.Bytes.{bytesOf, leftParen, rightParen, leftBrace, rightBrace, comma, semicolon, equals}
 use Rattle.language.specs.Words.{voidWord, firstType, firstInstruction}
 use Rattle.language.specs.Instructions.{Operand, formOf}
 use Rattle.language.specs.Tokens.{Token}
 use Rattle.language.specs.Grammar.{Stage, Act, afterSources, afterWord, inOperand, wordWithTarget, wordAlone, gram}
-use Rattle.language.specs.Reading.{Draft, Outcome, perform}
-use Rattle.language.specs.Refusals.{Reaches, Leads, EveryStageLeads, ThreeStuck}
-use Rattle.language.proofs.FirstRefusal.{By, refused-by, refuses-text}
-use Rattle.language.proofs.Rooms.{refused-wrong}
+use Rattle.language.specs.Refusals.{Leads, EveryStageLeads}
 
 clash : _≡_ {A = ℕ} 0 1 → ⊥
 clash e = omega arith
 
-wrong? : (a : Act) → Dec (a ≡ Act.wrong)
+pub wrong? : (a : Act) → Dec (a ≡ Act.wrong)
 wrong? Act.wrong = yes refl
 wrong? Act.pass = no (λ e. clash cc)
 wrong? Act.beginFunction = no (λ e. clash cc)
@@ -215,7 +210,7 @@ every-stage-leads (Stage.mentionComma k) = by-mark (Stage.mentionComma k) comma 
 every-stage-leads Stage.operandEnd = lead-operandEnd
 every-stage-leads Stage.instructionEnd = lead-end
 
--- ---- 3
+-- ---- tokens that are allowed
 
 -- The end is allowed between functions alone.
 end-at-top : (s : Stage) → ¬ (gram s Token.end .act ≡ Act.wrong) → Leads s (Token.end ∷ [])
@@ -253,7 +248,7 @@ end-at-top Stage.operandEnd w = absurd (w refl)
 end-at-top Stage.instructionEnd w = absurd (w refl)
 
 -- A token that is allowed can be continued, and only such a one.
-allowed-leads : (s : Stage) (t : Token) → ¬ (gram s t .act ≡ Act.wrong) → (ts : List Token) × Leads s (t ∷ ts)
+pub allowed-leads : (s : Stage) (t : Token) → ¬ (gram s t .act ≡ Act.wrong) → (ts : List Token) × Leads s (t ∷ ts)
 unfolding EveryStageLeads
 allowed-leads s t w = by (end? t)
   where
@@ -261,21 +256,7 @@ allowed-leads s t w = by (end? t)
     by (yes e) = ([], rw e (end-at-top s (rw e at w)))
     by (no e) = let h = every-stage-leads (gram s t .stage) in (h .0, Leads.token e w (h .1))
 
-leads-allowed : {s : Stage} {t : Token} {ts : List Token} → Leads s (t ∷ ts) → ¬ (gram s t .act ≡ Act.wrong)
+pub leads-allowed : {s : Stage} {t : Token} {ts : List Token} → Leads s (t ∷ ts) → ¬ (gram s t .act ≡ Act.wrong)
 unfolding gram
 leads-allowed Leads.end = λ e. clash cc
 leads-allowed (Leads.token n w h) = w
-
-wrong-refused : {a : Act} → a ≡ Act.wrong → (d : Draft) (p : ℕ) → perform a p d ≡ Outcome.refuse 3 p
-unfolding perform
-wrong-refused e d p = rw e
-
-pub three-stuck : ThreeStuck
-unfolding ThreeStuck
-three-stuck text p = ((λ e. first (refused-by text 3 p (lit≤ tt) e)), (λ r. refuses-text (r .3) (wrong-refused (stuck (r .0) (r .2) (r .4)) (r .1) p)))
-  where
-    first : By text 3 p → (s : Stage) × (d : Draft) × (t : Token) × Reaches text p s d t × ¬ ((ts : List Token) × Leads s (t ∷ ts))
-    first b = let h = refused-wrong b in (b .stage, b .draft, b .token, rw (h .0) (b .reached), λ l. leads-allowed (l .1) (h .1))
-
-    stuck : (s : Stage) (t : Token) → ¬ ((ts : List Token) × Leads s (t ∷ ts)) → gram s t .act ≡ Act.wrong
-    stuck s t n = elim (wrong? (gram s t .act)) [ yes e ↦ e | no w ↦ absurd (n (allowed-leads s t w)) ]

@@ -6,13 +6,13 @@ use Prim.Native.Nat.{ℕ, _≤_, _<_}
 use native.Mathlib.Omega.{arith}
 use native.Mathlib.Decide.{decLt}
 use lib.ListN.{length}
-use borrow.Author.Tests.{lt-ltb}
 use Rattle.language.specs.Programs.{maxText}
 use Rattle.language.specs.Tokens.{Token, Found, tokensOf}
 use Rattle.language.specs.Grammar.{Stage, gram}
 use Rattle.language.specs.Reading.{Draft, Outcome, Parse, Reading, perform, onward, take, parse₀, finish, read}
 use Rattle.language.specs.Refusals.{Reaches}
 use Rattle.language.proofs.ReadingLaws.{refusal-stands, read-by-tokens}
+use Rattle.language.proofs.SizeFacts.{text-too-long}
 
 -- Of what is found after a parse, the first that is refused.
 record Refused (x : Parse) (found : List Found) (n p : ℕ) : Type 0 where
@@ -76,7 +76,7 @@ pub record By (text : List ℕ) (n p : ℕ) : Type 0 where
 
 -- an answer other than 1 and 2 is given by an act
 pub refused-by : (text : List ℕ) (n p : ℕ) → 2 < n → read text ≡ Reading.refused n p → By text n p
-unfolding read take
+unfolding take
 refused-by text n p l e = by (decLt maxText (length text))
   where
     of : length text ≤ maxText → (r : Refused parse₀ (tokensOf text) n p) → (f : Found) → r .first ≡ f → By text n p
@@ -95,7 +95,7 @@ refused-by text n p l e = by (decLt maxText (length text))
 
     by : Dec (maxText < length text) → By text n p
     by (yes h) =
-        let z : Reading.refused 1 0 ≡ Reading.refused n p = rw (lt-ltb maxText (length text) h) at e in
+        let z : Reading.refused 1 0 ≡ Reading.refused n p = sym (text-too-long text h) ∙ e in
         absurd (let m : 1 ≡ n = cc in omega arith)
     by (no h) =
         let m : length text ≤ maxText = omega arith in

@@ -7,7 +7,7 @@ use mathlib.Core.Path.{_≡_, refl, sym, ap, subst, _∙_}
 use Prim.Native.Nat.{ℕ, suc, _+_, _*_, _≤_, _<_}
 use native.Mathlib.Nat.{zero-add}
 use native.Mathlib.Omega.{arith}
-use lib.Dec.{ltb, lit≤}
+use lib.Dec.{ltb}
 use lib.ListN.{length, length-append}
 use borrow.Author.Tests.{ltb-true, ltb-false, lt-ltb, le-ltb}
 use Rattle.laws.specs.Lists.{gather, sum}
@@ -17,9 +17,9 @@ use Rattle.language.specs.Programs.{Row, Func, rowsOf, entryCount, entri
 use Rattle.language.specs.Tokens.{Token, Found}
 use Rattle.language.specs.Grammar.{Stage, Act, gram}
 use Rattle.language.specs.Reading.{Parts, Mention, Draft, Outcome, Parse, openFunction, rowCount, phiEntries, functionNumber, registerNumber, blockNumber, inRange, rowAs, rowOf, undeclared, resolve, maxMentions, ifRoom, ifResolved, beginFunction, markSsa, setResult, nameFunction, beginRegister, nameRegister, beginBlock, nameBlock, endBlock, beginInstruction, setTarget, setInstruction, addSource, addEntry, addMention, setNumber, endInstruction, endFunction, perform, onward, take, parse₀}
-use Rattle.language.specs.Refusals.{Reaches, Beyond, FiveBeyond}
-use Rattle.language.proofs.Begun.{Begun, outside, inFunction, inRegister, atBlock, inBlock, inRow, begunAt, Moves, moves}
-use Rattle.language.proofs.FirstRefusal.{By, refused-by, refuses-text}
+use Rattle.language.specs.Refusals.{Reaches, Beyond}
+use Rattle.language.proofs.Stages.{Begun, outside, inFunction, inRegister, atBlock, inBlock, inRow, begunAt, Moves, moves}
+use Rattle.language.proofs.FirstRefusal.{By}
 
 -- ---- rows and phi entries of a draft
 
@@ -288,10 +288,10 @@ after-all x h (f ∷ fs) = after-all (take x f) (after-take x h f) fs
 pub room-reached : {text : List ℕ} {p : ℕ} {s : Stage} {d : Draft} {t : Token} → Reaches text p s d t → Room (begunAt s) (counts d)
 room-reached r = subst Holds (r .stands) (after-all parse₀ (omega arith) (r .before))
 
--- ---- 5
+-- ---- refusals
 
 -- An item beyond is refused at its first token.
-beyond-refused : {d : Draft} {a : Act} → Beyond d a → (p : ℕ) → perform a p d ≡ Outcome.refuse 5 p
+pub beyond-refused : {d : Draft} {a : Act} → Beyond d a → (p : ℕ) → perform a p d ≡ Outcome.refuse 5 p
 unfolding perform beginFunction beginRegister beginBlock beginInstruction setTarget addEntry
 beyond-refused {d} (Beyond.function e) p = rw (le-ltb (length (d .functions)) maxFunctions (omega arith))
 beyond-refused {d} (Beyond.register e) p = rw (le-ltb (length (d .function .registers)) maxRegisters (omega arith))
@@ -325,10 +325,3 @@ refused-beyond {p} b = given-beyond _ _ _ _ _ (after-by b) p (b .refuses)
 
 pub refused-wrong : {text : List ℕ} {p : ℕ} (b : By text 3 p) → (p ≡ b .place) × (gram (b .stage) (b .token) .act ≡ Act.wrong)
 refused-wrong {p} b = given-wrong _ _ _ _ _ (after-by b) p (b .refuses)
-
-pub five-beyond : FiveBeyond
-unfolding FiveBeyond
-five-beyond text p = ((λ e. first (refused-by text 5 p (lit≤ tt) e)), (λ r. refuses-text (r .3) (beyond-refused (r .4) p)))
-  where
-    first : By text 5 p → (s : Stage) × (d : Draft) × (t : Token) × Reaches text p s d t × Beyond d (gram s t .act)
-    first b = let h = refused-beyond b in (b .stage, b .draft, b .token, rw (h .0) (b .reached), h .1)
