@@ -2,17 +2,17 @@
 -- "Order: 1 first; then the earliest byte, lowest number there." Tokens come in the order of their bytes, so the first answer
 -- given stands; at one token the tests come in the order of their numbers.
 --
---   No.  Place                                     Given by
---   1    0                                         read
---   2    the first byte of what is no token        take, where a place has none
---   3    the token, the end included               perform, of a token that is wrong
---   4    the number                                setNumber
---   5    the first token of the item beyond        ifRoom, in beginFunction, beginRegister, beginBlock, beginInstruction,
---                                                  setTarget and addEntry
---   6    the name declared again, or `entry`       ifNew
---   7    the register's name                       ifDeclared
---        the first mention of a block not declared ifResolved
---   8    the function's closing brace              ifEntry
+--   No.  Place                                      Given by
+--   1    0                                          read
+--   2    the first byte of what is no token         take, of a place that has none
+--   3    the token, the end included                perform, of a token that is wrong
+--   4    the number                                 setNumber
+--   5    the first token of the item beyond         ifRoom, in beginFunction, beginRegister, beginBlock,
+--                                                   beginInstruction, setTarget and addEntry
+--   6    the name declared again, or `entry`        ifNew
+--   7    the name that is no register's             ifDeclared
+--        the first mention of a block not declared  ifResolved, at the function's closing brace
+--   8    the function's closing brace               ifEntry
 --
 -- What is claimed of 3 and 5, of every text, is in Refusals.
 -- Assumes nothing.
