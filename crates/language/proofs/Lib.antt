@@ -6,6 +6,11 @@ pub mod TokenFacts
 pub mod ReadingFacts
 pub mod SizeFacts
 pub mod ReadingLaws
+pub mod Continuing
+pub mod FirstRefusal
+pub mod Stages
+pub mod Rooms
+pub mod Refusals
 pub mod NameLaws
 pub mod SpelledNames
 pub mod TableFacts

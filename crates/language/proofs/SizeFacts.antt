@@ -51,6 +51,6 @@ unfolding reads
 entries = refl
 
 -- "1 | text too long | 0", of every text
-text-too-long : (text : List ℕ) → maxText < length text → read text ≡ Reading.refused 1 0
+pub text-too-long : (text : List ℕ) → maxText < length text → read text ≡ Reading.refused 1 0
 unfolding read
 text-too-long text h = rw (lt-ltb maxText (length text) h)

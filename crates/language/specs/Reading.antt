@@ -1,6 +1,20 @@
 -- Reading a text: its program, or one of the answers 1 to 8 with its place (document 01, "Numbers we answer").
 -- "Order: 1 first; then the earliest byte, lowest number there." Tokens come in the order of their bytes, so the first answer
 -- given stands; at one token the tests come in the order of their numbers.
+--
+--   No.  Place                                      Given by
+--   1    0                                          read
+--   2    the first byte of what is no token         take, of a place that has none
+--   3    the token, the end included                perform, of a token that is wrong
+--   4    the number                                 setNumber
+--   5    the first token of the item beyond         ifRoom, in beginFunction, beginRegister, beginBlock,
+--                                                   beginInstruction, setTarget and addEntry
+--   6    the name declared again, or `entry`        ifNew
+--   7    the name that is no register's             ifDeclared
+--        the first mention of a block not declared  ifResolved, at the function's closing brace
+--   8    the function's closing brace               ifEntry
+--
+-- What is claimed of 3 and 5, of every text, is in Refusals.
 -- Assumes nothing.
 use mathlib.Core.Bool.{Bool, true, cond}
 use mathlib.Core.List.{List, [], _∷_, _++_, map, foldl}
@@ -91,7 +105,7 @@ pub data Outcome : Type 0 where
   proceed : (draft : Draft) → Outcome
 
 -- 5, unless there is room for one more. It is tested at "the first token of the item beyond", and again where the item is put
--- down: there it should never be the first to fail, and shows that no list outgrows its size.
+-- down: there it never fails (Refusals.FiveBeyond), and shows that no list outgrows its size.
 abbrev pub ifRoom : (count limit place : ℕ) → Outcome → Outcome
 ifRoom k m p o = cond (ltb k m) o (refuse 5 p)
 

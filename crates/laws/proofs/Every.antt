@@ -73,6 +73,15 @@ module _ {A : Type 0} {P : A → Type 0} where
       case true q r = more (q tt) r
       case false q r = r
 
+  -- of the images of the elements that pass a test: it holds of the image of each that passes
+  pub kept-images : {B : Type 0} (t : B → Bool) (g : B → A) (ys : List B) → Every P (map g (keep t ys)) → Every (λ y. T (t y) → P (g y)) ys
+  kept-images t g [] h = none
+  kept-images {B} t g (y ∷ ys) h = let r = case (t y) h in more (r .0) (kept-images t g ys (r .1))
+    where
+      case : (b : Bool) → Every P (map g (cond b (y ∷ keep t ys) (keep t ys))) → (T b → P (g y)) × Every P (map g (keep t ys))
+      case true (more p h) = (λ u. p, h)
+      case false h = (λ u. absurd u, h)
+
   -- of the lists that are gathered
   pub every-gather : {B : Type 0} (g : B → List A) {ys : List B} → Every (λ y. Every P (g y)) ys → Every P (gather g ys)
   every-gather g none = none

@@ -13,6 +13,7 @@ pub mod Modulo
 pub mod OneMore
 pub mod Positions
 pub mod Ranges
+pub mod Rising
 pub mod Searching
 pub mod Sections
 pub mod Storing

@@ -22,7 +22,7 @@ use Rattle.language.specs.Running.{phisOf, phiTarget}
 use Rattle.language.specs.Translating.{phiBlocks, edgesTo, keptBlock, registerFor, translation, translationFits}
 use Rattle.theorems.specs.Clean.{Clean}
 use Rattle.theorems.proofs.Size.{size-registers, size-blocks, size-rows}
-use Rattle.theorems.proofs.AcceptanceCheck.{clean-of-check, check-of-clean, Sound, sound-parts, parts-sound, in-blocks, passes}
+use Rattle.theorems.proofs.AcceptanceCheck.{clean-of-check, alone-accepted, Sound, sound-parts, parts-sound, in-blocks, passes}
 use Rattle.theorems.proofs.AcceptanceRows.{phi-only, entries-none, range-parts, parts-range, Ended, ended-at, ended-filled}
 use Rattle.theorems.proofs.AcceptanceNumbers.{block-lt}
 use Rattle.theorems.proofs.AcceptanceBlocks.{Fine, every-block, every-edge, blocks-fine, rows-plain}
@@ -277,4 +277,4 @@ pub accepted-translation :
     → (let f = getD p i noFunction in T (isSsa f) → T (translationFits f) → check (translation f ∷ []) ≡ Verdict.accepted)
 accepted-translation p i e l m h =
     let f = getD p i noFunction in
-    check-of-clean (translation f) (clean-translation f (clean-of-check p i e l) m h)
+    alone-accepted (translation f) (clean-translation f (clean-of-check p i e l) m h)

@@ -7,18 +7,20 @@ use Prim.Native.Nat.{ℕ, zero, suc, _+_, _≤_, _<_, suc-le-suc}
 use native.Mathlib.Nat.{not-suc-le-zero, le-of-suc-le-suc, zero-add, add-zero, zero-lt-suc, add-suc, suc-add}
 use native.Mathlib.Omega.{arith}
 use native.Mathlib.Decide.{decLt}
-use lib.Dec.{T, leb, ltb, leb→le, le→leb, lit<}
+use lib.Dec.{T, ltb, leb→le, le→leb, lit<, lit≤}
 use lib.Ieee.Bits.{is-true}
 use lib.Ieee.Fits.{and-l, and-r, and-i}
 use lib.ListN.{length, getD, List·getD-eq-default}
 use Rattle.laws.specs.Lists.{any, all, keep, gather, below, empty, same}
 use Rattle.laws.proofs.Tests.{not-is-false}
 use Rattle.laws.proofs.Every.{Every, none, more, every-at, every-imp, every-gather, every-gathered, every-below, every-below-at, every-all, every-none, none-every, every-kept, kept-every, every-empty, empty-every}
-use Rattle.language.specs.Programs.{Row, Func, Program, noFunction, noBlock, maxRegisters, maxBlocks, maxRows, maxEntries, entryCount, blockAt, rowsAt, rowsOf, firstRow, maxFunctions}
-use Rattle.language.specs.Checking.{Spot, spotAt, spotsFrom, spotsIn, spotsOf, inRange, breaks9, breaks10, breaks11, breaks12, breaks13, breaks14, breaks15, breaks16, breaks17, rowTests, breaksRow, Verdict, rowsThat, faults10, faults, firstFault, sizesRight, numbersRight, entryRight, namesRight, sound, judge, judgeFrom, check, rowNumber, spelledOrNone, distinct}
+use Rattle.language.specs.Programs.{Row, Func, Program, noBlock, maxRegisters, maxBlocks, maxRows, maxEntries, entryCount, blockAt, rowsAt, rowsOf, firstRow, maxFunctions}
+use Rattle.language.specs.Checking.{Spot, spotAt, spotsFrom, spotsIn, spotsOf, inRange, breaks9, breaks10, breaks11, breaks12, breaks13, breaks14, breaks15, breaks16, breaks17, rowTests, breaksRow, Verdict, rowsThat, faults10, faults, firstFault, sizesRight, numbersRight, entryRight, namesRight, sound, judge, check, rowNumber, spelledOrNone, distinct}
 use Rattle.language.specs.Instructions.{typeCount, void}
 use Rattle.language.specs.Names.{spelled}
 use Rattle.theorems.specs.Clean.{Clean}
+use Rattle.theorems.specs.Accepted.{functionIn, namesBefore}
+use Rattle.theorems.proofs.Judged.{accepted-each, each-accepted}
 
 -- ---- one row
 
@@ -85,7 +87,7 @@ in-blocks f b j l = elim (decLt b (length (f .blocks))) [ yes h ↦ h | no h ↦
         not-suc-le-zero (subst (λ k. j < length (k .rows)) (List·getD-eq-default (f .blocks) noBlock {n = b} (omega arith)) l)
 
 -- The spots of one block, from place k on.
-spots-from :
+pub spots-from :
     {P : Spot → Type 0} (b k : ℕ) (rows : List Row)
     → Every P (spotsFrom b k rows)
     → (j : ℕ)
@@ -95,7 +97,7 @@ spots-from b k [] h j l = absurd (not-suc-le-zero l)
 spots-from b k (r ∷ rs) (more p h) zero l = rw add-zero p
 spots-from b k (r ∷ rs) (more p h) (suc j) l = rw (add-suc, ← suc-add) (spots-from b (suc k) rs h j (le-of-suc-le-suc l))
 
-from-spots :
+pub from-spots :
     {P : Spot → Type 0} (b k : ℕ) (rows : List Row)
     → ((j : ℕ) → j < length rows → P (record { block = b; index = k + j; row = getD rows j Row.nop }))
     → Every P (spotsFrom b k rows)
@@ -277,49 +279,43 @@ pub tested : (b : Bool) (v : Verdict) (k r : ℕ) → cond b v (Verdict.refused 
 tested true v k r e = (tt, e)
 tested false v k r e = absurd (let z : _≡_ {A = ℕ} 0 1 = cc in omega arith)
 
-both-accepted :
-    (v w : Verdict)
-    → elim v [ Verdict.accepted ↦ w | Verdict.refused k r ↦ Verdict.refused k r ] ≡ Verdict.accepted
-    → (v ≡ Verdict.accepted) × (w ≡ Verdict.accepted)
-both-accepted Verdict.accepted w e = (refl, e)
-both-accepted (Verdict.refused k r) w e = absurd (let z : _≡_ {A = ℕ} 0 1 = cc in omega arith)
-
 clean-of-judge : (names : List (List ℕ)) (i : ℕ) (f : Func) → judge names i f ≡ Verdict.accepted → Clean f
 unfolding judge
 clean-of-judge names i f e =
     let p = tested (sound names f) (firstFault i 10 (faults f)) 9 i e in
     clean-of-faults f (sound-parts names f (p .0)) (no-faults i 10 (faults f) (p .1))
 
--- ---- the whole check
-
-clean-of-judges :
-    (names : List (List ℕ)) (n : ℕ) (fs : List Func)
-    → judgeFrom names n fs ≡ Verdict.accepted
-    → (i : ℕ)
-    → i < length fs
-    → Clean (getD fs i noFunction)
-unfolding judgeFrom
-clean-of-judges names n [] e i l = absurd (not-suc-le-zero l)
-clean-of-judges names n (f ∷ fs) e zero l =
-    clean-of-judge names n f (both-accepted (judge names n f) (judgeFrom (f .name ∷ names) (suc n) fs) e .0)
-clean-of-judges names n (f ∷ fs) e (suc i) l =
-    let rest = both-accepted (judge names n f) (judgeFrom (f .name ∷ names) (suc n) fs) e .1 in
-    clean-of-judges (f .name ∷ names) (suc n) fs rest i (le-of-suc-le-suc l)
-
--- Every function of a program that is accepted is clean.
-pub clean-of-check : (p : Program) (i : ℕ) → check p ≡ Verdict.accepted → i < length p → Clean (getD p i noFunction)
-unfolding check
-clean-of-check p i e l = clean-of-judges [] zero p (tested (leb (length p) maxFunctions) (judgeFrom [] zero p) 9 0 e .1) i l
-
-judge-of-clean : (i : ℕ) (f : Func) → Clean f → judge [] i f ≡ Verdict.accepted
+judge-of-clean : (names : List (List ℕ)) (i : ℕ) (f : Func) → T (sound names f) → Clean f → judge names i f ≡ Verdict.accepted
 unfolding judge
-judge-of-clean i f c =
-    ap (λ b. cond b (firstFault i 10 (faults f)) (Verdict.refused 9 i)) (is-true (sound [] f) (c .head))
+judge-of-clean names i f h c =
+    ap (λ b. cond b (firstFault i 10 (faults f)) (Verdict.refused 9 i)) (is-true (sound names f) h)
     ∙ faults-none i 10 (faults f) (faults-of-clean f c)
 
+-- ---- the whole check
+
+-- A program is accepted exactly if it has no more functions than it may, and each is clean and has a name of its own.
+pub clean-of-check : (p : Program) (i : ℕ) → check p ≡ Verdict.accepted → i < length p → Clean (functionIn p i)
+clean-of-check p i e l = clean-of-judge (namesBefore p i) i (functionIn p i) (accepted-each p e .1 i l)
+
+pub sound-of-check : (p : Program) (i : ℕ) → check p ≡ Verdict.accepted → i < length p → T (sound (namesBefore p i) (functionIn p i))
+unfolding judge
+sound-of-check p i e l =
+    let f = functionIn p i in
+    tested (sound (namesBefore p i) f) (firstFault i 10 (faults f)) 9 i (accepted-each p e .1 i l) .0
+
+pub check-of-clean :
+    (p : Program)
+    → length p ≤ maxFunctions
+    → ((i : ℕ) → i < length p → T (sound (namesBefore p i) (functionIn p i)))
+    → ((i : ℕ) → i < length p → Clean (functionIn p i))
+    → check p ≡ Verdict.accepted
+check-of-clean p h s c = each-accepted p h (λ i l. judge-of-clean (namesBefore p i) i (functionIn p i) (s i l) (c i l))
+
 -- A clean function alone is accepted.
-pub check-of-clean : (f : Func) → Clean f → check (f ∷ []) ≡ Verdict.accepted
-unfolding check judgeFrom
-check-of-clean f c =
-    ap (λ v. elim v as (λ x. Verdict) [ Verdict.accepted ↦ Verdict.accepted | Verdict.refused k r ↦ Verdict.refused k r ])
-    (judge-of-clean zero f c)
+pub alone-accepted : (f : Func) → Clean f → check (f ∷ []) ≡ Verdict.accepted
+alone-accepted f c =
+    check-of-clean (f ∷ []) (lit≤ tt) (λ i l. first i l (λ i. T (sound (namesBefore (f ∷ []) i) (functionIn (f ∷ []) i))) (c .head))
+    (λ i l. first i l (λ i. Clean (functionIn (f ∷ []) i)) c)
+  where
+    first : (i : ℕ) → i < 1 → (P : ℕ → Type 0) → P 0 → P i
+    first i l P h = subst P (let e : _≡_ {A = ℕ} 0 i = omega arith in e) h

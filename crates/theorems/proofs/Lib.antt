@@ -6,8 +6,12 @@ pub mod TableZero
 pub mod Table
 pub mod TableIgnored
 pub mod TableView
+pub mod Judged
 pub mod AcceptanceCheck
+pub mod Accepted
 pub mod Spots
+pub mod FirstBroken
+pub mod Refused
 pub mod Size
 pub mod AcceptanceRows
 pub mod AcceptanceNumbers

@@ -4,14 +4,14 @@ use mathlib.Core.Path.{_≡_, refl, sym, ap, subst, subst⁻¹, _∙_}
 use mathlib.Core.Bool.{Bool, true, false, cond}
 use mathlib.Core.List.{List, [], _∷_, _++_, map, foldl, map-append, append-assoc, append-nil}
 use Prim.Native.Nat.{ℕ, _+_, _-_, _^_, _≤_, _<_}
-use native.Mathlib.Nat.{mod-lt, lt-of-lt-of-le, zero-add}
+use native.Mathlib.Nat.{mod-lt, lt-of-lt-of-le}
 use native.Mathlib.Omega.{arith}
 use native.Mathlib.Decide.{decLt}
 use lib.Dec.{T, ltb, lit<, lit≤}
 use lib.ListN.{length, length-append, length-map}
 use lib.Pow.{pow-mono, pow-pos}
-use borrow.Author.Tests.{ltb-true, lt-ltb}
-use Rattle.laws.specs.Lists.{gather, sum, same}
+use borrow.Author.Tests.{ltb-true}
+use Rattle.laws.specs.Lists.{gather, same}
 use Rattle.laws.specs.Sections.{Bytes}
 use Rattle.laws.proofs.Every.{Every, none, more, every-append, every-left, every-at, every-map, every-all}
 use Rattle.laws.proofs.Positions.{position-le}
@@ -25,6 +25,8 @@ use Rattle.language.specs.Reading.{Parts, Mention, Draft, Outcome, Parse, Readi
 use Rattle.language.proofs.NameLaws.{isSpelled, names-spelled}
 use Rattle.language.proofs.ReadingLaws.{read-by-tokens}
 use Rattle.theorems.specs.Statements.{ReadBack}
+use Rattle.language.proofs.Rooms.{closed, entriesIn, entries-append, open-rows, row-entries}
+use Rattle.language.proofs.SizeFacts.{text-too-long}
 use Rattle.theorems.specs.TableLaw.{numberOf, NameFits, RegisterFits, RowFits, FunctionFits, Fits}
 use Rattle.theorems.proofs.Table.{table}
 use Rattle.theorems.proofs.TableSound.{spelled-fits, width-most}
@@ -48,15 +50,9 @@ record PartsFit (x : Parts) : Type 0 where
   entries : Bytes (x .entries)
   number : x .number < 2 ^ 64
 
--- The rows of the closed blocks, and of these and the block in hand; how many phi entries rows have.
-abbrev closed : Func → List Row
-closed f = gather (λ b. b .rows) (f .blocks)
-
+-- The rows of the closed blocks and the block in hand.
 abbrev rowsIn : Draft → List Row
 rowsIn d = closed (d .function) ++ d .block .rows
-
-abbrev entriesIn : List Row → ℕ
-entriesIn rs = sum (map (λ r. length (entriesOf r)) rs)
 
 record FunctionHeld (f : Func) : Type 0 where
   name : NameFits (f .name)
@@ -82,17 +78,6 @@ record DraftFits (d : Draft) : Type 0 where
 abbrev After : Outcome → Type 0
 After (Outcome.refuse n p) = Unit {0}
 After (Outcome.proceed d) = DraftFits d
-
--- ---- lists
-
-entries-append : (xs ys : List Row) → entriesIn (xs ++ ys) ≡ entriesIn xs + entriesIn ys
-entries-append [] ys = sym (zero-add (entriesIn ys))
-entries-append (x ∷ xs) ys = rw (entries-append xs ys) (omega arith)
-
-open-rows : (d : Draft) → rowsOf (openFunction d) ≡ rowsIn d
-unfolding rowsOf
-open-rows d =
-    gather-append (λ b. b .rows) (d .function .blocks) (d .block ∷ []) ∙ ap (λ r. closed (d .function) ++ r) (append-nil (d .block .rows))
 
 -- ---- tests before an act
 
@@ -159,22 +144,6 @@ held-as x k Form.unknown e = record { form = e; op = k .op; targets = tt; source
 row-held : (x : Parts) → PartsFit x → RowHeld (rowOf x)
 unfolding rowOf
 row-held x k = held-as x k (formOf (x .op)) refl
-
-entries-as : (x : Parts) (g : Form) → entriesIn (rowAs g x ∷ []) ≤ length (x .entries)
-entries-as x Form.nop = omega arith
-entries-as x Form.load = omega arith
-entries-as x Form.unary = omega arith
-entries-as x Form.binary = omega arith
-entries-as x Form.phi = omega arith
-entries-as x Form.jump = omega arith
-entries-as x Form.branch = omega arith
-entries-as x Form.return = omega arith
-entries-as x Form.leave = omega arith
-entries-as x Form.unknown = omega arith
-
-row-entries : (x : Parts) → entriesIn (rowOf x ∷ []) ≤ length (x .entries)
-unfolding rowOf
-row-entries x = entries-as x (formOf (x .op))
 
 -- ---- a function's end
 
@@ -646,15 +615,11 @@ reading-fits text b l =
     subst⁻¹ ReadingFits (read-by-tokens text l)
     (after-finish (foldl take parse₀ (tokensOf text)) (after-tokens parse₀ start-fits (every-all isSpelled (tokensOf text) (names-spelled text b))))
 
-too-long : (text : List ℕ) → maxText < length text → read text ≡ Reading.refused 1 0
-unfolding read
-too-long text h = rw (lt-ltb maxText (length text) h) refl
-
 pub read-fits : (text : List ℕ) → Bytes text → (p : Program) → read text ≡ Reading.program p → Fits p
 read-fits text b p e = by (decLt maxText (length text))
   where
     by : Dec (maxText < length text) → Fits p
-    by (yes h) = subst ReadingFits (sym (too-long text h) ∙ e) tt
+    by (yes h) = subst ReadingFits (sym (text-too-long text h) ∙ e) tt
     by (no h) = subst ReadingFits e (reading-fits text b (omega arith))
 
 pub read-back : ReadBack

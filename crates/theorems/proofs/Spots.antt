@@ -6,12 +6,14 @@ use Prim.Native.Nat.{ℕ, zero, suc, _+_, _<_}
 use native.Mathlib.Nat.{not-suc-le-zero, le-of-suc-le-suc, zero-add, add-zero, add-suc, suc-add}
 use native.Mathlib.Omega.{arith}
 use lib.ListN.{length, getD, take, length-map}
+use lib.Seq.{take-suc}
 use Rattle.laws.specs.Lists.{gather, below, from, sum}
 use Rattle.laws.proofs.Indexing.{length-below, getD-below, take-below, getD-map}
+use Rattle.laws.proofs.Appending.{sum-append}
 use Rattle.laws.proofs.Gather.{getD-gather, length-gather, map-gather}
 use Rattle.laws.proofs.Ranges.{length-map-from, getD-map-from, gather-from, map-from-take}
 use Rattle.laws.proofs.Sums.{map-getD, sum-same}
-use Rattle.language.specs.Programs.{Row, Func, noBlock, rowsAt, rowsOf, firstRow}
+use Rattle.language.specs.Programs.{Row, Block, Func, noBlock, blockAt, rowsAt, rowsOf, firstRow}
 use Rattle.language.specs.Checking.{Spot, spotAt, spotsFrom, spotsIn, spotsOf, rowNumber}
 use Rattle.theorems.proofs.AcceptanceCheck.{in-blocks}
 
@@ -51,6 +53,14 @@ module _ (f : Func) where
   unfolding firstRow
   first-is b h =
       ap sum (sym (map-from-take size (λ x. length (x .rows)) noBlock 0 (f .blocks) b (omega arith) (λ i l. ap size (zero-add i))))
+
+  -- the row at which the next block begins
+  pub first-next : (b : ℕ) → b < length (f .blocks) → firstRow f (suc b) ≡ firstRow f b + length (rowsAt f b)
+  unfolding firstRow
+  first-next b h =
+      ap (λ (bs : List Block). sum (map (λ x. length (x .rows)) bs)) (take-suc (f .blocks) b noBlock h)
+      ∙ sum-append (λ x. length (x .rows)) (take b (f .blocks)) (blockAt f b ∷ [])
+      ∙ ap (λ n. sum (map (λ x. length (x .rows)) (take b (f .blocks))) + n) (add-zero (length (rowsAt f b)))
 
   numbers-are : map (rowNumber f) (spotsOf f) ≡ map (λ n. n) (from 0 (sum (map size (below (length (f .blocks))))))
   unfolding spotsOf spotsIn

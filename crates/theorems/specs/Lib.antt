@@ -4,3 +4,4 @@ pub mod TableNeeds
 pub mod Demand3
 pub mod OverTables
 pub mod Clean
+pub mod Accepted

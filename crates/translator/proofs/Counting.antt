@@ -49,10 +49,6 @@ module _ (f : Func) where
   unfolding phisBefore
   phis-next y l = sum-take-suc (λ b. length (phisOf (b .rows))) noBlock (f .blocks) y l
 
-  pub first-next : (y : ℕ) → y < length (f .blocks) → firstRow f (suc y) ≡ firstRow f y + length (rowsAt f y)
-  unfolding firstRow
-  first-next y l = sum-take-suc (λ b. length (b .rows)) noBlock (f .blocks) y l
-
   -- ---- all blocks
 
   pub phis-all : phisBefore f (length (f .blocks)) ≡ phiCount f

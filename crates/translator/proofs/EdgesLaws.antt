@@ -19,9 +19,10 @@ use Rattle.theorems.proofs.Size.{size-blocks, length-edgeRows}
 use Rattle.theorems.proofs.TableView.{block-count}
 use Rattle.theorems.proofs.SimulationBlocks.{edge-block}
 use Rattle.theorems.proofs.SimulationRows.{phisAt, phiOf}
+use Rattle.theorems.proofs.Spots.{first-next}
 use Rattle.rules.specs.Prepared.{Prepared}
 use Rattle.translator.specs.Source.{Translatable, translated, built, phisIn, pairsIn, edgeNumber, Edge}
-use Rattle.translator.proofs.Counting.{pairsAt, pairs-next, pairs-within, pairs-all, first-next, first-all}
+use Rattle.translator.proofs.Counting.{pairsAt, pairs-next, pairs-within, pairs-all, first-all}
 use Rattle.translator.proofs.Filling.{filled-all}
 use Rattle.translator.proofs.Items.{first-within, row-in-block, row-within, copies-in, copies-out, jumps-on, phi-within, target-is, entry-is, entry-within, new-within}
 use Rattle.translator.proofs.KeptLaws.{length-built, one-row, one-block}

@@ -22,9 +22,9 @@ use Rattle.instructions.specs.Shapes.{shapeOf}
 use Rattle.theorems.proofs.TableView.{block-count, block-rows-count, block-row-is}
 use Rattle.theorems.proofs.SimulationRows.{phisAt, keptAt, keptRow, rowOf, kept-at, kept-is, rows-count}
 use Rattle.theorems.proofs.AcceptanceNumbers.{block-lt}
+use Rattle.theorems.proofs.Spots.{first-next}
 use Rattle.rules.specs.Prepared.{Prepared}
 use Rattle.translator.specs.Source.{Translatable, Planned, translated, built, phisIn, keptCells, Naming, KeptRows}
-use Rattle.translator.proofs.Counting.{first-next}
 use Rattle.translator.proofs.Filling.{length-filled, block-stored, row-stored}
 use Rattle.translator.proofs.Items.{row-in-block, row-within, first-within, row-of-block, op-decoded, kept-name, kept-height, kept-row}
 use Rattle.translator.proofs.RegistersLaws.{target-fits, plain, name-cells}
