@@ -3,18 +3,21 @@
 use mathlib.Core.Path.{_≡_, refl, subst}
 use mathlib.Core.Bool.{Bool, true, false, cond}
 use mathlib.Core.List.{List, [], _∷_}
-use Prim.Native.Nat.{ℕ, zero, suc, _+_, _≤_, _<_}
+use Prim.Native.Nat.{ℕ, suc, _<_}
 use native.Mathlib.Omega.{arith}
-use lib.Dec.{eqb, ltb, leb, lit≤}
+use lib.Dec.{eqb, ltb}
 use lib.ListN.{length, drop}
 use Rattle.laws.specs.Lists.{any}
 use Rattle.language.specs.Arithmetic.{Computed, binaryOf, div, rem, within, overflows}
-use Rattle.language.specs.Programs.{Row, Func, maxFunctions, rowsAt, typeAt, isPhi}
-use Rattle.language.specs.Checking.{Verdict, breaksRow, sound, faults, firstFault, judge, judgeFrom, check}
+use Rattle.language.specs.Programs.{Row, Func, Program, rowsAt, typeAt, isPhi}
+use Rattle.language.specs.Checking.{Verdict, breaksRow}
 use Rattle.language.specs.Running.{Place, Outcome, Next, Run, NotEnded, onward, valueAt, writeAll, phisOf, cameBy, phiStep, assign, perform, performAt, step, start, startRegisters, runOf, firstUnfit}
-use Rattle.language.specs.Table.{tableLength, decode}
+use Rattle.language.specs.Table.{decode}
 use Rattle.language.specs.Answers.{Finished, ranNumbers, checkAnswer, refusedRun, ifAccepted, runFunction, runAnswer, ranAs, leftIn}
 use Rattle.theorems.specs.OverTables.{NoEndIs43, AnsweredIs43, functionOf}
+use Rattle.theorems.specs.Accepted.{namesBefore, functionIn, Fault, TableRefused}
+use Rattle.theorems.proofs.FirstBroken.{numbers}
+use Rattle.theorems.proofs.Refused.{table-refused-exactly}
 use Rattle.theorems.proofs.Budgets.{going-counts}
 use Rattle.theorems.proofs.SimulationRuns.{ended-stops, ends-stops}
 
@@ -125,43 +128,13 @@ run-of-43 i f args b = by (runOf f args b) refl
 
 -- ---- what a check refuses with
 
-abbrev RefusedBelow : ℕ → Verdict → Type 0
-RefusedBelow n Verdict.accepted = Unit {0}
-RefusedBelow n (Verdict.refused k p) = k < n
+fault-below : {p : Program} {i k r : ℕ} → Fault p i k r → k < 43
+fault-below (Fault.count h) = omega arith
+fault-below {p} (Fault.function i k r l h) = omega (arith, numbers (namesBefore p i) (functionIn p i) k r h .1)
 
-below-cond : (n : ℕ) (b : Bool) (x y : Verdict) → RefusedBelow n x → RefusedBelow n y → RefusedBelow n (cond b x y)
-below-cond n true x y p q = p
-below-cond n false x y p q = q
-
-fault-below : (i k n : ℕ) (ls : List (List ℕ)) → k + length ls ≤ n → RefusedBelow n (firstFault i k ls)
-fault-below i k n [] l = tt
-fault-below i k n ([] ∷ ls) l = fault-below i (suc k) n ls (omega (arith, l))
-fault-below i k n ((r ∷ rs) ∷ ls) l = omega (arith, l)
-
-judged-below : (names : List (List ℕ)) (i : ℕ) (f : Func) → RefusedBelow 18 (judge names i f)
-unfolding judge faults
-judged-below names i f =
-    below-cond 18 (sound names f) (firstFault i 10 (faults f)) (Verdict.refused 9 i) (fault-below i 10 18 (faults f) (lit≤ tt)) (omega arith)
-
-judges-below : (names : List (List ℕ)) (i : ℕ) (fs : List Func) → RefusedBelow 18 (judgeFrom names i fs)
-unfolding judgeFrom
-judges-below names i [] = tt
-judges-below names i (f ∷ fs) = by (judge names i f) (judged-below names i f) (judges-below (f .name ∷ names) (suc i) fs)
-  where
-    by :
-        (v : Verdict)
-        → RefusedBelow 18 v
-        → RefusedBelow 18 (judgeFrom (f .name ∷ names) (suc i) fs)
-        → RefusedBelow 18 (elim v [ Verdict.accepted ↦ judgeFrom (f .name ∷ names) (suc i) fs | Verdict.refused k r ↦ Verdict.refused k r ])
-    by Verdict.accepted p q = q
-    by (Verdict.refused k r) p q = p
-
-check-below : (t : List ℕ) → RefusedBelow 18 (checkAnswer t)
-unfolding checkAnswer check
-check-below t =
-    let d = decode t in
-    below-cond 18 (eqb (length t) tableLength) (check d) (Verdict.refused 9 0)
-    (below-cond 18 (leb (length d) maxFunctions) (judgeFrom [] zero d) (Verdict.refused 9 0) (judges-below [] zero d) (omega arith)) (omega arith)
+refused-below : {t : List ℕ} {k p : ℕ} → TableRefused t k p → k < 43
+refused-below (TableRefused.size h) = omega arith
+refused-below (TableRefused.program k p l h) = fault-below (h .fault)
 
 -- ---- what a call answers
 
@@ -178,9 +151,12 @@ module _ (f : Func) (args : List ℕ) (b : ℕ) where
   unfolding refusedRun ranNumbers
   told-refused n k p l e = absurd (omega (arith, l, e))
 
-  told-accepted : (v : Verdict) (n : ℕ) (x : Finished) → RefusedBelow 18 v → Told43 f args b x → Told43 f args b (ifAccepted v (refusedRun n) x)
-  told-accepted Verdict.accepted n x l h = h
-  told-accepted (Verdict.refused k p) n x l h = told-refused n k p (omega (arith, l))
+  told-accepted : (t : List ℕ) (n : ℕ) (x : Finished) → Told43 f args b x → Told43 f args b (ifAccepted (checkAnswer t) (refusedRun n) x)
+  told-accepted t n x h = by (checkAnswer t) refl
+    where
+      by : (v : Verdict) → checkAnswer t ≡ v → Told43 f args b (ifAccepted v (refusedRun n) x)
+      by Verdict.accepted e = h
+      by (Verdict.refused k p) e = told-refused n k p (refused-below (table-refused-exactly t k p .0 e))
 
 pub answered-is-43 : AnsweredIs43
 unfolding runAnswer runFunction
@@ -192,7 +168,7 @@ answered-is-43 t i args b c =
     let roomy = cond (ltb c (length (f .registers))) (refusedRun c 22 0) done in
     let fitted = cond (eqb unfit (length args)) roomy (refusedRun c 20 unfit) in
     let counted = cond (eqb (length args) (f .params)) fitted (refusedRun c 20 (length args)) in
-    told-accepted f args b (checkAnswer t) c (runFunction d i args b c) (check-below t)
+    told-accepted f args b t c (runFunction d i args b c)
     (told-cond f args b (ltb i (length d)) counted (refusedRun c 21 0)
     (told-cond f args b (eqb (length args) (f .params)) fitted (refusedRun c 20 (length args))
     (told-cond f args b (eqb unfit (length args)) roomy (refusedRun c 20 unfit)
