@@ -3,3 +3,4 @@ pub mod TableLaw
 pub mod TableNeeds
 pub mod OverTables
 pub mod Clean
+pub mod Values
