@@ -1,4 +1,3 @@
 pub mod Words
 pub mod Meanings
 pub mod Numbers
-pub mod Fitting

@@ -7,9 +7,8 @@ use native.Mathlib.Omega.{arith}
 use lib.Dec.{ltb}
 use lib.Signed.{leZ}
 use borrow.Author.Tests.{ltb-true, ltb-false, ne-eqb}
-use Rattle.language.specs.Instructions.{width, uint}
+use Rattle.language.specs.Instructions.{width, uint, secondType}
 use Rattle.language.specs.Arithmetic.{Computed, meaning, truth, binaryOf}
-use Rattle.arithmetic.specs.Results.{secondType}
 
 -- the second source of instruction k
 pub second-at : (t b : ℕ) {op : ℕ} (k : ℕ) → op ≡ k → b < 2 ^ width (secondType op t) → b < 2 ^ width (secondType k t)

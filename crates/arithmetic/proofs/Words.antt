@@ -1,12 +1,12 @@
 -- Numbers of a type's width w, computed with 64 bits: w is at most 64, so what is right modulo 2^64 is right modulo 2^w.
 -- Assumes nothing.
-use mathlib.Core.Path.{_≡_, refl, sym, ap, _∙_, subst}
+use mathlib.Core.Path.{_≡_, refl, sym, ap, _∙_}
 use Prim.Native.Nat.{ℕ, _+_, _-_, _*_, _/_, _%_, _^_, _≤_, _<_}
-use native.Mathlib.Nat.{add-comm, mod-eq-of-lt, one-mul, mul-assoc, zero-add}
+use native.Mathlib.Nat.{mod-eq-of-lt, one-mul, mul-assoc, zero-add}
 use native.Mathlib.Omega.{arith}
 use borrow.Author.Tests.{lt-ltb, le-ltb}
 use lib.Pow.{pow-add, pow-lt, shr-shr}
-use Rattle.laws.proofs.Modulo.{shifts-keep, shift-ones, mod-within, mod-mul-mod, mod-difference, turned-below}
+use Rattle.laws.proofs.Modulo.{shifts-keep, shift-ones, mod-within, mod-mul-mod, mod-difference}
 use Rattle.language.specs.Instructions.{width}
 use Rattle.language.specs.Arithmetic.{Computed, sub, neg, rol, ror, within}
 use Rattle.language.proofs.Widths.{powers}
@@ -38,22 +38,6 @@ module _ (t : ℕ) where
       rw (e, one-mul) (mod-eq-of-lt (pow-lt h))
 
 -- ---- shifts and rotations by k, below the width
-
-pub rol-below : (w a k : ℕ) → a < 2 ^ w → k < w → rol w a k < 2 ^ w
-rol-below w a k l h =
-    let e : w - k + k ≡ w = omega arith in
-    let f : k + (w - k) ≡ w = omega arith in
-    subst (λ (n : ℕ). (a * 2 ^ k) % 2 ^ n + a / 2 ^ (w - k) < 2 ^ n) e
-    (turned-below (w - k) k a (subst (λ (n : ℕ). a < 2 ^ n) (sym f) l))
-
--- to the right by k is to the left by w - k
-pub ror-below : (w a k : ℕ) → a < 2 ^ w → k < w → ror w a k < 2 ^ w
-ror-below w a k l h =
-    let e : k + (w - k) ≡ w = omega arith in
-    let f : w - k + k ≡ w = omega arith in
-    subst (λ (n : ℕ). n < 2 ^ w) (add-comm ((a * 2 ^ (w - k)) % 2 ^ w) (a / 2 ^ k))
-    (subst (λ (n : ℕ). (a * 2 ^ (w - k)) % 2 ^ n + a / 2 ^ k < 2 ^ n) e
-    (turned-below k (w - k) a (subst (λ (n : ℕ). a < 2 ^ n) (sym f) l)))
 
 module _ (t a k : ℕ) {w : ℕ} (e : w ≡ width t) (l : k < w) where
   -- w - k from the two shifts

@@ -1,10 +1,10 @@
--- What the answers of this crate stand for, and the types around an instruction with two sources.
+-- What the answers of this crate stand for.
 -- Assumes nothing.
 use mathlib.Core.Bool.{Bool, true, false, cond}
 use Prim.Native.Nat.{ℕ, _+_, _-_, _^_}
 use lib.Dec.{ltb}
 use lib.IntN.{ℤ, pos, negsuc}
-use Rattle.language.specs.Instructions.{width, signed, uint}
+use Rattle.language.specs.Instructions.{width, signed}
 use Rattle.language.specs.Arithmetic as L
 use Rattle.arithmetic.specs.declared.Computed.{Computed}
 use Rattle.arithmetic.specs.declared.Computed.the-variants as answer
@@ -13,14 +13,6 @@ use Rattle.arithmetic.specs.declared.Computed.the-variants as answer
 abbrev pub resultOf : Computed → L.Computed
 resultOf (answer.Value v) = L.Computed.value v
 resultOf (answer.Stop n) = L.Computed.stops n
-
--- "`shl shr rol ror`: second source is `uint`, the rest one type": the type of the second source, by that of the first.
-abbrev pub secondType : (op first : ℕ) → ℕ
-secondType op t = cond (ltb op 19) t (cond (ltb op 23) uint t)
-
--- "`cmp.eq neq gt lt gteq lteq`: .. target `uint`": the type of the target, by that of the first source.
-abbrev pub targetType : (op first : ℕ) → ℕ
-targetType op t = cond (ltb op 23) t uint
 
 abbrev pub isNegative : ℤ → Bool
 isNegative (pos n) = false

@@ -18,9 +18,9 @@ use wrapping::neg;
 use wrapping::sub;
 ghost use mathlib.Core.Path.{_≡_};
 ghost use Prim.Native.Nat.{_^_, _<_};
-ghost use Rattle.language.specs.Instructions.{width};
+ghost use Rattle.language.specs.Instructions.{width, secondType};
 ghost use Rattle.language.specs.Arithmetic.{truth as truthOf, binaryOf, unaryOf};
-ghost use Rattle.arithmetic.specs.Results.{resultOf, secondType};
+ghost use Rattle.arithmetic.specs.Results.{resultOf};
 
 // A value, or a stop with its number: 40, 41 or 42.
 pub enum Computed {

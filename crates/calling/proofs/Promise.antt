@@ -11,7 +11,7 @@ use lib.Pow.{pow-pos}
 use borrow.Author.Tests.{eq-eqb, lt-ltb, le-ltb}
 use Rattle.laws.specs.Lists.{below, together}
 use Rattle.laws.proofs.Agreeing.{position-is}
-use Rattle.laws.proofs.Indexing.{length-below}
+use Rattle.laws.proofs.Indexing.{length-below, length-together-le, getD-together}
 use Rattle.laws.proofs.Searching.{getD-range}
 use Rattle.laws.proofs.Tests.{of-true}
 use Rattle.language.specs.Instructions.{width, signed}
@@ -21,7 +21,6 @@ use Rattle.language.specs.Running.{firstUnfit}
 use Rattle.language.specs.Answers.{runFunction}
 use Rattle.language.proofs.Widths.{powers}
 use Rattle.theorems.proofs.AcceptanceCheck.{sound-parts, clean-of-check}
-use Rattle.machine.proofs.Starting.{length-together-le, getD-together}
 use Rattle.decimal.specs.Meanings.{bitsIn}
 use Rattle.decimal.specs.declared.ranges.Bits.the-variants as bits
 use Rattle.calling.specs.Words.{keptBits}

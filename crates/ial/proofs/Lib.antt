@@ -4,3 +4,5 @@ pub mod Places
 pub mod RunLaws
 pub mod TranslateLaws
 pub mod Demand
+pub mod Known
+pub mod Ignored

@@ -7,6 +7,7 @@ use native.Mathlib.Omega.{arith}
 use lib.Dec.{eqb, ltb}
 use lib.ListN.{length, replicate}
 use borrow.Author.Tests.{lt-ltb, le-ltb, eq-eqb, ne-eqb}
+use Rattle.laws.proofs.Indexing.{length-together-le}
 use Rattle.laws.proofs.Positions.{position-le}
 use Rattle.laws.proofs.Branches.{by-eq, by-ne, by-lt, by-not-lt}
 use Rattle.language.specs.Instructions.{width}
@@ -22,7 +23,6 @@ use Rattle.machine.specs.declared.places.Place.{Place}
 use Rattle.machine.specs.declared.places.Outcome.{Outcome}
 use Rattle.machine.specs.declared.runs.Run.{Run}
 use Rattle.machine.specs.declared.runs.Run.the-variants as runs
-use Rattle.machine.proofs.Starting.{length-together-le}
 use Rattle.checker.specs.declared.Verdict.{Verdict as Verdictᶜ}
 use Rattle.checker.specs.declared.Verdict.the-variants as verdicts
 use Rattle.checker.specs.Verdicts.{verdictOf}

@@ -3,3 +3,4 @@ pub mod Numbers
 pub mod Runs
 pub mod Calls
 pub mod Demand
+pub mod Ignored

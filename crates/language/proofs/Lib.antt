@@ -1,5 +1,6 @@
 pub mod Computing
 pub mod Widths
+pub mod Fitting
 pub mod Examples
 pub mod ByteFacts
 pub mod TokenFacts

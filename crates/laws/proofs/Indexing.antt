@@ -54,6 +54,25 @@ pub length-together-from :
 length-together-from f k [] = refl
 length-together-from f k (x ∷ xs) = ap suc (length-together-from f (suc k) xs)
 
+-- ---- two lists, the first as long or longer
+
+module _ {A B C : Type 0} (g : A → B → C) where
+  pub length-together-le : (xs : List A) (ys : List B) → length ys ≤ length xs → length (together g xs ys) ≡ length ys
+  length-together-le [] [] l = refl
+  length-together-le [] (y ∷ ys) l = absurd (not-suc-le-zero l)
+  length-together-le (x ∷ xs) [] l = refl
+  length-together-le (x ∷ xs) (y ∷ ys) l = ap suc (length-together-le xs ys (le-of-suc-le-suc l))
+
+  pub getD-together :
+      (d : A) (e : B) (z : C) (xs : List A) (ys : List B) (i : ℕ)
+      → length ys ≤ length xs
+      → i < length ys
+      → getD (together g xs ys) i z ≡ g (getD xs i d) (getD ys i e)
+  getD-together d e z xs [] i l h = absurd (not-suc-le-zero h)
+  getD-together d e z [] (y ∷ ys) i l h = absurd (not-suc-le-zero l)
+  getD-together d e z (x ∷ xs) (y ∷ ys) zero l h = refl
+  getD-together d e z (x ∷ xs) (y ∷ ys) (suc i) l h = getD-together d e z xs ys i (le-of-suc-le-suc l) (le-of-suc-le-suc h)
+
 -- ---- a store past the seam
 
 pub set-append-add : {A : Type 0} (xs ys : List A) (i : ℕ) (a : A) → set (xs ++ ys) (length xs + i) a ≡ xs ++ set ys i a

@@ -86,12 +86,12 @@ pub pad-snoc : (n : ℕ) (xs : List ℕ) (y : ℕ) → length xs < n → Stored 
 pad-snoc n xs y h = pad-stored n xs 0 (y ∷ []) 0 (omega arith) (omega arith)
 
 -- a cell past the end counts as 0, put down or not
-getD-zeros : (k i : ℕ) → getD (zeros k) i 0 ≡ 0
+pub getD-zeros : (k i : ℕ) → getD (zeros k) i 0 ≡ 0
 getD-zeros zero i = refl
 getD-zeros (suc k) zero = refl
 getD-zeros (suc k) (suc i) = getD-zeros k i
 
-getD-behind : (xs : List ℕ) (k i : ℕ) → getD (xs ++ zeros k) i 0 ≡ getD xs i 0
+pub getD-behind : (xs : List ℕ) (k i : ℕ) → getD (xs ++ zeros k) i 0 ≡ getD xs i 0
 getD-behind [] k i = getD-zeros k i
 getD-behind (x ∷ xs) k zero = refl
 getD-behind (x ∷ xs) k (suc i) = getD-behind xs k i

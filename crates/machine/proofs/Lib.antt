@@ -1,5 +1,4 @@
 pub mod Ranks
-pub mod Keeping
 pub mod Here
 pub mod PhiLoops
 pub mod Ranking

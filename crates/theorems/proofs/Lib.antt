@@ -20,6 +20,7 @@ pub mod Acceptance
 pub mod TableSound
 pub mod SimulationRuns
 pub mod SimulationRows
+pub mod Keeping
 pub mod SimulationBlocks
 pub mod SimulationEdges
 pub mod SimulationRelation
@@ -32,3 +33,4 @@ pub mod OverTables
 pub mod ReadMoves
 pub mod ReadFits
 pub mod Turn
+pub mod Values

@@ -19,7 +19,8 @@ use Rattle.language.specs.Table.{functionEntry, registerCount, blockCount, regi
 use Rattle.language.specs.Table.{rowOp, rowTarget, rowLeft, rowRight, jumpFirst, jumpSecond, phiFirst, phiCount, phiEntry, rowsBefore}
 use Rattle.language.specs.Table.{rowCount, rowEntries, entriesBefore, decodeRegister, decodeRow, decodeAs, decodeBlock, decodeFunction}
 use Rattle.language.specs.Table.{decode, blocksPlaced, phisPlaced}
-use Rattle.theorems.specs.TableNeeds.{usedCells, NeededRow, NeededIn, Needed, IgnoredLaw}
+use Rattle.language.specs.Answers.{checkAnswer, runAnswer, translateAnswer}
+use Rattle.theorems.specs.TableNeeds.{usedCells, NeededRow, NeededIn, Needed, IgnoredLaw, IgnoredInAnswers}
 
 op-used : (f : Form) → T (member 0 (usedCells f))
 op-used Form.nop = tt
@@ -205,8 +206,19 @@ module _ (t u : List ℕ) (l : length t ≡ length u) (a : ℕ) (h : (k : ℕ) �
 
 pub unneeded-ignored : IgnoredLaw
 unfolding decode
-unneeded-ignored t u l h =
-    let count : functionCount t ≡ functionCount u = h 0 (Needed.count refl) in
+unneeded-ignored t u h =
+    let count : functionCount t ≡ functionCount u = h .needed 0 (Needed.count refl) in
     rw (← count)
     (map-from-same (λ i. decodeFunction t (functionAt i)) (λ i. decodeFunction u (functionAt i)) 0 (functionCount t)
-    (λ i b. function-same t u l (functionAt (0 + i)) (λ k n. h k (Needed.function (0 + i) (omega arith) n))))
+    (λ i b. function-same t u (h .count) (functionAt (0 + i)) (λ k n. h .needed k (Needed.function (0 + i) (omega arith) n))))
+
+-- An answer knows a table by its length and its program.
+pub answers-ignore-unneeded : IgnoredInAnswers
+unfolding checkAnswer runAnswer translateAnswer
+answers-ignore-unneeded t u h =
+    let p : decode t ≡ decode u = unneeded-ignored t u h in
+    record {
+      check = rw (h .count, p) refl;
+      run = λ i args budget n. rw (h .count, p) refl;
+      translate = λ i n. rw (h .count, p) refl;
+    }

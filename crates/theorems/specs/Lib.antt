@@ -5,3 +5,4 @@ pub mod Demand3
 pub mod OverTables
 pub mod Clean
 pub mod Accepted
+pub mod Values

@@ -11,6 +11,7 @@ use Rattle.language.specs.Instructions.{Form, formOf}
 use Rattle.language.specs.Programs.{Program}
 use Rattle.language.specs.Table.{functionCount, functionAt, registerCount, blockCount, blockFirst, blockRows, rowCount, rowOp, phiFirst}
 use Rattle.language.specs.Table.{phiCount, cells, decode}
+use Rattle.language.specs.Answers.{checkAnswer, runAnswer, translateAnswer}
 use Rattle.theorems.specs.TableLaw.{Fits}
 
 -- The needed ones of a row's 12 cells, by its form.
@@ -47,9 +48,23 @@ pub data Needed (t : List ℕ) (k : ℕ) : Type 0 where
   count : k ≡ 0 → Needed t k
   function : (i : ℕ) → i < functionCount t → NeededIn t (functionAt i) k → Needed t k
 
--- "ignored in an input": tables that agree on the needed cells hold the same program.
+-- Two tables of one length that agree on the needed cells.
+pub record Agree (t u : List ℕ) : Type 0 where
+  pub count : length t ≡ length u
+  pub needed : (k : ℕ) → Needed t k → getD t k 0 ≡ getD u k 0
+
+-- "ignored in an input": such tables hold the same program.
 abbrev pub IgnoredLaw : Type 0
-IgnoredLaw = (t u : List ℕ) → length t ≡ length u → ((k : ℕ) → Needed t k → getD t k 0 ≡ getD u k 0) → decode t ≡ decode u
+IgnoredLaw = (t u : List ℕ) → Agree t u → decode t ≡ decode u
+
+-- They get the same answers, and leave the same cells in what was lent.
+pub record SameAnswers (t u : List ℕ) : Type 0 where
+  pub check : checkAnswer t ≡ checkAnswer u
+  pub run : (i : ℕ) (args : List ℕ) (budget n : ℕ) → runAnswer t i args budget n ≡ runAnswer u i args budget n
+  pub translate : (i n : ℕ) → translateAnswer t i n ≡ translateAnswer u i n
+
+abbrev pub IgnoredInAnswers : Type 0
+IgnoredInAnswers = (t u : List ℕ) → Agree t u → SameAnswers t u
 
 -- "0 in an output": a cell that is written is 0 or needed.
 abbrev pub ZeroLaw : Type 0

@@ -4,7 +4,8 @@ use native.Mathlib.Omega.{arith}
 use native.Mathlib.Nat.{lt-of-lt-of-le}
 use Rattle.language.specs.Instructions.{width}
 use Rattle.language.proofs.Widths.{powers}
-use Rattle.arithmetic.proofs.Words.{turned-left, rol-below, runs, stops}
+use Rattle.language.proofs.Fitting.{rol-below}
+use Rattle.arithmetic.proofs.Words.{turned-left, runs, stops}
 use Rattle.arithmetic.proofs.shifts.rol.Statement.{statement}
 use Rattle.arithmetic.proofs.shifts.rol.Tie as tie
 

@@ -4,7 +4,8 @@ use native.Mathlib.Omega.{arith}
 use native.Mathlib.Nat.{lt-of-lt-of-le}
 use Rattle.language.specs.Instructions.{width}
 use Rattle.language.proofs.Widths.{powers}
-use Rattle.arithmetic.proofs.Words.{turned-right, ror-below, runs, stops}
+use Rattle.language.proofs.Fitting.{ror-below}
+use Rattle.arithmetic.proofs.Words.{turned-right, runs, stops}
 use Rattle.arithmetic.proofs.shifts.ror.Statement.{statement}
 use Rattle.arithmetic.proofs.shifts.ror.Tie as tie
 

@@ -1,0 +1,27 @@
+-- "cells not needed are .. ignored in an input", for the entry points themselves: a call is known here by what its contract says of it, and by
+-- nothing else.
+-- Assumes nothing.
+use mathlib.Core.Path.{_≡_}
+use mathlib.Core.List.{List}
+use Prim.Native.Nat.{ℕ}
+use Rattle.theorems.specs.TableNeeds.{Agree}
+use Rattle.checker.specs.declared.Verdict.{Verdict}
+use Rattle.ial.specs.declared.running.Ran.{Ran}
+use Rattle.ial.specs.Calls.{CheckCalled, RunCalled, TranslateCalled}
+
+-- Two calls, one on table t and one on table u and otherwise alike, answer the same and leave the same in what was lent.
+pub record SameCalls (t u : List ℕ) : Type 0 where
+  pub check : (r s : Verdict) → CheckCalled t r → CheckCalled u s → r ≡ s
+  pub run :
+      (i : ℕ) (args : List ℕ) (budget n : ℕ) (x y : Ran) (g h : List ℕ)
+      → RunCalled t i args budget n x g
+      → RunCalled u i args budget n y h
+      → (x ≡ y) × (g ≡ h)
+  pub translate :
+      (i n : ℕ) (r s : Verdict) (out out′ : List ℕ)
+      → TranslateCalled t i n r out
+      → TranslateCalled u i n s out′
+      → (r ≡ s) × (out ≡ out′)
+
+abbrev pub IgnoredInCalls : Type 0
+IgnoredInCalls = (t u : List ℕ) → Agree t u → SameCalls t u
