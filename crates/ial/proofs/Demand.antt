@@ -1,5 +1,5 @@
 -- Demand 3 for the entry points themselves: from their contracts and demand 3 over tables. Assumes nothing.
-use mathlib.Core.Path.{_≡_, refl, sym, ap, subst⁻¹, _∙_}
+use mathlib.Core.Path.{_≡_, sym, ap, subst⁻¹, _∙_}
 use mathlib.Core.List.{List}
 use Prim.Native.Nat.{ℕ}
 use native.Mathlib.Omega.{arith}
@@ -10,24 +10,18 @@ use Rattle.language.specs.Table.{tableLength}
 use Rattle.theorems.specs.OverTables.{functionOf, Translated}
 use Rattle.theorems.proofs.StopNumbers.{answered-is-43}
 use Rattle.theorems.proofs.OverTables.{demand3-over-tables, runs-over-tables, Tells, runs-told}
-use Rattle.checker.specs.declared.Verdict.{Verdict}
 use Rattle.checker.specs.declared.Verdict.the-variants as verdicts
-use Rattle.checker.specs.Verdicts.{verdictOf}
 use Rattle.ial.specs.Verdicts.{filledOf}
+use Rattle.ial.proofs.Known.{verdict-known}
 use Rattle.ial.specs.Demand.{Demand3OfCalls, Demand3OfSymbols, Call43, Symbol43}
-
--- An answer is known by its numbers.
-accepted-is : (v : Verdict) → verdictOf v ≡ Verdictᴸ.accepted → v ≡ verdicts.Accepted
-accepted-is verdicts.Accepted e = refl
-accepted-is (verdicts.Refused n p) e = absurd (let z : _≡_ {A = ℕ} 0 1 = cc in omega arith)
 
 pub demand3-of-calls : Demand3OfCalls
 demand3-of-calls t i r out h e =
     let table : Translated t i (filledOf r out) = subst⁻¹ (Translated t i) e (demand3-over-tables t i h) in
     record {
-      done = accepted-is r (table .done);
+      done = verdict-known r verdicts.Accepted (table .done);
       translated = table;
-      checked = λ v c. accepted-is v (c ∙ table .passes);
+      checked = λ v c. verdict-known v verdicts.Accepted (c ∙ table .passes);
       runs =
           λ args b b′ c c′ x y g k a u v l l′.
           rw (ap (λ (z : Finished). z .answer) u, ap (λ (z : Finished). z .answer) v)
