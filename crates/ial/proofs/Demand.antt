@@ -7,13 +7,14 @@ use Rattle.language.specs.Checking.{Verdict as Verdictᴸ}
 use Rattle.language.specs.Running.{Outcome}
 use Rattle.language.specs.Answers.{Answer, Filled, Finished, runAnswer, translateAnswer, verdictNumbers, ranNumbers}
 use Rattle.language.specs.Table.{tableLength}
-use Rattle.theorems.specs.OverTables.{functionOf, Translated}
+use Rattle.theorems.specs.OverTables.{functionInTable, Translated}
+use Rattle.theorems.proofs.NoRefusal.{checked-is-0, translated-is-0}
 use Rattle.theorems.proofs.StopNumbers.{answered-is-43}
 use Rattle.theorems.proofs.OverTables.{demand3-over-tables, runs-over-tables, Tells, runs-told}
 use Rattle.checker.specs.declared.Verdict.the-variants as verdicts
 use Rattle.ial.specs.Verdicts.{filledOf}
 use Rattle.ial.proofs.Known.{verdict-known}
-use Rattle.ial.specs.Demand.{Demand3OfCalls, Demand3OfSymbols, Call43, Symbol43}
+use Rattle.ial.specs.Demand.{Demand3OfCalls, Demand3OfSymbols, SymbolChecked, CallTranslated, SymbolTranslated, Call43, Symbol43}
 
 pub demand3-of-calls : Demand3OfCalls
 demand3-of-calls t i r out h e =
@@ -51,9 +52,21 @@ demand3-of-symbols t i r out h e =
       runs =
           λ args b b′ c c′ x y g k a u v l l′.
           rw (u .0, v .0)
-          (runs-told ranNumbers numbers-tell (functionOf t i) args b b′ (runAnswer t i args b c .answer) (runAnswer out 0 args b′ c′ .answer)
+          (runs-told ranNumbers numbers-tell (functionInTable t i) (functionInTable out 0) args b b′ (runAnswer t i args b c .answer) (runAnswer out 0 args b′ c′ .answer)
           (runs-over-tables t i filled args b b′ c c′ h table a l l′));
     }
+
+-- ---- 0
+
+pub symbol-checked : SymbolChecked
+symbol-checked t v u n = checked-is-0 t (sym (ap (λ (a : Answer). a .number) u) ∙ n)
+
+pub call-translated : CallTranslated
+unfolding verdictNumbers
+call-translated t i n out e = translated-is-0 t i n (sym (ap (λ (x : Filled). verdictNumbers (x .answer) .number) e))
+
+pub symbol-translated : SymbolTranslated
+symbol-translated t i n r out u e = translated-is-0 t i n (sym (ap (λ (a : Answer). a .number) (u .0)) ∙ e)
 
 -- ---- 43
 

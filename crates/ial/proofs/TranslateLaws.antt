@@ -15,7 +15,7 @@ use Rattle.language.specs.Checking.{Verdict}
 use Rattle.language.specs.Translating.{translation, translationFits}
 use Rattle.language.specs.Answers.{zeros, Filled, refusedTable, fill, translateFunction, translateAnswer, checkAnswer}
 use Rattle.theorems.proofs.TableView.{function-count, function-is}
-use Rattle.translator.specs.Source.{Translatable}
+use Rattle.translator.specs.Source.{TranslatableAt}
 use Rattle.checker.specs.declared.Verdict.{Verdict as Verdictᶜ}
 use Rattle.checker.specs.declared.Verdict.the-variants as verdicts
 use Rattle.checker.specs.Verdicts.{verdictOf}
@@ -83,6 +83,6 @@ module _ (t : List ℕ) (i n : ℕ) where
         unfolding fill
         translate-done h e = ssa _ _ (by-true _ _ _ (translationFits f) fits (by-eq _ _ _ n tableLength h (rw e refl))) ∙ sym opened
 
-        pub translatable : checkAnswer t ≡ Verdict.accepted → Translatable t (functionAt i)
+        pub translatable : checkAnswer t ≡ Verdict.accepted → TranslatableAt t (functionAt i)
         translatable e =
             record { sized = accepted-sized t e i l; clean = accepted-clean t e i l; ssa = is-marked; fits = of-true (translationFits f) fits }

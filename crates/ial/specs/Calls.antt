@@ -10,7 +10,7 @@ use Rattle.ial.specs.declared.running.Ran.{Ran}
 use Rattle.ial.specs.declared.c.Answer.{Answer}
 use Rattle.ial.specs.Verdicts.{filledOf}
 use Rattle.ial.specs.Runs.{finishedOf}
-use Rattle.ial.specs.Numbers.{answerOf}
+use Rattle.ial.specs.Numbers.{numbersOf}
 
 -- `read` with a text and a lent table of n cells answered r and left the table as `out`.
 abbrev pub ReadCalled : (text : List ℕ) (n : ℕ) (r : Verdict) (out : List ℕ) → Type 0
@@ -30,14 +30,14 @@ TranslateCalled t i n r out = filledOf r out ≡ translateAnswer t i n
 
 -- The symbols that C and Rust link, by the four numbers of their answers: the same of `ial_read`, `ial_check`, `ial_run`, `ial_translate`.
 abbrev pub ReadLinked : (text : List ℕ) (n : ℕ) (r : Answer) (out : List ℕ) → Type 0
-ReadLinked text n r out = (answerOf r ≡ verdictNumbers (readAnswer text n .answer)) × (out ≡ readAnswer text n .table)
+ReadLinked text n r out = (numbersOf r ≡ verdictNumbers (readAnswer text n .answer)) × (out ≡ readAnswer text n .table)
 
 abbrev pub CheckLinked : (t : List ℕ) (r : Answer) → Type 0
-CheckLinked t r = answerOf r ≡ verdictNumbers (checkAnswer t)
+CheckLinked t r = numbersOf r ≡ verdictNumbers (checkAnswer t)
 
 abbrev pub RunLinked : (t : List ℕ) (i : ℕ) (args : List ℕ) (budget n : ℕ) (x : Answer) (g : List ℕ) → Type 0
 RunLinked t i args budget n x g =
-    (answerOf x ≡ ranNumbers (runAnswer t i args budget n .answer)) × (g ≡ runAnswer t i args budget n .registers)
+    (numbersOf x ≡ ranNumbers (runAnswer t i args budget n .answer)) × (g ≡ runAnswer t i args budget n .registers)
 
 abbrev pub TranslateLinked : (t : List ℕ) (i n : ℕ) (r : Answer) (out : List ℕ) → Type 0
-TranslateLinked t i n r out = (answerOf r ≡ verdictNumbers (translateAnswer t i n .answer)) × (out ≡ translateAnswer t i n .table)
+TranslateLinked t i n r out = (numbersOf r ≡ verdictNumbers (translateAnswer t i n .answer)) × (out ≡ translateAnswer t i n .table)

@@ -9,14 +9,14 @@ use lib.ListN.{length}
 use Rattle.language.specs.Table.{tableLength}
 use Rattle.language.specs.Checking.{Verdict as Verdictᴸ}
 use Rattle.language.specs.Running.{NotEnded, argumentsFit}
-use Rattle.language.specs.Answers.{Answer as Answerᴸ, verdictNumbers, ranNumbers}
-use Rattle.theorems.specs.OverTables.{functionOf, TranslatableIn, Translated, RunsAgree}
+use Rattle.language.specs.Answers.{Answer as Answerᴸ, verdictNumbers, ranNumbers, checkAnswer}
+use Rattle.theorems.specs.OverTables.{functionInTable, TranslatableIn, Translated, RunsAgree}
 use Rattle.checker.specs.declared.Verdict.{Verdict}
 use Rattle.checker.specs.declared.Verdict.the-variants as verdicts
 use Rattle.ial.specs.declared.running.Ran.{Ran}
 use Rattle.ial.specs.declared.running.Ran.the-variants as rans
 use Rattle.ial.specs.declared.c.Answer.{Answer}
-use Rattle.ial.specs.Numbers.{answerOf}
+use Rattle.ial.specs.Numbers.{numbersOf}
 use Rattle.ial.specs.Verdicts.{filledOf}
 use Rattle.ial.specs.Runs.{ranOf}
 use Rattle.ial.specs.Calls.{CheckCalled, RunCalled, TranslateCalled, CheckLinked, RunLinked, TranslateLinked}
@@ -29,12 +29,12 @@ pub record Demand3Called (t : List ℕ) (i : ℕ) (r : Verdict) (out : List ℕ)
   pub checked : (v : Verdict) → CheckCalled out v → v ≡ verdicts.Accepted
   pub runs :
       (args : List ℕ) (b b′ c c′ : ℕ) (x y : Ran) (g h : List ℕ)
-      → T (argumentsFit (functionOf t i) args)
+      → T (argumentsFit (functionInTable t i) args)
       → RunCalled t i args b c x g
       → RunCalled out 0 args b′ c′ y h
-      → length (functionOf t i .registers) ≤ c
-      → length (functionOf out 0 .registers) ≤ c′
-      → RunsAgree (λ a. a) (functionOf t i) args b b′ (ranOf x) (ranOf y)
+      → length (functionInTable t i .registers) ≤ c
+      → length (functionInTable out 0 .registers) ≤ c′
+      → RunsAgree (λ a. a) (functionInTable t i) (functionInTable out 0) args b b′ (ranOf x) (ranOf y)
 
 abbrev pub Demand3OfCalls : Type 0
 Demand3OfCalls =
@@ -48,17 +48,17 @@ abbrev pub noRefusal : Answerᴸ
 noRefusal = verdictNumbers Verdictᴸ.accepted
 
 pub record Demand3Linked (t : List ℕ) (i : ℕ) (r : Answer) (out : List ℕ) : Type 0 where
-  pub done : answerOf r ≡ noRefusal
+  pub done : numbersOf r ≡ noRefusal
   pub translated : Translated t i (record { answer = Verdictᴸ.accepted; table = out })
-  pub checked : (v : Answer) → CheckLinked out v → answerOf v ≡ noRefusal
+  pub checked : (v : Answer) → CheckLinked out v → numbersOf v ≡ noRefusal
   pub runs :
       (args : List ℕ) (b b′ c c′ : ℕ) (x y : Answer) (g h : List ℕ)
-      → T (argumentsFit (functionOf t i) args)
+      → T (argumentsFit (functionInTable t i) args)
       → RunLinked t i args b c x g
       → RunLinked out 0 args b′ c′ y h
-      → length (functionOf t i .registers) ≤ c
-      → length (functionOf out 0 .registers) ≤ c′
-      → RunsAgree ranNumbers (functionOf t i) args b b′ (answerOf x) (answerOf y)
+      → length (functionInTable t i .registers) ≤ c
+      → length (functionInTable out 0 .registers) ≤ c′
+      → RunsAgree ranNumbers (functionInTable t i) (functionInTable out 0) args b b′ (numbersOf x) (numbersOf y)
 
 abbrev pub Demand3OfSymbols : Type 0
 Demand3OfSymbols =
@@ -67,16 +67,27 @@ Demand3OfSymbols =
     → TranslateLinked t i tableLength r out
     → Demand3Linked t i r out
 
+-- Number 0 says that nothing was refused: so a caller learns by its calls that demand 3 speaks of the function.
+abbrev pub SymbolChecked : Type 0
+SymbolChecked = (t : List ℕ) (v : Answer) → CheckLinked t v → v .number ≡ 0 → checkAnswer t ≡ Verdictᴸ.accepted
+
+abbrev pub CallTranslated : Type 0
+CallTranslated = (t : List ℕ) (i n : ℕ) (out : List ℕ) → TranslateCalled t i n verdicts.Accepted out → TranslatableIn t i × (n ≡ tableLength)
+
+abbrev pub SymbolTranslated : Type 0
+SymbolTranslated =
+    (t : List ℕ) (i n : ℕ) (r : Answer) (out : List ℕ) → TranslateLinked t i n r out → r .number ≡ 0 → TranslatableIn t i × (n ≡ tableLength)
+
 -- An answer 43 of a call, whatever it was called with, says that its run has not ended: of `run`, and of `ial_run`.
 abbrev pub Call43 : Type 0
 Call43 =
     (t : List ℕ) (i : ℕ) (args : List ℕ) (b c p s : ℕ) (g : List ℕ)
     → RunCalled t i args b c (rans.Stopped 43 p s) g
-    → NotEnded (functionOf t i) args b × (s ≡ b)
+    → NotEnded (functionInTable t i) args b × (s ≡ b)
 
 abbrev pub Symbol43 : Type 0
 Symbol43 =
     (t : List ℕ) (i : ℕ) (args : List ℕ) (b c : ℕ) (x : Answer) (g : List ℕ)
     → RunLinked t i args b c x g
     → x .number ≡ 43
-    → NotEnded (functionOf t i) args b × (x .steps ≡ b)
+    → NotEnded (functionInTable t i) args b × (x .steps ≡ b)

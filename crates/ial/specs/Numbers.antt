@@ -2,5 +2,5 @@
 use Rattle.language.specs.Answers.{Answer as Answerᴸ}
 use Rattle.ial.specs.declared.c.Answer.{Answer}
 
-abbrev pub answerOf : Answer → Answerᴸ
-answerOf r = record { number = r .number; place = r .place; value = r .value; steps = r .steps }
+abbrev pub numbersOf : Answer → Answerᴸ
+numbersOf r = record { number = r .number; place = r .place; value = r .value; steps = r .steps }

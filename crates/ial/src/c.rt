@@ -9,7 +9,7 @@ ghost use mathlib.Core.Path.{_≡_};
 ghost use lib.ListN.{length};
 ghost use Rattle.language.specs.Answers.{verdictNumbers, ranNumbers};
 ghost use Rattle.checker.specs.Verdicts.{verdictOf};
-ghost use Rattle.ial.specs.Numbers.{answerOf};
+ghost use Rattle.ial.specs.Numbers.{numbersOf};
 ghost use Rattle.ial.specs.Runs.{ranOf};
 ghost use Rattle.ial.specs.Calls.{ReadLinked, CheckLinked, RunLinked, TranslateLinked};
 
@@ -24,7 +24,7 @@ pub struct Answer {
 
 // The numbers of an answer that is done or refused.
 fn numbers(v: Verdict) -> Answer
-    ensures { λ r. ⌜ answerOf r ≡ verdictNumbers (verdictOf v) ⌝ }
+    ensures { λ r. ⌜ numbersOf r ≡ verdictNumbers (verdictOf v) ⌝ }
 {
     match v {
         Verdict::Accepted => Answer {
@@ -60,7 +60,7 @@ pub extern "C" fn ial_check(table: &[u8]) -> Answer
 
 // The numbers of what a run answers.
 fn run_numbers(r: Ran) -> Answer
-    ensures { λ x. ⌜ answerOf x ≡ ranNumbers (ranOf r) ⌝ }
+    ensures { λ x. ⌜ numbersOf x ≡ ranNumbers (ranOf r) ⌝ }
 {
     match r {
         Ran::Returned(v, s) => Answer {

@@ -60,7 +60,7 @@ pub record Finished : Type 0 where
 unfoldable pub refusedTable : ℕ → ℕ → ℕ → Filled
 refusedTable n k p = record { answer = Verdict.refused k p; table = zeros n }
 
--- A program goes to a lent table of n cells: "22: .. table output of another length".
+-- A program goes to a lent table of n cells: 22, "table output of another length".
 unfoldable pub fill : ℕ → Program → Filled
 fill n p =
     cond (eqb n tableLength) (record { answer = Verdict.accepted; table = cells p })

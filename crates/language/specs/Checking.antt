@@ -166,8 +166,8 @@ pub record Late (f : Func) (u b j : ℕ) : Type 0 where
   pub unassigned : T (all (λ x. not (assignedIn (rowsAt f x) u)) through)
   pub before : T (not (assignedIn (take j (rowsAt f b)) u))
 
--- 17: "some path from entry reaches the use without an assignment". A source is used at its row; "a phi entry is a use at the
--- end of its predecessor, placed at the phi's row", and "the k-th phi entry belongs to the k-th predecessor".
+-- 17: "some path from entry reaches the use without an assignment". A source is used at its row; "A phi entry is a use at the
+-- end of its predecessor, placed at the phi's row", and "The k-th phi entry belongs to the k-th predecessor."
 pub data Missing (f : Func) (s : Spot) : Type 0 where
   source : (u : ℕ) → T (member u (sourcesOf (s .row))) → Late f u (s .block) (s .index) → Missing f s
   entry :

@@ -80,6 +80,10 @@ noBlock = record { name = []; rows = [] }
 abbrev pub noFunction : Func
 noFunction = record { name = []; ssa = 0; result = 0; params = 0; registers = []; blocks = []; entry = 0; placed = true }
 
+-- Function number i of a program.
+abbrev pub functionIn : Program → ℕ → Func
+functionIn p i = getD p i noFunction
+
 -- A function is accepted as ssa only if it is so marked.
 abbrev pub isSsa : Func → Bool
 isSsa f = eqb (f .ssa) 1

@@ -105,7 +105,8 @@ pub data Outcome : Type 0 where
   proceed : (draft : Draft) → Outcome
 
 -- 5, unless there is room for one more. It is tested at "the first token of the item beyond", and again where the item is put
--- down: there it never fails (Refusals.FiveBeyond), and shows that no list outgrows its size.
+-- down, and at a mention of a block, where two for each instruction suffice: there it never fails (Refusals.FiveBeyond), and shows that no
+-- list outgrows its size.
 abbrev pub ifRoom : (count limit place : ℕ) → Outcome → Outcome
 ifRoom k m p o = cond (ltb k m) o (refuse 5 p)
 

@@ -19,8 +19,8 @@ pub record Reaches (text : List ℕ) (p : ℕ) (s : Stage) (d : Draft) (t : Toke
   pub found : tokensOf text ≡ before ++ (Found.token p t ∷ after)
   pub stands : foldl take parse₀ before ≡ Parse.reading s d
 
--- "the first token of the item beyond": what is done about the token begins an item, and there are as many of that item
--- as its size allows.
+-- "the first token of the item beyond": what is done about the token begins an item (Grammar says at which tokens: aFunction, aParameter,
+-- aRegisterOrBlock, aBlock, anInstruction and the stage `entry`), and there are as many of that item as its size allows.
 pub data Beyond (d : Draft) : Act → Type 0 where
   function : length (d .functions) ≡ maxFunctions → Beyond d Act.beginFunction
   -- at a parameter's type, or at `register`

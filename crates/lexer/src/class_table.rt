@@ -1,4 +1,4 @@
-// The class table. "Each of the 256 byte values belongs to exactly one class."
+// The class table. "Each of the 256 byte values belongs to exactly one class".
 ghost use mathlib.Core.Path.{_≡_};
 ghost use Rattle.lexer.specs.Lexing.{classTable};
 

@@ -14,12 +14,12 @@ use lib.ListN.{length, getD, List·getD-eq-default}
 use Rattle.laws.specs.Lists.{any, all, keep, gather, below, empty, same}
 use Rattle.laws.proofs.Tests.{not-is-false}
 use Rattle.laws.proofs.Every.{Every, none, more, every-at, every-imp, every-gather, every-gathered, every-below, every-below-at, every-all, every-none, none-every, every-kept, kept-every, every-empty, empty-every}
-use Rattle.language.specs.Programs.{Row, Func, Program, noBlock, maxRegisters, maxBlocks, maxRows, maxEntries, entryCount, blockAt, rowsAt, rowsOf, firstRow, maxFunctions}
+use Rattle.language.specs.Programs.{Row, Func, Program, noBlock, maxRegisters, maxBlocks, maxRows, maxEntries, entryCount, blockAt, rowsAt, rowsOf, firstRow, maxFunctions, functionIn}
 use Rattle.language.specs.Checking.{Spot, spotAt, spotsFrom, spotsIn, spotsOf, inRange, breaks9, breaks10, breaks11, breaks12, breaks13, breaks14, breaks15, breaks16, breaks17, rowTests, breaksRow, Verdict, rowsThat, faults10, faults, firstFault, sizesRight, numbersRight, entryRight, namesRight, sound, judge, check, rowNumber, spelledOrNone, distinct}
 use Rattle.language.specs.Instructions.{typeCount, void}
 use Rattle.language.specs.Names.{spelled}
 use Rattle.theorems.specs.Clean.{Clean}
-use Rattle.theorems.specs.Accepted.{functionIn, namesBefore}
+use Rattle.theorems.specs.Accepted.{namesBefore}
 use Rattle.theorems.proofs.Judged.{accepted-each, each-accepted}
 
 -- ---- one row

@@ -8,13 +8,13 @@ use lib.Dec.{T, eqb, eqb→eq}
 use lib.ListN.{length}
 use Rattle.laws.proofs.Joining.{is-not}
 use Rattle.laws.proofs.Tests.{of-true}
-use Rattle.language.specs.Programs.{Func}
+use Rattle.language.specs.Programs.{Func, functionIn}
 use Rattle.language.specs.Checking.{spotAt, breaks17, sound, check}
 use Rattle.language.specs.Table.{tableLength, decode}
 use Rattle.language.specs.Answers.{checkAnswer}
 use Rattle.language.proofs.Paths.{missing-sound, missing-complete}
 use Rattle.theorems.specs.Clean.{Clean}
-use Rattle.theorems.specs.Accepted.{namesBefore, functionIn, RulesHold, AcceptedExactly, TableAcceptedExactly}
+use Rattle.theorems.specs.Accepted.{namesBefore, RulesHold, AcceptedExactly, TableAcceptedExactly}
 use Rattle.theorems.proofs.Judged.{accepted-each}
 use Rattle.theorems.proofs.AcceptanceCheck.{in-blocks, sound-parts, parts-sound, tested, clean-of-check, sound-of-check, check-of-clean}
 

@@ -13,9 +13,9 @@ use lib.Seq.{take-suc}
 use Rattle.laws.specs.Lists.{any, same}
 use Rattle.laws.proofs.Indexing.{getD-of-drop, drop-of-drop}
 use Rattle.laws.proofs.Joining.{any-both}
-use Rattle.language.specs.Programs.{Func, Program, noFunction, maxFunctions}
+use Rattle.language.specs.Programs.{Func, Program, noFunction, maxFunctions, functionIn}
 use Rattle.language.specs.Checking.{Verdict, sound, judge, judgeFrom, check}
-use Rattle.theorems.specs.Accepted.{functionIn, namesBefore}
+use Rattle.theorems.specs.Accepted.{namesBefore}
 
 -- The verdict on function number i.
 abbrev pub judged : Program → ℕ → Verdict

@@ -27,6 +27,7 @@ pub mod SimulationRelation
 pub mod SimulationKept
 pub mod SimulationPhis
 pub mod Simulation
+pub mod NoRefusal
 pub mod StopNumbers
 pub mod Demand
 pub mod OverTables

@@ -19,10 +19,10 @@ use Rattle.language.specs.Checking.{Verdict, check}
 use Rattle.language.specs.Running.{Outcome, Ends, argumentsFit, firstUnfit, runOf, phisOf}
 use Rattle.language.specs.Answers.{Ran, ranNumbers, checkAnswer, runAnswer, runFunction, translateAnswer, translateFunction, fill, ranAs}
 use Rattle.language.specs.Translating.{translation, translationFits, stepFormula, registerFor}
-use Rattle.theorems.specs.Statements.{ranOf}
+use Rattle.theorems.specs.Statements.{ranWith}
 use Rattle.theorems.specs.Demand3.{RunsAlike, Translates}
 use Rattle.theorems.specs.TableLaw.{Held}
-use Rattle.theorems.specs.OverTables.{functionOf, TranslatableIn, Translated, Demand3OverTables, EndedWith, UsedUp, EndsBoth, Compared, RunsAgree, RunsOverTables}
+use Rattle.theorems.specs.OverTables.{functionInTable, TranslatableIn, Translated, Demand3OverTables, EndedWith, UsedUp, EndBoth, Compared, RunsAgree, RunsOverTables}
 use Rattle.theorems.proofs.AcceptanceCheck.{sound-parts, tested, clean-of-check}
 use Rattle.theorems.proofs.Demand.{demand3}
 use Rattle.theorems.proofs.Budgets.{budget-agrees}
@@ -44,7 +44,7 @@ module _ (t : List ℕ) (e : checkAnswer t ≡ Verdict.accepted) where
 
 module _ (t : List ℕ) (i : ℕ) (h : TranslatableIn t i) where
   abbrev source : Func
-  source = functionOf t i
+  source = functionInTable t i
 
   translates : Translates source (translation source)
   translates = demand3 (decode t) i (record { passes = accepted-program t (h .passes); there = h .there; marked = h .marked; sized = h .sized })
@@ -60,7 +60,7 @@ module _ (t : List ℕ) (i : ℕ) (h : TranslatableIn t i) where
   abbrev written : List ℕ
   written = cells (translation source ∷ [])
 
-  alone : functionOf written 0 ≡ translation source
+  alone : functionInTable written 0 ≡ translation source
   alone = ap (λ (p : Program). getD p 0 noFunction) (held .back)
 
   passing : checkAnswer written ≡ Verdict.accepted
@@ -87,19 +87,19 @@ run-answer :
     (t : List ℕ) (i : ℕ) (args : List ℕ) (b c : ℕ)
     → checkAnswer t ≡ Verdict.accepted
     → i < length (decode t)
-    → T (argumentsFit (functionOf t i) args)
-    → length (functionOf t i .registers) ≤ c
-    → runAnswer t i args b c .answer ≡ ranAs i (functionOf t i) (runOf (functionOf t i) args b)
+    → T (argumentsFit (functionInTable t i) args)
+    → length (functionInTable t i .registers) ≤ c
+    → runAnswer t i args b c .answer ≡ ranAs i (functionInTable t i) (runOf (functionInTable t i) args b)
 unfolding runAnswer runFunction argumentsFit
 run-answer t i args b c e l a r =
-    let counted = eqb (length args) (functionOf t i .params) in
-    let fitted = eqb (firstUnfit (functionOf t i) args) (length args) in
+    let counted = eqb (length args) (functionInTable t i .params) in
+    let fitted = eqb (firstUnfit (functionInTable t i) args) (length args) in
     rw (
       e,
       lt-ltb i (length (decode t)) l,
       is-true counted (and-l counted fitted a),
       is-true fitted (and-r counted fitted a),
-      le-ltb c (length (functionOf t i .registers)) r,
+      le-ltb c (length (functionInTable t i .registers)) r,
     )
     refl
 
@@ -127,15 +127,16 @@ module _ (f g : Func) (args : List ℕ) (h : RunsAlike f g args) (i j b b′ : �
   abbrev y : Ran
   y = ranAs j g (runOf g args b′)
 
-  both-end : (n : ℕ) (o : Outcome) → Ends f args n o → EndsBoth f args n (stepFormula f args n) o
-  both-end n o e = record { ends = e; formula = refl; atLeast = h .atLeast n o e; atMost = h .atMost n o e }
+  both-end : (n : ℕ) (o : Outcome) → Ends f args n o → EndBoth f g args n (stepFormula f args n) o
+  both-end n o e =
+      record { sourceEnds = e; translationEnds = h .ends n o e; formula = refl; atLeast = h .atLeast n o e; atMost = h .atMost n o e }
 
-  compare : Stands f args b → Stands g args b′ → Compared (λ r. r) f args b b′ x y
+  compare : Stands f args b → Stands g args b′ → Compared (λ r. r) f g args b b′ x y
   compare (Stands.ended n o e l) (Stands.ended m u d k) =
       let w = h .onlyIf m u d in
       let same = ends-once f args (w .1) e in
       Compared.both n m o
-      (subst⁻¹ (λ (v : ℕ). EndsBoth f args n v o) (w .2 ∙ ap (stepFormula f args) (same .0)) (both-end n o e))
+      (subst⁻¹ (λ (v : ℕ). EndBoth f g args n v o) (w .2 ∙ ap (stepFormula f args) (same .0)) (both-end n o e))
       l k
       (budget-agrees i f args b .ended n o l e)
       (budget-agrees j g args b′ .ended m o k (subst (Ends g args m) (same .1) d))
@@ -147,14 +148,14 @@ module _ (f g : Func) (args : List ℕ) (h : RunsAlike f g args) (i j b b′ : �
   compare (Stands.going l) (Stands.ended m u d k) =
       let w = h .onlyIf m u d in
       Compared.translationAlone (w .0) m u
-      (subst⁻¹ (λ (v : ℕ). EndsBoth f args (w .0) v u) (w .2) (both-end (w .0) u (w .1)))
+      (subst⁻¹ (λ (v : ℕ). EndBoth f g args (w .0) v u) (w .2) (both-end (w .0) u (w .1)))
       (goes-before f args (w .1) l)
       k
       (budget-agrees i f args b .going l)
       (budget-agrees j g args b′ .ended m u k d)
-  compare (Stands.going l) (Stands.going k) = Compared.neither l (budget-agrees i f args b .going l) (budget-agrees j g args b′ .going k)
+  compare (Stands.going l) (Stands.going k) = Compared.unended l k (budget-agrees i f args b .going l) (budget-agrees j g args b′ .going k)
 
-  agree : RunsAgree (λ r. r) f args b b′ x y
+  agree : RunsAgree (λ r. r) f g args b b′ x y
   unfolding ranNumbers
   agree =
       record {
@@ -172,8 +173,8 @@ module _ (f g : Func) (args : List ℕ) (h : RunsAlike f g args) (i j b b′ : �
 
 pub runs-over-tables : RunsOverTables
 runs-over-tables t i x args b b′ c c′ h d a l l′ =
-    let f = functionOf t i in
-    let g = functionOf (x .table) 0 in
+    let f = functionInTable t i in
+    let g = functionInTable (x .table) 0 in
     let sound = sound-parts [] f (clean-of-check (decode t) i (accepted-program t (h .passes)) (h .there) .head) in
     let fits = subst⁻¹ (λ (k : Func). T (argumentsFit k args)) (d .translates .defined) (fits-translation f args (sound .params) a) in
     let one : 0 < length (decode (x .table)) = subst⁻¹ (λ (p : Program). 0 < length p) (d .holds) (omega arith) in
@@ -184,33 +185,33 @@ runs-over-tables t i x args b b′ c c′ h d a l l′ =
 
 -- In this form an end and a budget used up are told apart.
 abbrev pub Tells : {A : Type 0} → (Ran → A) → Type 0
-Tells told = (o : Outcome) (p n q s : ℕ) → told (ranOf o p n) ≡ told (Ran.stopped 43 q s) → o ≡ Outcome.stopped 43
+Tells told = (o : Outcome) (p n q s : ℕ) → told (ranWith o p n) ≡ told (Ran.stopped 43 q s) → o ≡ Outcome.stopped 43
 
-module _ {A : Type 0} (told : Ran → A) (tells : Tells told) (f : Func) (args : List ℕ) (b b′ : ℕ) (x y : Ran) where
+module _ {A : Type 0} (told : Ran → A) (tells : Tells told) (f g : Func) (args : List ℕ) (b b′ : ℕ) (x y : Ran) where
   ended-told : (o : Outcome) (n : ℕ) (z : Ran) → EndedWith (λ r. r) o n z → EndedWith told o n (told z)
   ended-told o n z e = (e .0, ap told (e .1))
 
   used-told : (n : ℕ) (z : Ran) → UsedUp (λ r. r) n z → UsedUp told n (told z)
   used-told n z e = (e .0, ap told (e .1))
 
-  compared-told : Compared (λ r. r) f args b b′ x y → Compared told f args b b′ (told x) (told y)
+  compared-told : Compared (λ r. r) f g args b b′ x y → Compared told f g args b b′ (told x) (told y)
   compared-told (Compared.both n m o e l k u v) = Compared.both n m o e l k (ended-told o n x u) (ended-told o m y v)
   compared-told (Compared.sourceAlone n m o e l k u v) = Compared.sourceAlone n m o e l k (ended-told o n x u) (used-told b′ y v)
   compared-told (Compared.translationAlone n m o e l k u v) = Compared.translationAlone n m o e l k (used-told b x u) (ended-told o m y v)
-  compared-told (Compared.neither e u v) = Compared.neither e (used-told b x u) (used-told b′ y v)
+  compared-told (Compared.unended e d u v) = Compared.unended e d (used-told b x u) (used-told b′ y v)
 
   -- no end is told as 43
-  not-ended : (n m : ℕ) (o : Outcome) (p s : ℕ) → EndsBoth f args n m o → EndedWith (λ r. r) o n x → told x ≡ told (Ran.stopped 43 p s) → ⊥
+  not-ended : (n m : ℕ) (o : Outcome) (p s : ℕ) → EndBoth f g args n m o → EndedWith (λ r. r) o n x → told x ≡ told (Ran.stopped 43 p s) → ⊥
   not-ended n m o p s e u k =
-      no-end-is-43 f args n (subst (Ends f args n) (tells o (u .0) n p s (sym (ap told (u .1)) ∙ k)) (e .ends))
+      no-end-is-43 f args n (subst (Ends f args n) (tells o (u .0) n p s (sym (ap told (u .1)) ∙ k)) (e .sourceEnds))
 
-  used-up : (p s : ℕ) → Compared (λ r. r) f args b b′ x y → told x ≡ told (Ran.stopped 43 p s) → UsedUp (λ r. r) b x
+  used-up : (p s : ℕ) → Compared (λ r. r) f g args b b′ x y → told x ≡ told (Ran.stopped 43 p s) → UsedUp (λ r. r) b x
   used-up p s (Compared.both n m o e l k u v) d = absurd (not-ended n m o p s e u d)
   used-up p s (Compared.sourceAlone n m o e l k u v) d = absurd (not-ended n m o p s e u d)
   used-up p s (Compared.translationAlone n m o e l k u v) d = u
-  used-up p s (Compared.neither e u v) d = u
+  used-up p s (Compared.unended e c u v) d = u
 
-  pub runs-told : RunsAgree (λ r. r) f args b b′ x y → RunsAgree told f args b b′ (told x) (told y)
+  pub runs-told : RunsAgree (λ r. r) f g args b b′ x y → RunsAgree told f g args b b′ (told x) (told y)
   runs-told h =
       record {
         compared = compared-told (h .compared);

@@ -10,11 +10,11 @@ use native.Mathlib.Decide.{decLt}
 use borrow.Author.Tests.{eqb-true, eqb-false, eq-eqb, ne-eqb}
 use lib.Dec.{eqb, lit<}
 use lib.ListN.{length}
-use Rattle.language.specs.Programs.{Program, maxFunctions}
+use Rattle.language.specs.Programs.{Program, maxFunctions, functionIn}
 use Rattle.language.specs.Checking.{Verdict, check}
 use Rattle.language.specs.Table.{tableLength, decode}
 use Rattle.language.specs.Answers.{checkAnswer}
-use Rattle.theorems.specs.Accepted.{namesBefore, functionIn, Broken, Fault, AcceptedWithoutFault, faultPlace, Before, Refused, RefusedExactly, TableRefused, TableRefusedExactly}
+use Rattle.theorems.specs.Accepted.{namesBefore, Broken, Fault, AcceptedWithoutFault, faultPlace, Before, Refused, RefusedExactly, TableRefused, TableRefusedExactly}
 use Rattle.theorems.proofs.Judged.{judged, refused-not-accepted, Checked, checked}
 use Rattle.theorems.proofs.FirstBroken.{First, numbers, first-broken}
 

@@ -1,49 +1,47 @@
--- The numbers with which a run stops lie below 43, so that an answer 43 says that the run has not ended.
+-- The numbers with which a run stops are four, and 43 is none of them, so that an answer 43 says that the run has not ended.
 -- Assumes nothing.
 use mathlib.Core.Path.{_≡_, refl, subst}
 use mathlib.Core.Bool.{Bool, true, false, cond}
 use mathlib.Core.List.{List, [], _∷_}
 use Prim.Native.Nat.{ℕ, suc, _<_}
 use native.Mathlib.Omega.{arith}
-use lib.Dec.{eqb, ltb}
+use lib.Dec.{T, eqb, ltb}
 use lib.ListN.{length, drop}
-use Rattle.laws.specs.Lists.{any}
+use Rattle.laws.specs.Lists.{any, member}
 use Rattle.language.specs.Arithmetic.{Computed, binaryOf, div, rem, within, overflows}
-use Rattle.language.specs.Programs.{Row, Func, Program, rowsAt, typeAt, isPhi}
+use Rattle.language.specs.Programs.{Row, Func, rowsAt, typeAt, isPhi}
 use Rattle.language.specs.Checking.{Verdict, breaksRow}
 use Rattle.language.specs.Running.{Place, Outcome, Next, Run, NotEnded, onward, valueAt, writeAll, phisOf, cameBy, phiStep, assign, perform, performAt, step, start, startRegisters, runOf, firstUnfit}
 use Rattle.language.specs.Table.{decode}
 use Rattle.language.specs.Answers.{Finished, ranNumbers, checkAnswer, refusedRun, ifAccepted, runFunction, runAnswer, ranAs, leftIn}
-use Rattle.theorems.specs.OverTables.{NoEndIs43, AnsweredIs43, functionOf}
-use Rattle.theorems.specs.Accepted.{namesBefore, functionIn, Fault, TableRefused}
-use Rattle.theorems.proofs.FirstBroken.{numbers}
-use Rattle.theorems.proofs.Refused.{table-refused-exactly}
+use Rattle.theorems.specs.OverTables.{stopNumbers, StopsWithThese, NoEndIs43, AnsweredIs43, functionInTable}
+use Rattle.theorems.proofs.NoRefusal.{refused-numbers}
 use Rattle.theorems.proofs.Budgets.{going-counts}
 use Rattle.theorems.proofs.SimulationRuns.{ended-stops, ends-stops}
 
 -- ---- what an instruction, a row and a step stop with
 
-abbrev Stops43 : Computed → Type 0
-Stops43 (Computed.value v) = Unit {0}
-Stops43 (Computed.stops k) = k < 43
+abbrev StopsAs : Computed → Type 0
+StopsAs (Computed.value v) = Unit {0}
+StopsAs (Computed.stops k) = T (member k stopNumbers)
 
-stops-cond : (b : Bool) (x y : Computed) → Stops43 x → Stops43 y → Stops43 (cond b x y)
+stops-cond : (b : Bool) (x y : Computed) → StopsAs x → StopsAs y → StopsAs (cond b x y)
 stops-cond true x y p q = p
 stops-cond false x y p q = q
 
-stops-div : (t a b : ℕ) → Stops43 (div t a b)
+stops-div : (t a b : ℕ) → StopsAs (div t a b)
 unfolding div
-stops-div t a b = stops-cond (eqb b 0) _ _ (omega arith) (stops-cond (overflows t a b) _ _ (omega arith) tt)
+stops-div t a b = stops-cond (eqb b 0) _ _ tt (stops-cond (overflows t a b) _ _ tt tt)
 
-stops-rem : (t a b : ℕ) → Stops43 (rem t a b)
+stops-rem : (t a b : ℕ) → StopsAs (rem t a b)
 unfolding rem
-stops-rem t a b = stops-cond (eqb b 0) _ _ (omega arith) tt
+stops-rem t a b = stops-cond (eqb b 0) _ _ tt tt
 
-stops-within : (w k x : ℕ) → Stops43 (within w k x)
+stops-within : (w k x : ℕ) → StopsAs (within w k x)
 unfolding within
-stops-within w k x = stops-cond (ltb k w) _ _ tt (omega arith)
+stops-within w k x = stops-cond (ltb k w) _ _ tt tt
 
-stops-binary : (op t a b : ℕ) → Stops43 (binaryOf op t a b)
+stops-binary : (op t a b : ℕ) → StopsAs (binaryOf op t a b)
 unfolding binaryOf
 stops-binary op t a b =
     stops-cond (eqb op 9) _ _ tt
@@ -62,22 +60,22 @@ stops-binary op t a b =
     (stops-cond (eqb op 24) _ _ tt
     (stops-cond (eqb op 25) _ _ tt (stops-cond (eqb op 26) _ _ tt (stops-cond (eqb op 27) _ _ tt tt))))))))))))))))
 
-abbrev Ends43 : Next → Type 0
-Ends43 (Next.go p g) = Unit {0}
-Ends43 (Next.end (Outcome.returned v)) = Unit {0}
-Ends43 (Next.end Outcome.left) = Unit {0}
-Ends43 (Next.end (Outcome.stopped k)) = k < 43
+abbrev EndsAs : Next → Type 0
+EndsAs (Next.go p g) = Unit {0}
+EndsAs (Next.end (Outcome.returned v)) = Unit {0}
+EndsAs (Next.end Outcome.left) = Unit {0}
+EndsAs (Next.end (Outcome.stopped k)) = T (member k stopNumbers)
 
-ends-cond : (b : Bool) (x y : Next) → Ends43 x → Ends43 y → Ends43 (cond b x y)
+ends-cond : (b : Bool) (x y : Next) → EndsAs x → EndsAs y → EndsAs (cond b x y)
 ends-cond true x y p q = p
 ends-cond false x y p q = q
 
-ends-assign : (p : Place) (g : List ℕ) (t : ℕ) (c : Computed) → Stops43 c → Ends43 (assign p g t c)
+ends-assign : (p : Place) (g : List ℕ) (t : ℕ) (c : Computed) → StopsAs c → EndsAs (assign p g t c)
 unfolding assign
 ends-assign p g t (Computed.value v) s = tt
 ends-assign p g t (Computed.stops n) s = s
 
-ends-row : (f : Func) (p : Place) (g : List ℕ) (r : Row) → Ends43 (perform f p g r)
+ends-row : (f : Func) (p : Place) (g : List ℕ) (r : Row) → EndsAs (perform f p g r)
 unfolding perform phiStep
 ends-row f p g Row.nop = tt
 ends-row f p g (Row.load op t n) = tt
@@ -91,24 +89,30 @@ ends-row f p g (Row.jump b) = tt
 ends-row f p g (Row.branch s x y) = tt
 ends-row f p g (Row.return s) = tt
 ends-row f p g Row.leave = tt
-ends-row f p g (Row.unknown op) = omega arith
+ends-row f p g (Row.unknown op) = tt
 
-ends-at : (f : Func) (p : Place) (g : List ℕ) (rs : List Row) → Ends43 (performAt f p g rs)
+ends-at : (f : Func) (p : Place) (g : List ℕ) (rs : List Row) → EndsAs (performAt f p g rs)
 unfolding performAt
-ends-at f p g [] = omega arith
+ends-at f p g [] = tt
 ends-at f p g (r ∷ rs) =
-    ends-cond (breaksRow f (record { block = p .block; index = p .row; row = r })) (Next.end (Outcome.stopped 27)) (perform f p g r) (omega arith) (ends-row f p g r)
+    ends-cond (breaksRow f (record { block = p .block; index = p .row; row = r })) (Next.end (Outcome.stopped 27)) (perform f p g r) tt (ends-row f p g r)
 
-step-stops : (f : Func) (p : Place) (g : List ℕ) (k : ℕ) → step f p g ≡ Next.end (Outcome.stopped k) → k < 43
+step-stops : (f : Func) (p : Place) (g : List ℕ) (k : ℕ) → step f p g ≡ Next.end (Outcome.stopped k) → T (member k stopNumbers)
 unfolding step
-step-stops f p g k e = subst Ends43 e (ends-at f p g (drop (p .row) (rowsAt f (p .block))))
+step-stops f p g k e = subst EndsAs e (ends-at f p g (drop (p .row) (rowsAt f (p .block))))
 
 -- ---- what a run ends with
 
-pub no-end-is-43 : NoEndIs43
-no-end-is-43 f args n e =
+pub stops-with-these : StopsWithThese
+stops-with-these f args n k e =
     let s = ends-stops f args e .2 in
-    omega (arith, step-stops f _ _ _ (s .stop))
+    step-stops f _ _ k (s .stop)
+
+not-43 : (k : ℕ) → T (member k stopNumbers) → k ≡ 43 → ⊥
+not-43 k h e = subst (λ (n : ℕ). T (member n stopNumbers)) e h
+
+pub no-end-is-43 : NoEndIs43
+no-end-is-43 f args n e = not-43 _ (stops-with-these f args n _ e) refl
 
 -- Where the number answered is 43, the run has not ended.
 pub run-of-43 :
@@ -124,17 +128,7 @@ run-of-43 i f args b = by (runOf f args b) refl
     by (Run.ended Outcome.left q g) r e = absurd (omega (arith, e))
     by (Run.ended (Outcome.stopped k) q g) r e =
         let h = ended-stops b f (start f) (startRegisters f args) (Outcome.stopped k) q g r .2 in
-        absurd (omega (arith, e, step-stops f _ _ _ (h .stop)))
-
--- ---- what a check refuses with
-
-fault-below : {p : Program} {i k r : ℕ} → Fault p i k r → k < 43
-fault-below (Fault.count h) = omega arith
-fault-below {p} (Fault.function i k r l h) = omega (arith, numbers (namesBefore p i) (functionIn p i) k r h .1)
-
-refused-below : {t : List ℕ} {k p : ℕ} → TableRefused t k p → k < 43
-refused-below (TableRefused.size h) = omega arith
-refused-below (TableRefused.program k p l h) = fault-below (h .fault)
+        absurd (not-43 k (step-stops f _ _ k (h .stop)) e)
 
 -- ---- what a call answers
 
@@ -156,12 +150,12 @@ module _ (f : Func) (args : List ℕ) (b : ℕ) where
     where
       by : (v : Verdict) → checkAnswer t ≡ v → Told43 f args b (ifAccepted v (refusedRun n) x)
       by Verdict.accepted e = h
-      by (Verdict.refused k p) e = told-refused n k p (refused-below (table-refused-exactly t k p .0 e))
+      by (Verdict.refused k p) e = told-refused n k p (omega (arith, refused-numbers t k p e .1))
 
 pub answered-is-43 : AnsweredIs43
 unfolding runAnswer runFunction
 answered-is-43 t i args b c =
-    let f = functionOf t i in
+    let f = functionInTable t i in
     let d = decode t in
     let unfit = firstUnfit f args in
     let done : Finished = record { answer = ranAs i f (runOf f args b); registers = leftIn c (runOf f args b) } in

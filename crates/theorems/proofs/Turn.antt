@@ -16,7 +16,7 @@ use Rattle.language.proofs.Computing.{computing}
 use Rattle.language.proofs.ReadingFacts.{turn}
 use Rattle.language.proofs.WholeFunction.{turn-accepted}
 use Rattle.theorems.specs.Demand3.{Translatable}
-use Rattle.theorems.specs.OverTables.{functionOf, TranslatableIn}
+use Rattle.theorems.specs.OverTables.{functionInTable, TranslatableIn}
 use Rattle.theorems.proofs.TableSound.{accepted-held}
 
 pub translatable-cells : (p : Program) (i : ℕ) → Translatable (check p) p i → TranslatableIn (cells p) i
@@ -46,5 +46,5 @@ pub turn-translatable : TranslatableIn (cells (turn ∷ [])) 0
 turn-translatable =
     translatable-cells (turn ∷ []) 0 (record { passes = turn-accepted; there = omega arith; marked = turn-marked; sized = turn-sized })
 
-pub turn-fits : T (argumentsFit (functionOf (cells (turn ∷ [])) 0) (7 ∷ 9 ∷ 2 ∷ []))
+pub turn-fits : T (argumentsFit (functionInTable (cells (turn ∷ [])) 0) (7 ∷ 9 ∷ 2 ∷ []))
 turn-fits = rw (accepted-held (turn ∷ []) turn-accepted .back) turn-fitting

@@ -6,16 +6,13 @@ use mathlib.Core.Bool.{false, cond}
 use mathlib.Core.List.{List, map}
 use Prim.Native.Nat.{ℕ, _≤_, _<_}
 use lib.Dec.{T, eqb}
-use lib.ListN.{length, getD, take}
-use Rattle.language.specs.Programs.{Func, Program, noFunction, maxFunctions, isSsa, rowsAt, firstRow, rowPlace}
+use lib.ListN.{length, take}
+use Rattle.language.specs.Programs.{Func, Program, functionIn, maxFunctions, isSsa, rowsAt, firstRow, rowPlace}
 use Rattle.language.specs.Checking.{Spot, spotAt, rowNumber, breaks10, breaks11, breaks12, breaks13, breaks14, breaks15, breaks16, breaksRow, Missing, Verdict, sound, check}
 use Rattle.language.specs.Table.{tableLength, decode}
 use Rattle.language.specs.Answers.{checkAnswer}
 
--- Function number i, and the names of those before it.
-abbrev pub functionIn : Program → ℕ → Func
-functionIn p i = getD p i noFunction
-
+-- The names of the functions before number i.
 abbrev pub namesBefore : Program → ℕ → List (List ℕ)
 namesBefore p i = map (λ f. f .name) (take i p)
 

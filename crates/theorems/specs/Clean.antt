@@ -1,4 +1,5 @@
--- What acceptance says of one function, row by row, and where a run of it can be.
+-- Vocabulary of contracts below the entry points: what acceptance says of one function, row by row (Accepted says it over paths, `RulesHold`), and
+-- where a run of it can be. No statement cites it.
 -- Assumes nothing.
 use mathlib.Core.Path.{_≡_}
 use mathlib.Core.Bool.{true, false}

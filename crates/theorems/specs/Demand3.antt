@@ -6,9 +6,9 @@ use mathlib.Core.Bool.{not}
 use mathlib.Core.List.{List, [], _∷_}
 use Prim.Native.Nat.{ℕ, _*_, _≤_, _<_}
 use lib.Dec.{T}
-use lib.ListN.{length, getD}
+use lib.ListN.{length}
 use Rattle.laws.specs.Lists.{any}
-use Rattle.language.specs.Programs.{Func, Program, noFunction, isSsa, isPhi, rowsOf}
+use Rattle.language.specs.Programs.{Func, Program, functionIn, isSsa, isPhi, rowsOf}
 use Rattle.language.specs.Checking.{Verdict, check}
 use Rattle.language.specs.Running.{Outcome, Ends, NotEnded, argumentsFit}
 use Rattle.language.specs.Translating.{translation, translationFits, stepFormula}
@@ -18,12 +18,12 @@ use Rattle.language.specs.Translating.{translation, translationFits, stepFormul
 pub record Translatable (verdict : Verdict) (p : Program) (i : ℕ) : Type 0 where
   pub passes : verdict ≡ Verdict.accepted
   pub there : i < length p
-  pub marked : T (isSsa (getD p i noFunction))
-  pub sized : T (translationFits (getD p i noFunction))
+  pub marked : T (isSsa (functionIn p i))
+  pub sized : T (translationFits (functionIn p i))
 
 -- Source f and translation g, run on these arguments "without a budget".
 pub record RunsAlike (f g : Func) (args : List ℕ) : Type 0 where
-  -- "The translation ends exactly if the source does."
+  -- "The translation ends exactly if the source does": only if, here; if, in the next field.
   pub onlyIf : (m : ℕ) (o : Outcome) → Ends g args m o → (n : ℕ) × Ends f args n o × (m ≡ stepFormula f args n)
   -- "If the source ends after n steps, the translation ends with the same returned value, the same return without one, or the same stop
   -- number. It does so after exactly the steps that document 01's step formula counts,"
@@ -34,7 +34,7 @@ pub record RunsAlike (f g : Func) (args : List ℕ) : Type 0 where
   -- "For every n, if the source has not ended after n steps, the translation has not ended after n steps either."
   pub notEnded : (n : ℕ) → NotEnded f args n → NotEnded g args n
 
--- Translating f gave g.
+-- Translating f gave g: over programs g is `translation f` itself, over tables what the output's cells hold.
 pub record Translates (f g : Func) : Type 0 where
   -- "Translating it gives the translation that document 01 defines,"
   pub defined : g ≡ translation f
@@ -49,4 +49,4 @@ abbrev pub Demand3 : Type 0
 Demand3 =
     (p : Program) (i : ℕ)
     → Translatable (check p) p i
-    → (let f = getD p i noFunction in Translates f (translation f))
+    → Translates (functionIn p i) (translation (functionIn p i))

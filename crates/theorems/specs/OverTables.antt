@@ -4,19 +4,20 @@ use mathlib.Core.Path.{_≡_}
 use mathlib.Core.List.{List, [], _∷_}
 use Prim.Native.Nat.{ℕ, _*_, _≤_, _<_}
 use lib.Dec.{T}
-use lib.ListN.{length, getD}
-use Rattle.language.specs.Programs.{Func, noFunction}
+use lib.ListN.{length}
+use Rattle.laws.specs.Lists.{member}
+use Rattle.language.specs.Programs.{Func, functionIn}
 use Rattle.language.specs.Table.{tableLength, cells, decode}
 use Rattle.language.specs.Checking.{Verdict}
 use Rattle.language.specs.Running.{Outcome, Ends, NotEnded, argumentsFit}
-use Rattle.language.specs.Answers.{Ran, Filled, ranNumbers, checkAnswer, runAnswer, translateAnswer}
+use Rattle.language.specs.Answers.{Ran, Filled, verdictNumbers, ranNumbers, checkAnswer, runAnswer, translateAnswer}
 use Rattle.language.specs.Translating.{translation, stepFormula}
-use Rattle.theorems.specs.Statements.{ranOf}
+use Rattle.theorems.specs.Statements.{ranWith}
 use Rattle.theorems.specs.Demand3.{Translatable, Translates}
 
 -- Function i of a table, as its cells give it.
-abbrev pub functionOf : List ℕ → ℕ → Func
-functionOf t i = getD (decode t) i noFunction
+abbrev pub functionInTable : List ℕ → ℕ → Func
+functionInTable t i = functionIn (decode t) i
 
 -- Function i of a table is one that demand 3 speaks of.
 abbrev pub TranslatableIn : List ℕ → ℕ → Type 0
@@ -26,53 +27,68 @@ TranslatableIn t i = Translatable (checkAnswer t) (decode t) i
 -- passes its check, and holds that one function.
 pub record Translated (t : List ℕ) (i : ℕ) (x : Filled) : Type 0 where
   pub done : x .answer ≡ Verdict.accepted
-  pub written : x .table ≡ cells (translation (functionOf t i) ∷ [])
+  pub written : x .table ≡ cells (translation (functionInTable t i) ∷ [])
   pub passes : checkAnswer (x .table) ≡ Verdict.accepted
-  pub holds : decode (x .table) ≡ functionOf (x .table) 0 ∷ []
-  pub translates : Translates (functionOf t i) (functionOf (x .table) 0)
+  pub holds : decode (x .table) ≡ functionInTable (x .table) 0 ∷ []
+  pub translates : Translates (functionInTable t i) (functionInTable (x .table) 0)
 
 abbrev pub Demand3OverTables : Type 0
 Demand3OverTables = (t : List ℕ) (i : ℕ) → TranslatableIn t i → Translated t i (translateAnswer t i tableLength)
 
+-- Number 0 says that nothing was refused: so a caller learns by its calls that a function is one that demand 3 speaks of.
+abbrev pub CheckedIs0 : Type 0
+CheckedIs0 = (t : List ℕ) → verdictNumbers (checkAnswer t) .number ≡ 0 → checkAnswer t ≡ Verdict.accepted
+
+abbrev pub TranslatedIs0 : Type 0
+TranslatedIs0 = (t : List ℕ) (i n : ℕ) → verdictNumbers (translateAnswer t i n .answer) .number ≡ 0 → TranslatableIn t i × (n ≡ tableLength)
+
 -- ---- under budgets
 
--- "43 | stop: budget used up" is no end of a run: no run ends with that stop, so that a call which answers 43, whatever it was called with, says
--- that its run has not ended after as many steps as its budget.
+-- "Each refusal and each stop is a number in document 01": the stops that end a run.
+abbrev pub stopNumbers : List ℕ
+stopNumbers = 27 ∷ 40 ∷ 41 ∷ 42 ∷ []
+
+abbrev pub StopsWithThese : Type 0
+StopsWithThese = (f : Func) (args : List ℕ) (n k : ℕ) → Ends f args n (Outcome.stopped k) → T (member k stopNumbers)
+
+-- "43 | stop: budget used up" is none of them, so that a call which answers 43, whatever it was called with, says that its run has not ended after
+-- as many steps as its budget.
 abbrev pub NoEndIs43 : Type 0
 NoEndIs43 = (f : Func) (args : List ℕ) (n : ℕ) → Ends f args n (Outcome.stopped 43) → ⊥
 
 abbrev pub AnsweredIs43 : Type 0
 AnsweredIs43 =
     (t : List ℕ) (i : ℕ) (args : List ℕ) (b c : ℕ)
-    → (let a = ranNumbers (runAnswer t i args b c .answer) in a .number ≡ 43 → NotEnded (functionOf t i) args b × (a .steps ≡ b))
+    → (let a = ranNumbers (runAnswer t i args b c .answer) in a .number ≡ 43 → NotEnded (functionInTable t i) args b × (a .steps ≡ b))
 
 -- An answer as a caller has it, `told` giving its form: that the run ended with outcome o after n steps; that its budget b was used up.
 abbrev pub EndedWith : {A : Type 0} → (Ran → A) → Outcome → ℕ → A → Type 0
-EndedWith told o n x = (p : ℕ) × (x ≡ told (ranOf o p n))
+EndedWith told o n x = (p : ℕ) × (x ≡ told (ranWith o p n))
 
 abbrev pub UsedUp : {A : Type 0} → (Ran → A) → ℕ → A → Type 0
 UsedUp told b x = (p : ℕ) × (x ≡ told (Ran.stopped 43 p b))
 
--- The source ends after n steps with outcome o, and its translation after m.
-pub record EndsBoth (f : Func) (args : List ℕ) (n m : ℕ) (o : Outcome) : Type 0 where
-  pub ends : Ends f args n o
+-- Source f ends after n steps, and translation g after m, with the same outcome o.
+pub record EndBoth (f g : Func) (args : List ℕ) (n m : ℕ) (o : Outcome) : Type 0 where
+  pub sourceEnds : Ends f args n o
+  pub translationEnds : Ends g args m o
   pub formula : m ≡ stepFormula f args n
   pub atLeast : n ≤ m
   pub atMost : m ≤ 3 * n
 
--- What source f, called with budget b, and its translation, called with budget b′, may answer: x and y.
-pub data Compared {A : Type 0} (told : Ran → A) (f : Func) (args : List ℕ) (b b′ : ℕ) (x y : A) : Type 0 where
-  -- both end within their budgets, with the same outcome
-  both : (n m : ℕ) (o : Outcome) → EndsBoth f args n m o → n ≤ b → m ≤ b′ → EndedWith told o n x → EndedWith told o m y → Compared told f args b b′ x y
+-- What source f, called with budget b, and its translation g, called with budget b′, may answer: x and y.
+pub data Compared {A : Type 0} (told : Ran → A) (f g : Func) (args : List ℕ) (b b′ : ℕ) (x y : A) : Type 0 where
+  -- both end within their budgets
+  both : (n m : ℕ) (o : Outcome) → EndBoth f g args n m o → n ≤ b → m ≤ b′ → EndedWith told o n x → EndedWith told o m y → Compared told f g args b b′ x y
   -- the source ends, and the translation needs more than its budget
-  sourceAlone : (n m : ℕ) (o : Outcome) → EndsBoth f args n m o → n ≤ b → b′ < m → EndedWith told o n x → UsedUp told b′ y → Compared told f args b b′ x y
+  sourceAlone : (n m : ℕ) (o : Outcome) → EndBoth f g args n m o → n ≤ b → b′ < m → EndedWith told o n x → UsedUp told b′ y → Compared told f g args b b′ x y
   -- the source needs more than its budget, and the translation, whose is larger, ends with the outcome that the source comes to
-  translationAlone : (n m : ℕ) (o : Outcome) → EndsBoth f args n m o → b < n → m ≤ b′ → UsedUp told b x → EndedWith told o m y → Compared told f args b b′ x y
-  -- neither ends
-  neither : NotEnded f args b → UsedUp told b x → UsedUp told b′ y → Compared told f args b b′ x y
+  translationAlone : (n m : ℕ) (o : Outcome) → EndBoth f g args n m o → b < n → m ≤ b′ → UsedUp told b x → EndedWith told o m y → Compared told f g args b b′ x y
+  -- neither ends within its budget
+  unended : NotEnded f args b → NotEnded g args b′ → UsedUp told b x → UsedUp told b′ y → Compared told f g args b b′ x y
 
-pub record RunsAgree {A : Type 0} (told : Ran → A) (f : Func) (args : List ℕ) (b b′ : ℕ) (x y : A) : Type 0 where
-  pub compared : Compared told f args b b′ x y
+pub record RunsAgree {A : Type 0} (told : Ran → A) (f g : Func) (args : List ℕ) (b b′ : ℕ) (x y : A) : Type 0 where
+  pub compared : Compared told f g args b b′ x y
   -- where the source ends after n steps within its budget, a budget of 3n suffices for the translation
   pub suffices :
       (n : ℕ) (o : Outcome)
@@ -89,7 +105,9 @@ RunsOverTables =
     (t : List ℕ) (i : ℕ) (x : Filled) (args : List ℕ) (b b′ c c′ : ℕ)
     → TranslatableIn t i
     → Translated t i x
-    → T (argumentsFit (functionOf t i) args)
-    → length (functionOf t i .registers) ≤ c
-    → length (functionOf (x .table) 0 .registers) ≤ c′
-    → RunsAgree (λ r. r) (functionOf t i) args b b′ (runAnswer t i args b c .answer) (runAnswer (x .table) 0 args b′ c′ .answer)
+    → T (argumentsFit (functionInTable t i) args)
+    → length (functionInTable t i .registers) ≤ c
+    → length (functionInTable (x .table) 0 .registers) ≤ c′
+    → (let f = functionInTable t i in
+    let g = functionInTable (x .table) 0 in
+    RunsAgree (λ r. r) f g args b b′ (runAnswer t i args b c .answer) (runAnswer (x .table) 0 args b′ c′ .answer))

@@ -1,4 +1,4 @@
--- What is proved about the definitions: the statements, apart from their proofs.
+-- Laws of sizes, budgets and tables: the statements, apart from their proofs.
 -- Assumes nothing.
 use mathlib.Core.Path.{_≡_}
 use mathlib.Core.List.{List}
@@ -29,17 +29,20 @@ LargerBudget =
     (f : Func) (args : List ℕ) (n m : ℕ) (o : Outcome) (p : Place) (g : List ℕ)
     → n ≤ m → runOf f args n ≡ Run.ended o p g → runOf f args m ≡ Run.ended o p g
 
--- The answer of a run of function i that ended with this outcome, by its place and steps.
-abbrev pub ranOf : Outcome → ℕ → ℕ → Ran
-ranOf (Outcome.returned v) p n = Ran.returned v n
-ranOf Outcome.left p n = Ran.left n
-ranOf (Outcome.stopped k) p n = Ran.stopped k p n
+-- The answer of a run that ended with this outcome, at this place, after so many steps.
+abbrev pub ranWith : Outcome → ℕ → ℕ → Ran
+ranWith (Outcome.returned v) p n = Ran.returned v n
+ranWith Outcome.left p n = Ran.left n
+ranWith (Outcome.stopped k) p n = Ran.stopped k p n
 
 -- A run with a budget agrees with the run without one: "a run that needs exactly its budget ends normally", and one that needs more answers 43
 -- after as many steps as the budget has.
 pub record BudgetAgrees (i : ℕ) (f : Func) (args : List ℕ) (budget : ℕ) : Type 0 where
-  pub ended : (n : ℕ) (o : Outcome) → n ≤ budget → Ends f args n o → (p : ℕ) × (ranAs i f (runOf f args budget) ≡ ranOf o p n)
+  pub ended : (n : ℕ) (o : Outcome) → n ≤ budget → Ends f args n o → (p : ℕ) × (ranAs i f (runOf f args budget) ≡ ranWith o p n)
   pub going : NotEnded f args budget → (p : ℕ) × (ranAs i f (runOf f args budget) ≡ Ran.stopped 43 p budget)
+
+abbrev pub BudgetLaw : Type 0
+BudgetLaw = (i : ℕ) (f : Func) (args : List ℕ) (budget : ℕ) → BudgetAgrees i f args budget
 
 -- ---- tables
 

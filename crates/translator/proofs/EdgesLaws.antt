@@ -21,7 +21,7 @@ use Rattle.theorems.proofs.SimulationBlocks.{edge-block}
 use Rattle.theorems.proofs.SimulationRows.{phisAt, phiOf}
 use Rattle.theorems.proofs.Spots.{first-next}
 use Rattle.rules.specs.Prepared.{Prepared}
-use Rattle.translator.specs.Source.{Translatable, translated, built, phisIn, pairsIn, edgeNumber, Edge}
+use Rattle.translator.specs.Source.{TranslatableAt, translated, built, phisIn, pairsIn, edgeNumber, Edge}
 use Rattle.translator.proofs.Counting.{pairsAt, pairs-next, pairs-within, pairs-all, first-all}
 use Rattle.translator.proofs.Filling.{filled-all}
 use Rattle.translator.proofs.Items.{first-within, row-in-block, row-within, copies-in, copies-out, jumps-on, phi-within, target-is, entry-is, entry-within, new-within}
@@ -46,7 +46,7 @@ pub record Bounds (t : List ℕ) (a j n k p first i : ℕ) : Type 0 where
   pub into : k + i < 1024
   pub onto : k + p + i < 1024
 
-module _ (t : List ℕ) (a : ℕ) (h : Translatable t a) (m : List ℕ) (p : Prepared (decodeFunction t a) m) where
+module _ (t : List ℕ) (a : ℕ) (h : TranslatableAt t a) (m : List ℕ) (p : Prepared (decodeFunction t a) m) where
   abbrev f : Func
   f = decodeFunction t a
 

@@ -24,7 +24,7 @@ use Rattle.theorems.proofs.SimulationRows.{phisAt, keptAt, keptRow, rowOf, kept
 use Rattle.theorems.proofs.AcceptanceNumbers.{block-lt}
 use Rattle.theorems.proofs.Spots.{first-next}
 use Rattle.rules.specs.Prepared.{Prepared}
-use Rattle.translator.specs.Source.{Translatable, Planned, translated, built, phisIn, keptCells, Naming, KeptRows}
+use Rattle.translator.specs.Source.{TranslatableAt, Planned, translated, built, phisIn, keptCells, Naming, KeptRows}
 use Rattle.translator.proofs.Filling.{length-filled, block-stored, row-stored}
 use Rattle.translator.proofs.Items.{row-in-block, row-within, first-within, row-of-block, op-decoded, kept-name, kept-height, kept-row}
 use Rattle.translator.proofs.RegistersLaws.{target-fits, plain, name-cells}
@@ -59,7 +59,7 @@ naming-as f m plan t a x r Form.return e k = rw e (record { first = λ z. absurd
 naming-as f m plan t a x r Form.leave e k = rw e (record { first = λ z. absurd (omega arith); second = λ z. absurd (omega arith) })
 naming-as f m plan t a x r Form.unknown e k = rw e (record { first = λ z. absurd (omega arith); second = λ z. absurd (omega arith) })
 
-module _ (t : List ℕ) (a : ℕ) (h : Translatable t a) where
+module _ (t : List ℕ) (a : ℕ) (h : TranslatableAt t a) where
   abbrev f : Func
   f = decodeFunction t a
 

@@ -27,7 +27,7 @@ use Rattle.theorems.proofs.TableView.{register-count, block-count}
 use Rattle.theorems.proofs.Size.{size-registers, size-blocks}
 use Rattle.theorems.proofs.SimulationBlocks.{phis-fit}
 use Rattle.theorems.proofs.SimulationRows.{phisAt}
-use Rattle.translator.specs.Source.{Translatable, translated, declared, headOf}
+use Rattle.translator.specs.Source.{TranslatableAt, translated, declared, headOf}
 use Rattle.translator.proofs.Counting.{phis-next, phis-all}
 use Rattle.translator.proofs.Filling.{length-filled, register-stored, head-stored}
 use Rattle.translator.proofs.Items.{register-kept, register-new, new-within}
@@ -45,7 +45,7 @@ pub no-name-cells : nameCells [] ≡ replicate 65 0
 unfolding nameCells pad
 no-name-cells = refl
 
-module _ (t : List ℕ) (a : ℕ) (h : Translatable t a) where
+module _ (t : List ℕ) (a : ℕ) (h : TranslatableAt t a) where
   abbrev f : Func
   f = decodeFunction t a
 

@@ -23,7 +23,7 @@ use Rattle.theorems.proofs.TableView.{register-count, block-count, block-rows-c
 use Rattle.theorems.proofs.Spots.{first-next}
 use Rattle.rules.specs.Prepared.{Sized, Prepared}
 use Rattle.translator.specs.Sizes.{sizesOf}
-use Rattle.translator.specs.Source.{Translatable, Planned, phisIn, pairsIn}
+use Rattle.translator.specs.Source.{TranslatableAt, Planned, phisIn, pairsIn}
 use Rattle.translator.specs.declared.sizes.Sizes.{Sizes}
 use Rattle.translator.proofs.Counting.{pairsAt, edgesAt, edgesBefore, pairs-next, edges-next, phis-next, phis-all, pairs-all, first-all, edges-all, phis-fewer, pairs-within, blocks-fit, leading-phis, by-count}
 

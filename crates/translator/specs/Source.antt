@@ -16,7 +16,7 @@ use Rattle.rules.specs.Prepared.{Sized}
 use Rattle.translator.specs.Filling.{filled}
 
 -- The function at cell a of t is accepted as ssa, and its translation is within the sizes.
-pub record Translatable (t : List ℕ) (a : ℕ) : Type 0 where
+pub record TranslatableAt (t : List ℕ) (a : ℕ) : Type 0 where
   pub sized : Sized t a
   pub clean : Clean (decodeFunction t a)
   pub ssa : T (isSsa (decodeFunction t a))

@@ -6,7 +6,7 @@ ghost use Rattle.language.specs.Programs.{firstRow};
 ghost use Rattle.language.specs.Table.{blockCount, cells, decodeFunction};
 ghost use Rattle.language.specs.Translating.{pairsBefore, newRegister};
 ghost use Rattle.rules.specs.Prepared.{Prepared};
-ghost use Rattle.translator.specs.Source.{Translatable, translated, built, phisIn, pairsIn, edgeNumber, Edge};
+ghost use Rattle.translator.specs.Source.{TranslatableAt, translated, built, phisIn, pairsIn, edgeNumber, Edge};
 use crate::kept::put_place;
 use crate::prepared::pairs;
 use crate::prepared::phis;
@@ -29,7 +29,7 @@ fn copy_entries(
     out: &mut [u8],
     k: usize,
 )
-    requires { ⌜ Translatable (now t) a ⌝ }
+    requires { ⌜ TranslatableAt (now t) a ⌝ }
     requires { ⌜ Prepared (decodeFunction (now t) a) (now m) ⌝ }
     requires { ⌜ Edge (now t) a (now m) y j n k ⌝ }
     requires { ⌜ now out ≡ built (now t) a (edgeNumber (now t) a y j + 1) k ⌝ }
@@ -56,7 +56,7 @@ fn copy_targets(
     out: &mut [u8],
     k: usize,
 )
-    requires { ⌜ Translatable (now t) a ⌝ }
+    requires { ⌜ TranslatableAt (now t) a ⌝ }
     requires { ⌜ Prepared (decodeFunction (now t) a) (now m) ⌝ }
     requires { ⌜ Edge (now t) a (now m) y j n k ⌝ }
     requires { ⌜ now out ≡ built (now t) a (edgeNumber (now t) a y j + 1) (k + phisIn (now m) y) ⌝ }
@@ -92,7 +92,7 @@ fn put_edge(
     out: &mut [u8],
     k: usize,
 ) -> usize
-    requires { ⌜ Translatable (now t) a ⌝ }
+    requires { ⌜ TranslatableAt (now t) a ⌝ }
     requires { ⌜ Prepared (decodeFunction (now t) a) (now m) ⌝ }
     requires { ⌜ Edge (now t) a (now m) y j n k ⌝ }
     requires { ⌜ (b ≡ edgeNumber (now t) a y j) × (now out ≡ built (now t) a b k) ⌝ }
@@ -117,7 +117,7 @@ fn put_edges(
     out: &mut [u8],
     k: usize,
 ) -> usize
-    requires { ⌜ Translatable (now t) a ⌝ }
+    requires { ⌜ TranslatableAt (now t) a ⌝ }
     requires { ⌜ Prepared (decodeFunction (now t) a) (now m) ⌝ }
     requires { ⌜ (y < blockCount (now t) a) × (n ≡ newRegister (decodeFunction (now t) a) y) × (b ≡ blockCount (now t) a + pairsBefore (decodeFunction (now t) a) y) ⌝ }
     requires { ⌜ (k ≡ firstRow (translated (now t) a) b) × (now out ≡ built (now t) a b k) ⌝ }
@@ -135,7 +135,7 @@ fn put_edges(
 
 // The edges to all blocks, behind the blocks that are kept, their rows from k on: the table is whole.
 pub fn put_all_edges(t: &[u8], a: usize, m: &[u16], out: &mut [u8], k: usize)
-    requires { ⌜ Translatable (now t) a ⌝ }
+    requires { ⌜ TranslatableAt (now t) a ⌝ }
     requires { ⌜ Prepared (decodeFunction (now t) a) (now m) ⌝ }
     requires { ⌜ (k ≡ firstRow (translated (now t) a) (blockCount (now t) a)) × (now out ≡ built (now t) a (blockCount (now t) a) k) ⌝ }
     ensures { λ _. ⌜ now (out .exit) ≡ cells (translated (now (t .entry)) a ∷ []) ⌝ }

@@ -9,7 +9,7 @@ ghost use Rattle.language.specs.Programs.{firstRow};
 ghost use Rattle.language.specs.Table.{twoBytes, blockCount, rowOp, decodeFunction};
 ghost use Rattle.instructions.specs.Shapes.{shapeOf};
 ghost use Rattle.rules.specs.Prepared.{Prepared};
-ghost use Rattle.translator.specs.Source.{Translatable, Planned, translated, built, Naming, operandAs, keptCells, KeptRows};
+ghost use Rattle.translator.specs.Source.{TranslatableAt, Planned, translated, built, Naming, operandAs, keptCells, KeptRows};
 use crate::prepared::phis;
 use crate::prepared::renamed;
 use instructions::shape_of;
@@ -94,7 +94,7 @@ fn keep_rows(
     out: &mut [u8],
     k: usize,
 )
-    requires { ⌜ Translatable (now t) a ⌝ }
+    requires { ⌜ TranslatableAt (now t) a ⌝ }
     requires { ⌜ Prepared (decodeFunction (now t) a) (now m) ⌝ }
     requires { ⌜ Planned (decodeFunction (now t) a) (now plan) ⌝ }
     requires { ⌜ KeptRows (now t) a (now m) x r n k ⌝ }
@@ -127,7 +127,7 @@ fn keep_block(
     out: &mut [u8],
     k: usize,
 ) -> usize
-    requires { ⌜ Translatable (now t) a ⌝ }
+    requires { ⌜ TranslatableAt (now t) a ⌝ }
     requires { ⌜ Prepared (decodeFunction (now t) a) (now m) ⌝ }
     requires { ⌜ Planned (decodeFunction (now t) a) (now plan) ⌝ }
     requires { ⌜ (x < blockCount (now t) a) × (k ≡ firstRow (translated (now t) a) x) × (now out ≡ built (now t) a x k) ⌝ }
@@ -143,7 +143,7 @@ fn keep_block(
 
 // All blocks; the row behind them.
 pub fn keep_blocks(t: &[u8], a: usize, m: &[u16], plan: &[u16], out: &mut [u8]) -> usize
-    requires { ⌜ Translatable (now t) a ⌝ }
+    requires { ⌜ TranslatableAt (now t) a ⌝ }
     requires { ⌜ Prepared (decodeFunction (now t) a) (now m) ⌝ }
     requires { ⌜ Planned (decodeFunction (now t) a) (now plan) ⌝ }
     requires { ⌜ now out ≡ built (now t) a 0 0 ⌝ }

@@ -6,7 +6,7 @@ ghost use lib.Seq.{sets};
 ghost use Rattle.language.specs.Table.{blockCount, functionName, registerCount, decodeFunction};
 ghost use Rattle.language.specs.Translating.{newRegister};
 ghost use Rattle.rules.specs.Prepared.{Prepared};
-ghost use Rattle.translator.specs.Source.{Translatable, headOf, declared, built, phisIn};
+ghost use Rattle.translator.specs.Source.{TranslatableAt, headOf, declared, built, phisIn};
 use crate::prepared::phis;
 use table::block_count;
 use table::block_first;
@@ -39,7 +39,7 @@ pub fn put_head(t: &[u8], a: usize, registers: usize, blocks: usize, out: &mut [
 
 // The registers that are kept.
 pub fn keep_registers(t: &[u8], a: usize, out: &mut [u8])
-    requires { ⌜ Translatable (now t) a ⌝ }
+    requires { ⌜ TranslatableAt (now t) a ⌝ }
     requires { ⌜ now out ≡ declared (now t) a 0 ⌝ }
     ensures { λ _. ⌜ now (out .exit) ≡ declared (now (t .entry)) a (registerCount (now (t .entry)) a) ⌝ }
 {
@@ -53,7 +53,7 @@ pub fn keep_registers(t: &[u8], a: usize, out: &mut [u8])
 
 // The new registers of block y, from register n on, with the types of its phi's targets and no names.
 fn put_new(t: &[u8], a: usize, m: &[u16], y: usize, n: usize, out: &mut [u8])
-    requires { ⌜ Translatable (now t) a ⌝ }
+    requires { ⌜ TranslatableAt (now t) a ⌝ }
     requires { ⌜ Prepared (decodeFunction (now t) a) (now m) ⌝ }
     requires { ⌜ (y < blockCount (now t) a) × (n ≡ newRegister (decodeFunction (now t) a) y) × (now out ≡ declared (now t) a n) ⌝ }
     ensures { λ _. ⌜ now (out .exit) ≡ declared (now (t .entry)) a (n + phisIn (now (m .entry)) y) ⌝ }
@@ -69,7 +69,7 @@ fn put_new(t: &[u8], a: usize, m: &[u16], y: usize, n: usize, out: &mut [u8])
 
 // The new registers of all blocks.
 pub fn put_all_new(t: &[u8], a: usize, m: &[u16], out: &mut [u8])
-    requires { ⌜ Translatable (now t) a ⌝ }
+    requires { ⌜ TranslatableAt (now t) a ⌝ }
     requires { ⌜ Prepared (decodeFunction (now t) a) (now m) ⌝ }
     requires { ⌜ now out ≡ declared (now t) a (registerCount (now t) a) ⌝ }
     ensures { λ _. ⌜ now (out .exit) ≡ built (now (t .entry)) a 0 0 ⌝ }

@@ -6,7 +6,7 @@ ghost use Rattle.language.specs.Translating.{translationFits};
 ghost use Rattle.theorems.specs.Clean.{Clean};
 ghost use Rattle.rules.specs.Prepared.{Sized, Prepared};
 ghost use Rattle.translator.specs.Sizes.{sizesOf};
-ghost use Rattle.translator.specs.Source.{Translatable, Planned};
+ghost use Rattle.translator.specs.Source.{TranslatableAt, Planned};
 use crate::prepared::pairs;
 use crate::prepared::phis;
 use table::block_count;
@@ -66,7 +66,7 @@ pub fn fits(t: &[u8], a: usize, m: &[u16]) -> bool
 
 // The number of the first edge block of each block, were it to have phi.
 pub fn plan_edges(t: &[u8], a: usize, m: &[u16], plan: &mut [u16])
-    requires { ⌜ Translatable (now t) a ⌝ }
+    requires { ⌜ TranslatableAt (now t) a ⌝ }
     requires { ⌜ Prepared (decodeFunction (now t) a) (now m) ⌝ }
     requires { ⌜ length (now plan) ≡ 64 ⌝ }
     ensures { λ _. ⌜ Planned (decodeFunction (now (t .entry)) a) (now (plan .exit)) ⌝ }

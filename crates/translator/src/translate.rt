@@ -5,7 +5,7 @@ ghost use Rattle.language.specs.Answers.{zeros};
 ghost use Rattle.language.specs.Table.{cells, decodeFunction};
 ghost use Rattle.language.specs.Translating.{translation};
 ghost use Rattle.rules.specs.Prepared.{Prepared};
-ghost use Rattle.translator.specs.Source.{Translatable};
+ghost use Rattle.translator.specs.Source.{TranslatableAt};
 use crate::edges::put_all_edges;
 use crate::kept::keep_blocks;
 use crate::registers::keep_registers;
@@ -16,7 +16,7 @@ use crate::sizes::plan_edges;
 
 // "The translation is a table of that function alone": of the function at a, to a table that is all zero.
 pub fn translate_into(t: &[u8], a: usize, m: &[u16], out: &mut [u8])
-    requires { ⌜ Translatable (now t) a ⌝ }
+    requires { ⌜ TranslatableAt (now t) a ⌝ }
     requires { ⌜ Prepared (decodeFunction (now t) a) (now m) ⌝ }
     requires { ⌜ now out ≡ zeros 555153 ⌝ }
     ensures { λ _. ⌜ now (out .exit) ≡ cells (translation (decodeFunction (now (t .entry)) a) ∷ []) ⌝ }
