@@ -4,18 +4,18 @@ ghost use mathlib.Core.Path.{_≡_};
 ghost use Prim.Native.Nat.{_≤_};
 ghost use lib.ListN.{length, take};
 
-pub fn say(s: &[u8]) {
+pub(crate) fn say(s: &[u8]) {
     io::write_all(STDOUT_FILENO, s);
 }
 
 // A number in decimal digits, after some words.
-pub fn say_number(words: &[u8], n: u64) {
+pub(crate) fn say_number(words: &[u8], n: u64) {
     say(words);
     io::print_decimal(STDOUT_FILENO, n);
 }
 
 // The bytes of a file, and how many there are; none where it cannot be read.
-pub fn load(name: &[u8], into: &mut [u8]) -> usize
+pub(crate) fn load(name: &[u8], into: &mut [u8]) -> usize
     ensures { λ r. ⌜ r ≤ length (now (into .entry)) ⌝ }
 {
     let fd = os::open_read(name);
@@ -28,7 +28,7 @@ pub fn load(name: &[u8], into: &mut [u8]) -> usize
 }
 
 // The first n bytes, or all where there are fewer.
-pub fn upto(s: &[u8], n: usize) -> &[u8]
+pub(crate) fn upto(s: &[u8], n: usize) -> &[u8]
     ensures { λ r. ⌜ now r ≡ take n (now (s .entry)) ⌝ }
 {
     if s.len() < n {

@@ -59,7 +59,7 @@ fn perform_all(s: &[u8], t: &mut [u8], translated: &mut [u8]) {
 }
 
 // The script of this name.
-pub fn script(name: &[u8]) {
+pub(crate) fn script(name: &[u8]) {
     let mut s = [0u8; SCRIPT];
     let n = load(name, &mut s);
     let mut t = [0u8; ROOM];

@@ -8,25 +8,25 @@ fn say(line: &[u8]) {
     io::write_all(STDERR_FILENO, line);
 }
 
-pub fn say_wrong() {
+pub(crate) fn say_wrong() {
     say(
         b"ial: wrong words; say: ial list FILE, ial run FILE FUNCTION BUDGET [ARG..] or ial translate FILE FUNCTION\n",
     );
 }
 
-pub fn say_budget() {
+pub(crate) fn say_budget() {
     say(
         b"ial: the budget is not a decimal number from 0 on; say: ial run FILE FUNCTION BUDGET [ARG..]\n",
     );
 }
 
-pub fn say_argument() {
+pub(crate) fn say_argument() {
     say(b"ial: an argument is not a decimal number; say: ial run FILE FUNCTION BUDGET [ARG..]\n");
 }
 
 // The bytes of a file, as many as there is room for, and how many they are; one more than there is room for where it cannot be read, and
 // then a line says why.
-pub fn load(path: &[u8], text: &mut [u8]) -> usize
+pub(crate) fn load(path: &[u8], text: &mut [u8]) -> usize
     requires { ⌜ length (now text) ≤ 65537 ⌝ }
     ensures { λ r. ⌜ r ≤ length (now (text .entry)) + 1 ⌝ }
 {
@@ -48,7 +48,7 @@ pub fn load(path: &[u8], text: &mut [u8]) -> usize
 }
 
 // The first n bytes, or all where there are fewer.
-pub fn upto(s: &[u8], n: usize) -> &[u8]
+pub(crate) fn upto(s: &[u8], n: usize) -> &[u8]
     ensures { λ r. ⌜ now r ≡ take n (now (s .entry)) ⌝ }
 {
     if s.len() < n {
