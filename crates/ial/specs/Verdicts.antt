@@ -24,7 +24,7 @@ pub data Into (t : List ℕ) : Reading → Verdict → Type 0 where
 abbrev pub Aside : Reading → Verdict → Type 0
 Aside x r = (n : ℕ) → (n ≡ tableLength → ⊥) → filledOf r (zeros n) ≡ filledFrom n x
 
--- The same, of a text's answer: "reading gives 22 last".
+-- What the answer of a text becomes where the output has another length than a table's: "reading gives 22 last".
 abbrev pub otherLength : Verdictᴸ → Verdictᴸ
 otherLength Verdictᴸ.accepted = Verdictᴸ.refused 22 0
 otherLength (Verdictᴸ.refused n p) = Verdictᴸ.refused n p

@@ -66,9 +66,9 @@ fn read_aside(text: &[u8]) -> Verdict
     other_length(read_into(text, &mut aside))
 }
 
-// Reads a text into a lent table: 1 to 8, and 22 last. After a refusal the table is all zero. A longer output has room for a table, into
-// which it is read by the same function: one that calls itself takes no callee's large locals into its own frame, so that a call with a
-// right table has no stack to find for the table of `read_aside`.
+// Reads a text into a lent table: 1 to 8, and 22 last. After a refusal the table is all zero.
+// A longer output has room for a table: the text is read into its last cells, by this same function. So a call with a right table needs no
+// stack for the table of `read_aside`, since the compiler takes no callee with large locals into a function that calls itself.
 pub fn read(text: &[u8], out: &mut [u8]) -> Verdict
     ensures { λ r. ⌜ ReadCalled (now (text .entry)) (length (now (out .entry))) r (now (out .exit)) ⌝ }
 {
