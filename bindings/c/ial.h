@@ -2,11 +2,22 @@
  *
  * Every function takes any input: a text, a table, arguments, a budget and a buffer of any content and any length get an
  * answer. The only thing asked is C's own: each pointer leads to as many elements as the length beside it says, and lent
- * outputs overlap nothing else. A length may be 0; its pointer must then still not be NULL.
+ * outputs overlap nothing else. A length may be 0, and its pointer is then not followed: NULL will do.
  *
- * Numbers of an answer (document 01, "Numbers we answer"): 0 done; 1 to 8 refused by reading, 9 to 17 by the check, 20 to
- * 22, 30 and 31 by running and translating; 27 and 40 to 43 a run that stopped. After a refusal every lent output is all
- * zero. Numbers that are not stated are 0.
+ * Numbers of an answer (document 01, "Numbers we answer"), with the place of each:
+ *     0         done
+ *     1         refused: the text is too long; place 0
+ *     2 to 8    refused: the text; a byte of it
+ *     9         refused: not a table; a function's number, 0 for the function count or the table's length
+ *     10 to 17  refused: the check; 2048 times the function's number plus the row
+ *     20        refused: arguments; how many were given, or the first that does not fit, counted from 0
+ *     21        refused: no such function; 0
+ *     22        refused: a table output of another length (reading and translating), too few registers (running); 0
+ *     30, 31    refused: a translation of a function that is not ssa, or that is too large when translated; 0
+ *     27        stopped: a row met in a run breaks 9 to 16; 2048 times the function's number plus the row
+ *     40 to 42  stopped: zero divisor, shift or rotation by w or more, least number divided by -1; likewise
+ *     43        stopped: budget used up; likewise, the next row
+ * After a refusal every lent output is all zero. Numbers that are not stated are 0.
  */
 #ifndef IAL_H
 #define IAL_H
@@ -22,6 +33,15 @@ extern "C" {
 #define IAL_TABLE 555153
 #define IAL_REGISTERS 256
 
+/* The stack that must be free at a call, in bytes: the library has no heap and no memory of its own. A call with less crashes
+ * at the end of the stack. The numbers are those of the compiled library, for all inputs, with at least 8 KiB to
+ * spare, in whole 16 KiB; a thread needs some KiB more for itself. */
+#define IAL_READ_STACK (160 * 1024)
+#define IAL_READ_SHORT_STACK (704 * 1024) /* ial_read with an output of less than IAL_TABLE bytes */
+#define IAL_CHECK_STACK (16 * 1024)
+#define IAL_RUN_STACK (32 * 1024)
+#define IAL_TRANSLATE_STACK (16 * 1024)
+
 /* What a call answers: a number of document 01 or 0, its place, the value a run returned, the steps a run took. */
 typedef struct ial_answer {
     uint64_t number;
@@ -30,11 +50,21 @@ typedef struct ial_answer {
     uint64_t steps;
 } ial_answer;
 
-/* Reads a text into a table of IAL_TABLE bytes. Refuses with 1 to 8, and with 22 for an output of another length. The place
- * is a byte of the text. Reading does not check: call ial_check. */
+/* Whether a run stopped: it was no refusal, its registers hold what the last finished step left. */
+static inline int ial_stopped(ial_answer a) {
+    return a.number == 27 || (a.number >= 40 && a.number <= 43);
+}
+
+/* Whether a call was refused: every lent output is all zero. */
+static inline int ial_refused(ial_answer a) {
+    return a.number != 0 && !ial_stopped(a);
+}
+
+/* Reads a text into a table of IAL_TABLE bytes. Refuses with 1 to 8, and last with 22 for an output of another length.
+ * Reading does not check: call ial_check. */
 ial_answer ial_read(const uint8_t *text, size_t text_length, uint8_t *table, size_t table_length);
 
-/* Checks all of a table: 0, or 9 to 17. The place is a function's number for 9, else 2048 times it plus the row. */
+/* Checks all of a table: 0, or refuses with 9 to 17. */
 ial_answer ial_check(const uint8_t *table, size_t table_length);
 
 /* Checks the table and runs one of its functions on arguments, for at most `budget` steps. `registers` needs as many cells

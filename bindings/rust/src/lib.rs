@@ -8,6 +8,9 @@
 //! assert_eq!(plain.run(0, &[21], 100)?.end, ial::End::Ended(42));
 //! # Ok::<(), ial::Refused>(())
 //! ```
+//!
+//! A call needs free stack, since the library has no heap: [`READ_STACK`], [`CHECK_STACK`], [`RUN_STACK`] and [`TRANSLATE_STACK`] say how
+//! much. Give a thread that calls it some KiB more for itself: `std::thread::Builder::new().stack_size(ial::READ_STACK + 16 * 1024)`.
 
 mod refused;
 
@@ -18,6 +21,19 @@ pub const TABLE: usize = 555_153;
 
 /// The most registers a function has.
 pub const REGISTERS: usize = 256;
+
+/// The bytes of stack that must be free when [`Table::read`] is called, for any text. This and the next three are those of the
+/// compiled library, with at least 8 KiB to spare, in whole 16 KiB; a call with less crashes at the end of the stack.
+pub const READ_STACK: usize = 160 * 1024;
+
+/// The same for [`Table::check`], and for [`Table::from_cells`] with another length.
+pub const CHECK_STACK: usize = 16 * 1024;
+
+/// The same for [`Table::run`].
+pub const RUN_STACK: usize = 32 * 1024;
+
+/// The same for [`Table::translate`].
+pub const TRANSLATE_STACK: usize = 16 * 1024;
 
 #[repr(C)]
 struct Answer {

@@ -13,7 +13,7 @@ pub struct Refused {
 }
 
 impl Refused {
-    /// Document 01's words for the number.
+    /// What the number means: document 01's table ("Numbers we answer"), in short.
     pub fn meaning(&self) -> &'static str {
         match self.number {
             1 => "text too long",
@@ -35,7 +35,7 @@ impl Refused {
             17 => "ssa: some path from entry reaches the use without an assignment",
             20 => "argument count wrong, or an argument too large for its type",
             21 => "no such function",
-            22 => "output of the wrong length",
+            22 => "register buffer too short, or table output of another length",
             30 => "not ssa, so not to be translated",
             31 => "too large when translated",
             _ => "no number of a refusal",

@@ -4,7 +4,7 @@ use crate::files::say_number;
 use ial::Ran;
 use ial::Verdict;
 
-pub fn say_refused(number: u8, place: usize) {
+pub(crate) fn say_refused(number: u8, place: usize) {
     say_number(b"refused ", number as u64);
     say_number(b" at ", place as u64);
 }
@@ -15,7 +15,7 @@ fn say_steps(steps: u64) {
 }
 
 // The answer of a call that fills a table or judges one.
-pub fn say_verdict(v: Verdict, accepted: &[u8]) {
+pub(crate) fn say_verdict(v: Verdict, accepted: &[u8]) {
     match v {
         Verdict::Refused(n, p) => say_refused(n, p),
         Verdict::Accepted => say(accepted),
@@ -39,7 +39,7 @@ fn say_stopped(number: u8, place: usize, steps: u64) {
 }
 
 // The answer of a run.
-pub fn say_ran(r: Ran) {
+pub(crate) fn say_ran(r: Ran) {
     match r {
         Ran::Returned(v, s) => say_returned(v, s),
         Ran::Left(s) => say_left(s),

@@ -16,7 +16,7 @@ use calling::list_text;
 const CELLS: usize = 300;
 
 // Reads a text.
-pub fn read(s: &[u8], r: Record, t: &mut [u8]) {
+pub(crate) fn read(s: &[u8], r: Record, t: &mut [u8]) {
     poison(t);
     let n = least(r.lent, t.len());
     let v = ial::read(part(s, r.given_at, r.given_len), &mut t[..n]);
@@ -25,20 +25,20 @@ pub fn read(s: &[u8], r: Record, t: &mut [u8]) {
 }
 
 // Lists a text.
-pub fn list(s: &[u8], r: Record) {
+pub(crate) fn list(s: &[u8], r: Record) {
     let mut lines = [0u8; 2384];
     let k = list_text(part(s, r.given_at, r.given_len), &mut lines);
     say(upto(&lines, k));
 }
 
 // Checks the source table.
-pub fn check(r: Record, t: &[u8]) {
+pub(crate) fn check(r: Record, t: &[u8]) {
     say_verdict(ial::check(upto(t, r.source)), b"accepted");
     say(b"\n");
 }
 
 // Translates a function of the source table.
-pub fn translate(s: &[u8], r: Record, t: &[u8], out: &mut [u8]) {
+pub(crate) fn translate(s: &[u8], r: Record, t: &[u8], out: &mut [u8]) {
     poison(out);
     let n = least(r.lent, out.len());
     let v = ial::translate(upto(t, r.source), r.function, &mut out[..n]);
@@ -89,7 +89,7 @@ fn run_with(s: &[u8], r: Record, t: &[u8], args: &mut [u64], registers: &mut [u6
 }
 
 // The same, where every register cell holds 85 before.
-pub fn run(s: &[u8], r: Record, t: &[u8]) {
+pub(crate) fn run(s: &[u8], r: Record, t: &[u8]) {
     let mut args = [0u64; CELLS];
     let mut registers = [85u64; CELLS];
     run_with(s, r, t, &mut args, &mut registers);

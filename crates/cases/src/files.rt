@@ -1,34 +1,41 @@
 // Standard output, and the files in the folder the program runs in.
 use libc::STDOUT_FILENO;
 ghost use mathlib.Core.Path.{_≡_};
-ghost use Prim.Native.Nat.{_≤_};
+ghost use Prim.Native.Nat.{_+_, _≤_};
 ghost use lib.ListN.{length, take};
 
-pub fn say(s: &[u8]) {
+pub(crate) fn say(s: &[u8]) {
     io::write_all(STDOUT_FILENO, s);
 }
 
 // A number in decimal digits, after some words.
-pub fn say_number(words: &[u8], n: u64) {
+pub(crate) fn say_number(words: &[u8], n: u64) {
     say(words);
     io::print_decimal(STDOUT_FILENO, n);
 }
 
-// The bytes of a file, and how many there are; none where it cannot be read.
-pub fn load(name: &[u8], into: &mut [u8]) -> usize
-    ensures { λ r. ⌜ r ≤ length (now (into .entry)) ⌝ }
+// The bytes of a file, and how many there are; one more than there is room for where it cannot be read whole.
+pub(crate) fn load(name: &[u8], into: &mut [u8]) -> usize
+    requires { ⌜ length (now into) ≤ 262144 ⌝ }
+    ensures { λ r. ⌜ r ≤ length (now (into .entry)) + 1 ⌝ }
 {
     let fd = os::open_read(name);
     if fd < 0 {
-        return 0;
+        return into.len() + 1;
     }
     let n = io::read_full(fd, into);
+    // `read_full` stops where a read fails, too: only at the end does one more find nothing.
+    let mut more = [0u8; 1];
+    let rest = libc::read(fd, &mut more);
     libc::close(fd);
+    if rest != 0 {
+        return into.len() + 1;
+    }
     n
 }
 
 // The first n bytes, or all where there are fewer.
-pub fn upto(s: &[u8], n: usize) -> &[u8]
+pub(crate) fn upto(s: &[u8], n: usize) -> &[u8]
     ensures { λ r. ⌜ now r ≡ take n (now (s .entry)) ⌝ }
 {
     if s.len() < n {

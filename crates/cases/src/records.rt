@@ -21,7 +21,7 @@ pub struct Record {
 }
 
 // The number at cell k, or 0 where the bytes end before.
-pub fn number_at(s: &[u8], k: usize) -> u64 {
+pub(crate) fn number_at(s: &[u8], k: usize) -> u64 {
     if s.len() < 8 {
         return 0;
     }
@@ -36,14 +36,14 @@ fn place_at(s: &[u8], k: usize) -> usize {
 }
 
 // How many records a script has.
-pub fn count(s: &[u8]) -> usize
+pub(crate) fn count(s: &[u8]) -> usize
     ensures { λ r. ⌜ r < 65536 ⌝ }
 {
     (number_at(s, 0) % 65536) as usize
 }
 
 // Record i.
-pub fn record_at(s: &[u8], i: usize) -> Record
+pub(crate) fn record_at(s: &[u8], i: usize) -> Record
     requires { ⌜ i < 65536 ⌝ }
 {
     let k = 8 + 88 * i;
@@ -63,7 +63,7 @@ pub fn record_at(s: &[u8], i: usize) -> Record
 }
 
 // So many bytes from a place on, or none where the script ends before.
-pub fn part(s: &[u8], at: usize, n: usize) -> &[u8] {
+pub(crate) fn part(s: &[u8], at: usize, n: usize) -> &[u8] {
     if s.len() < at {
         return &s[..0];
     }
@@ -75,7 +75,7 @@ pub fn part(s: &[u8], at: usize, n: usize) -> &[u8] {
 }
 
 // The smaller of two numbers.
-pub fn least(a: usize, b: usize) -> usize
+pub(crate) fn least(a: usize, b: usize) -> usize
     ensures { λ r. ⌜ (r ≤ a) × (r ≤ b) ⌝ }
 {
     if a < b {
@@ -85,7 +85,7 @@ pub fn least(a: usize, b: usize) -> usize
 }
 
 // The numbers that the bytes hold, as many as there is room for, and how many these are.
-pub fn numbers(bytes: &[u8], into: &mut [u64]) -> usize
+pub(crate) fn numbers(bytes: &[u8], into: &mut [u64]) -> usize
     ensures { λ r. ⌜ r ≤ length (now (into .entry)) ⌝ }
 {
     let n = least(bytes.len() / 8, into.len());

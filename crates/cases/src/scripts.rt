@@ -59,9 +59,14 @@ fn perform_all(s: &[u8], t: &mut [u8], translated: &mut [u8]) {
 }
 
 // The script of this name.
-pub fn script(name: &[u8]) {
+pub(crate) fn script(name: &[u8]) {
     let mut s = [0u8; SCRIPT];
     let n = load(name, &mut s);
+    if SCRIPT < n {
+        say(name);
+        say(b" cannot be read\n");
+        return;
+    }
     let mut t = [0u8; ROOM];
     let mut translated = [0u8; ROOM];
     perform_all(upto(&s, n), &mut t, &mut translated);

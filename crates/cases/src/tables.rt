@@ -7,7 +7,7 @@ ghost use Prim.Native.Nat.{_<_};
 pub const ROOM: usize = 555154;
 
 // The cells of a list, four bytes each: the place in three bytes, low first, and the value.
-pub fn put_cells(t: &mut [u8], cells: &[u8]) {
+pub(crate) fn put_cells(t: &mut [u8], cells: &[u8]) {
     let n = cells.len() / 4;
     let mut i = 0;
     while i < n {
@@ -27,7 +27,7 @@ fn put(t: &mut [u8], k: usize, v: u8) {
 }
 
 // Every cell of an output that is lent holds 255 before.
-pub fn poison(t: &mut [u8]) {
+pub(crate) fn poison(t: &mut [u8]) {
     let mut i = 0;
     while i < t.len() {
         t[i] = 255;
@@ -51,7 +51,7 @@ fn differing(out: &[u8], want: &[u8]) -> usize {
 }
 
 // Whether the output has these cells, and 0 in all others.
-pub fn compare(out: &[u8], cells: &[u8]) {
+pub(crate) fn compare(out: &[u8], cells: &[u8]) {
     let mut want = [0u8; ROOM];
     put_cells(&mut want, cells);
     let k = differing(out, &want);
@@ -87,7 +87,7 @@ fn scatter(t: &mut [u8], a: usize, e: usize, seed: usize) -> usize
 }
 
 // The gaps between the cells that are needed, eight bytes each: where it begins and where it ends.
-pub fn fill_gaps(t: &mut [u8], gaps: &[u8], seed: u64) {
+pub(crate) fn fill_gaps(t: &mut [u8], gaps: &[u8], seed: u64) {
     let n = gaps.len() / 8;
     let mut x = (seed % 4294967296) as usize;
     let mut i = 0;

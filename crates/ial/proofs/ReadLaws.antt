@@ -1,14 +1,15 @@
 -- What reading a text answers, from what the reader answers. Assumes nothing.
 use mathlib.Core.Path.{_≡_, refl, sym, ap, _∙_}
-use mathlib.Core.List.{List}
-use Prim.Native.Nat.{ℕ, _≤_, _<_}
+use mathlib.Core.List.{List, _++_}
+use Prim.Native.Nat.{ℕ, _+_, _-_, _≤_, _<_}
 use native.Mathlib.Omega.{arith}
-use lib.ListN.{length, replicate, length-replicate}
+use lib.ListN.{length, replicate, take, length-replicate, length-append}
+use borrow.Rule.Slice.PartMut.{midOf, postOf, putMid, mid-len, put-same}
 use borrow.Author.Tests.{lt-ltb, eq-eqb, ne-eqb}
 use Rattle.language.specs.Programs.{maxText}
 use Rattle.language.specs.Table.{tableLength, cells}
 use Rattle.language.specs.Reading.{Reading, read}
-use Rattle.language.specs.Answers.{zeros, refusedTable, fill, filledFrom, readAnswer}
+use Rattle.language.specs.Answers.{Filled, zeros, refusedTable, fill, filledFrom, readAnswer}
 use Rattle.reader.specs.Parse.{Told}
 use Rattle.reader.specs.declared.state.Reader.{Reader}
 use Rattle.reader.specs.declared.state.Taken.{Taken}
@@ -16,7 +17,7 @@ use Rattle.reader.specs.declared.state.Taken.the-variants as taken
 use Rattle.checker.specs.declared.Verdict.{Verdict}
 use Rattle.checker.specs.declared.Verdict.the-variants as verdicts
 use Rattle.checker.specs.Verdicts.{verdictOf}
-use Rattle.ial.specs.Verdicts.{filledOf, Into, Aside}
+use Rattle.ial.specs.Verdicts.{filledOf, Into, Aside, otherLength}
 
 pub zeros-made : (n : ℕ) → replicate n 0 ≡ zeros n
 unfolding zeros
@@ -25,6 +26,26 @@ zeros-made n = refl
 pub length-zeros : (n : ℕ) → length (zeros n) ≡ n
 unfolding zeros
 length-zeros n = length-replicate n 0
+
+-- ---- a longer output, whose last n cells are lent as a table
+
+abbrev lastOf : ℕ → List ℕ → List ℕ
+lastOf n xs = midOf (length xs - n) (length xs - (length xs - n)) xs
+
+pub last-length : (n : ℕ) (xs : List ℕ) → n < length xs → length (lastOf n xs) ≡ n
+last-length n xs h = mid-len (length xs - n) (length xs) xs (omega arith) ∙ omega (arith, h)
+
+pub last-shorter : (n t : ℕ) (xs : List ℕ) → n < length xs → length xs ≡ t → length (lastOf n xs) < t
+last-shorter n t xs h e = omega (arith, last-length n xs h, h, e)
+
+put-length : (a k : ℕ) (xs ys : List ℕ) → length ys ≡ length (midOf a k xs) → length (putMid a k xs ys) ≡ length xs
+put-length a k xs ys e =
+    let parts : (zs : List ℕ) → length (putMid a k xs zs) ≡ length (take a xs) + (length zs + length (postOf a k xs))
+    = λ zs. length-append (take a xs) (zs ++ postOf a k xs) ∙ ap (λ (n : ℕ). length (take a xs) + n) (length-append zs (postOf a k xs)) in
+    parts ys ∙ ap (λ (n : ℕ). length (take a xs) + (n + length (postOf a k xs))) e ∙ sym (parts (midOf a k xs)) ∙ ap length (put-same a k xs)
+
+pub last-put-length : (n : ℕ) (xs ys : List ℕ) → length ys ≡ length (lastOf n xs) → length (putMid (length xs - n) (length xs - (length xs - n)) xs ys) ≡ length xs
+last-put-length n xs ys e = put-length (length xs - n) (length xs - (length xs - n)) xs ys e
 
 -- ---- what the reader answers
 
@@ -42,18 +63,10 @@ module _ {t : List ℕ} where
 
   -- ---- an output of another length
 
-  pub aside-read : {x : Reading} {r : Verdict} → Into t x r → r ≡ verdicts.Accepted → Aside x (verdicts.Refused 22 0)
+  pub aside : {x : Reading} {r : Verdict} (s : Verdict) → Into t x r → verdictOf s ≡ otherLength (verdictOf r) → Aside x s
   unfolding fill refusedTable
-  aside-read (Into.refused k q) e n other = absurd (let z : _≡_ {A = ℕ} 0 1 = cc in omega arith)
-  aside-read (Into.program q h) e n other = rw (ne-eqb n tableLength other)
-
-  pub aside-refused : {x : Reading} {r : Verdict} {k p : ℕ} → Into t x r → r ≡ verdicts.Refused k p → Aside x (verdicts.Refused k p)
-  unfolding refusedTable
-  aside-refused {k = k} {p = p} (Into.refused n q) e m other =
-      let number : n ≡ k = cc in
-      let place : q ≡ p = cc in
-      rw (number, place)
-  aside-refused (Into.program q h) e m other = absurd (let z : _≡_ {A = ℕ} 0 1 = cc in omega arith)
+  aside s (Into.refused k q) e n other = rw e refl
+  aside s (Into.program q h) e n other = rw (e, ne-eqb n tableLength other) refl
 
 -- ---- the entry point
 
@@ -62,9 +75,22 @@ module _ (text : List ℕ) (n : ℕ) where
   unfolding readAnswer read refusedTable
   read-long h e = rw (e, lt-ltb maxText (length text) h)
 
-  pub read-other : (r : Verdict) {z : List ℕ} → Aside (read text) r → (n ≡ tableLength → ⊥) → z ≡ zeros n → filledOf r z ≡ readAnswer text n
+  pub read-shorter : (r : Verdict) {z : List ℕ} → Aside (read text) r → n < tableLength → z ≡ zeros n → filledOf r z ≡ readAnswer text n
   unfolding readAnswer
-  read-other r h other e = rw e (h n other)
+  read-shorter r h short e = rw e (h n (λ same. omega (arith, same, short)))
+
+  -- the answer for a table, of which an output of another length keeps the refusals
+  other-filled : (x : Reading) (r s : Verdict) {t z : List ℕ} → filledOf r t ≡ filledFrom tableLength x → verdictOf s ≡ otherLength (verdictOf r) → (n ≡ tableLength → ⊥)
+      → z ≡ zeros n → filledOf s z ≡ filledFrom n x
+  unfolding fill refusedTable
+  other-filled (Reading.refused k p) r s h e other b = rw (b, e, ap (λ (f : Filled). otherLength (f .answer)) h) refl
+  other-filled (Reading.program p) r s h e other b =
+      rw (b, e, ap (λ (f : Filled). otherLength (f .answer)) h, ne-eqb n tableLength other) refl
+
+  pub read-longer : (r s : Verdict) {t z : List ℕ} → filledOf r t ≡ readAnswer text tableLength → verdictOf s ≡ otherLength (verdictOf r) → tableLength < n → z ≡ zeros n
+      → filledOf s z ≡ readAnswer text n
+  unfolding readAnswer
+  read-longer r s h e long b = other-filled (read text) r s h e (λ same. omega (arith, same, long)) b
 
   module _ {t : List ℕ} where
     program-filled : {x : Reading} {r : Verdict} → Into t x r → r ≡ verdicts.Accepted → n ≡ tableLength → filledOf verdicts.Accepted t ≡ filledFrom n x

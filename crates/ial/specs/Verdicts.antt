@@ -5,6 +5,7 @@ use Prim.Native.Nat.{ℕ}
 use Rattle.language.specs.Programs.{Program}
 use Rattle.language.specs.Table.{tableLength, cells}
 use Rattle.language.specs.Reading.{Reading}
+use Rattle.language.specs.Checking.{Verdict as Verdictᴸ}
 use Rattle.language.specs.Answers.{Filled, filledFrom, zeros}
 use Rattle.checker.specs.declared.Verdict.{Verdict}
 use Rattle.checker.specs.declared.Verdict.the-variants as verdicts
@@ -22,3 +23,8 @@ pub data Into (t : List ℕ) : Reading → Verdict → Type 0 where
 -- The answer for an output of n cells, which is another length than a table's.
 abbrev pub Aside : Reading → Verdict → Type 0
 Aside x r = (n : ℕ) → (n ≡ tableLength → ⊥) → filledOf r (zeros n) ≡ filledFrom n x
+
+-- What the answer of a text becomes where the output has another length than a table's: "reading gives 22 last".
+abbrev pub otherLength : Verdictᴸ → Verdictᴸ
+otherLength Verdictᴸ.accepted = Verdictᴸ.refused 22 0
+otherLength (Verdictᴸ.refused n p) = Verdictᴸ.refused n p

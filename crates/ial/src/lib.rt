@@ -23,7 +23,8 @@ ghost use Prim.Native.Nat.{_≤_};
 ghost use lib.ListN.{length};
 ghost use Rattle.language.specs.Reading.{read as readOf};
 ghost use Rattle.language.specs.Answers.{zeros};
-ghost use Rattle.ial.specs.Verdicts.{Into, Aside};
+ghost use Rattle.checker.specs.Verdicts.{verdictOf};
+ghost use Rattle.ial.specs.Verdicts.{Into, Aside, otherLength};
 ghost use Rattle.ial.specs.Calls.{ReadCalled, CheckCalled};
 
 // The cells of a table, and of the scratch that reading needs: 2,048 mentions of blocks, 69 cells each.
@@ -46,27 +47,42 @@ fn read_into(text: &[u8], t: &mut [u8]) -> Verdict
     }
 }
 
-// A text for an output that has another length than a table's: 1 to 8 come first, then 22.
-fn read_aside(text: &[u8]) -> Verdict
-    requires { ⌜ length (now text) ≤ 65536 ⌝ }
-    ensures { λ r. ⌜ Aside (readOf (now (text .entry))) r ⌝ }
+// The answer for an output of another length than a table's: "reading gives 22 last".
+fn other_length(r: Verdict) -> Verdict
+    ensures { λ x. ⌜ verdictOf x ≡ otherLength (verdictOf r) ⌝ }
 {
-    let mut aside = [0u8; TABLE];
-    match read_into(text, &mut aside) {
+    match r {
         Verdict::Accepted => Verdict::Refused(22, 0),
         Verdict::Refused(n, p) => Verdict::Refused(n, p),
     }
 }
 
+// A text for an output that has no room for a table: 1 to 8 come first, so it is read into a table of this function's own.
+fn read_aside(text: &[u8]) -> Verdict
+    requires { ⌜ length (now text) ≤ 65536 ⌝ }
+    ensures { λ r. ⌜ Aside (readOf (now (text .entry))) r ⌝ }
+{
+    let mut aside = [0u8; TABLE];
+    other_length(read_into(text, &mut aside))
+}
+
 // Reads a text into a lent table: 1 to 8, and 22 last. After a refusal the table is all zero.
+// A longer output has room for a table: the text is read into its last cells, by this same function. So a call with a right table needs no
+// stack for the table of `read_aside`, since the compiler takes no callee with large locals into a function that calls itself.
 pub fn read(text: &[u8], out: &mut [u8]) -> Verdict
     ensures { λ r. ⌜ ReadCalled (now (text .entry)) (length (now (out .entry))) r (now (out .exit)) ⌝ }
 {
+    if TABLE < out.len() {
+        let k = out.len() - TABLE;
+        let r = read(text, &mut out[k..]);
+        zero(out);
+        return other_length(r);
+    }
     zero(out);
     if 65536 < text.len() {
         return Verdict::Refused(1, 0);
     }
-    if out.len() != TABLE {
+    if out.len() < TABLE {
         return read_aside(text);
     }
     let r = read_into(text, out);

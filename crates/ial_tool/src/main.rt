@@ -11,12 +11,12 @@ use calling::list_text;
 use calling::read_budget;
 use calling::run_text;
 use calling::translate_text;
+use files::answer;
 use files::load;
 use files::say_argument;
 use files::say_budget;
 use files::say_wrong;
 use files::upto;
-use libc::STDOUT_FILENO;
 use table::same;
 
 // Room for the lines of 16 functions.
@@ -43,7 +43,7 @@ fn list(path: &[u8]) {
     }
     let mut out = [0u8; LINES];
     let k = list_text(upto(&text, n), &mut out);
-    io::write_all(STDOUT_FILENO, upto(&out, k));
+    answer(upto(&out, k));
 }
 
 // `translate FILE FUNCTION`: the listing of the translation.
@@ -55,7 +55,7 @@ fn translate(path: &[u8], word: &[u8]) {
     }
     let mut out = [0u8; LINES];
     let k = translate_text(upto(&text, n), word, &mut out);
-    io::write_all(STDOUT_FILENO, upto(&out, k));
+    answer(upto(&out, k));
 }
 
 // Keeps word i as an argument, and says whether it is a number.
@@ -106,7 +106,7 @@ fn run(path: &[u8], word: &[u8], budget: u64, words: usize)
         budget,
         &mut out,
     );
-    io::write_all(STDOUT_FILENO, upto(&out, k));
+    answer(upto(&out, k));
 }
 
 // The same once the budget is read.
@@ -139,7 +139,7 @@ fn call(command: &[u8], path: &[u8], words: usize) {
 fn main() {
     let mut command = [0u8; 16];
     let n = os::arg(1, &mut command);
-    let mut path = io::buffer();
+    let mut path = [0u8; WORD];
     let k = os::arg(2, &mut path);
     let words = os::arg_count();
     if words == 3 && same(&command[..n], b"list") {

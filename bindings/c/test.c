@@ -1,0 +1,123 @@
+/* What the header says and no proof covers: the stack that each call needs, and that NULL will do for a length of 0.
+ * Each call is made in a child, on a stack of just that size with a page below it that nobody may touch. */
+#include "ial.h"
+
+#include <signal.h>
+#include <stdio.h>
+#include <string.h>
+#include <sys/mman.h>
+#include <sys/wait.h>
+#include <ucontext.h>
+#include <unistd.h>
+
+static uint8_t text[65536], table[IAL_TABLE], output[IAL_TABLE + 1];
+static uint64_t arguments[3] = {7, 9, 2}, registers[IAL_REGISTERS];
+static ial_answer answer;
+
+/* Sixteen functions, each with a loop, in a text of the largest size. */
+static void write_text(void) {
+    size_t n = 0;
+    memset(text, ' ', sizeof text);
+    for (int i = 0; i < 16; i++)
+        n += (size_t)sprintf((char *)text + n,
+                             "function ssa uint64 turn%d(uint64 a, uint64 b, uint8 n) { register uint64 x; register uint64 y;"
+                             " register uint8 k; register uint8 one; register uint8 z; register uint8 m; register uint c;"
+                             " block entry { one = load.ui8 (1); z = load.ui8 (0); jump (head); }"
+                             " block head { x = phi (a, y); y = phi (b, x); k = phi (n, m); c = cmp.eq k, z;"
+                             " jump.cond c (out, body); } block body { m = ari.sub k, one; jump (head); }"
+                             " block out { return x; } }", i);
+    text[n] = ' ';
+}
+
+static void read_right(void) { answer = ial_read(text, sizeof text, output, IAL_TABLE); }
+static void read_longer(void) { answer = ial_read(text, sizeof text, output, IAL_TABLE + 1); }
+static void read_shorter(void) { answer = ial_read(text, sizeof text, output, IAL_TABLE - 1); }
+static void check(void) { answer = ial_check(table, IAL_TABLE); }
+static void run(void) { answer = ial_run(table, IAL_TABLE, 15, arguments, 3, 1000, registers, IAL_REGISTERS); }
+static void translate(void) { answer = ial_translate(table, IAL_TABLE, 15, output, IAL_TABLE); }
+
+static const struct entry {
+    const char *name;
+    void (*call)(void);
+    size_t stack;
+    uint64_t number, value, steps;
+} entries[] = {
+    {"ial_read", read_right, IAL_READ_STACK, 0, 0, 0},
+    {"ial_read, output longer", read_longer, IAL_READ_STACK, 22, 0, 0},
+    {"ial_read, output shorter", read_shorter, IAL_READ_SHORT_STACK, 22, 0, 0},
+    {"ial_check", check, IAL_CHECK_STACK, 0, 0, 0},
+    {"ial_run", run, IAL_RUN_STACK, 0, 7, 23},
+    {"ial_translate", translate, IAL_TRANSLATE_STACK, 0, 0, 0},
+};
+
+static ucontext_t here, there;
+
+/* Makes the call on a stack of so many bytes, and ends the child with 0 where it answers as it should. */
+static void call_on(const struct entry *e, size_t stack) {
+    uint8_t *room = mmap(NULL, 4096 + stack, PROT_READ | PROT_WRITE, MAP_PRIVATE | MAP_ANONYMOUS, -1, 0);
+    if (room == MAP_FAILED || mprotect(room, 4096, PROT_NONE) || getcontext(&there))
+        _exit(2);
+    there.uc_stack.ss_sp = room + 4096;
+    there.uc_stack.ss_size = stack;
+    there.uc_link = &here;
+    makecontext(&there, e->call, 0);
+    if (swapcontext(&here, &there))
+        _exit(2);
+    _exit(answer.number == e->number && answer.value == e->value && answer.steps == e->steps ? 0 : 1);
+}
+
+/* How the child ended that made the call. */
+static int status_on(const struct entry *e, size_t stack) {
+    int status = 0;
+    pid_t child = fork();
+    if (child == 0)
+        call_on(e, stack);
+    return child > 0 && waitpid(child, &status, 0) == child ? status : -1;
+}
+
+/* The stated stack suffices, and a quarter of it does not: so the number says something. */
+static int stacks(void) {
+    int wrong = 0;
+    for (size_t i = 0; i < sizeof entries / sizeof *entries; i++) {
+        const struct entry *e = entries + i;
+        int enough = status_on(e, e->stack), short_of = status_on(e, e->stack / 4);
+        if (enough != 0 || !WIFSIGNALED(short_of) || WTERMSIG(short_of) != SIGSEGV) {
+            printf("%s: status %d on %zu bytes of stack, %d on a quarter\n", e->name, enough, e->stack, short_of);
+            wrong = 1;
+        }
+    }
+    return wrong;
+}
+
+static int is(const char *what, ial_answer a, uint64_t number, uint64_t place) {
+    if (a.number == number && a.place == place)
+        return 0;
+    printf("%s: %llu at %llu\n", what, (unsigned long long)a.number, (unsigned long long)a.place);
+    return 1;
+}
+
+/* NULL with length 0 is an empty text, table, list of arguments or output. */
+static int nulls(void) {
+    static const char nothing[] = "function void f() { block entry { leave; } }";
+    static uint8_t other[IAL_TABLE];
+    const uint8_t *f = (const uint8_t *)nothing;
+    int wrong = is("no text", ial_read(NULL, 0, other, IAL_TABLE), 0, 0);
+    wrong |= is("no text, no output", ial_read(NULL, 0, NULL, 0), 22, 0);
+    wrong |= is("no output", ial_read(f, 8, NULL, 0), 3, 8);
+    wrong |= is("no table", ial_check(NULL, 0), 9, 0);
+    wrong |= is("no table to run", ial_run(NULL, 0, 0, NULL, 0, 0, NULL, 0), 9, 0);
+    wrong |= is("no table to translate", ial_translate(NULL, 0, 0, NULL, 0), 9, 0);
+    wrong |= is("a text with no register", ial_read(f, sizeof nothing - 1, other, IAL_TABLE), 0, 0);
+    wrong |= is("no arguments, no registers", ial_run(other, IAL_TABLE, 0, NULL, 0, 10, NULL, 0), 0, 0);
+    wrong |= is("too few arguments", ial_run(table, IAL_TABLE, 0, NULL, 0, 10, NULL, 0), 20, 0);
+    wrong |= is("too few registers", ial_run(table, IAL_TABLE, 0, arguments, 3, 10, NULL, 0), 22, 0);
+    wrong |= is("no room for a translation", ial_translate(table, IAL_TABLE, 0, NULL, 0), 22, 0);
+    return wrong;
+}
+
+int main(void) {
+    write_text();
+    if (is("the text", ial_read(text, sizeof text, table, IAL_TABLE), 0, 0))
+        return 1;
+    return stacks() | nulls();
+}

@@ -1,0 +1,36 @@
+//! Each call on a thread with just the stack that is said to suffice. What less would do is tried in bindings/c/test.c.
+
+use ial::{End, Table, CHECK_STACK, READ_STACK, RUN_STACK, TRANSLATE_STACK};
+
+/// What a thread needs for itself: its guard page, its locals and the frames below the call.
+const THREAD: usize = 16 * 1024;
+
+fn with_stack<T: Send + 'static>(bytes: usize, call: impl FnOnce() -> T + Send + 'static) -> T {
+    std::thread::Builder::new().stack_size(bytes + THREAD).spawn(call).unwrap().join().unwrap()
+}
+
+/// Sixteen functions, in a text of the largest size.
+fn text() -> Vec<u8> {
+    let turn = include_str!("../../../examples/turn.ial");
+    let mut text: Vec<u8> = (0..16).flat_map(|i| turn.replace("turn(", &format!("turn{i}(")).into_bytes()).collect();
+    text.resize(65_536, b' ');
+    text
+}
+
+#[test]
+fn each_call_has_enough() {
+    let text = text();
+    let table = with_stack(READ_STACK, move || Table::read(&text)).unwrap();
+    let (checked, run, translated) = (table.clone(), table.clone(), table);
+    assert_eq!(with_stack(CHECK_STACK, move || checked.check()), Ok(()));
+    assert_eq!(with_stack(RUN_STACK, move || run.run(15, &[7, 9, 2], 1_000)).unwrap().end, End::Ended(7));
+    assert_eq!(with_stack(TRANSLATE_STACK, move || translated.translate(15)).unwrap().check(), Ok(()));
+}
+
+#[test]
+fn the_header_says_the_same() {
+    let header = include_str!("../../c/ial.h");
+    for (name, bytes) in [("READ", READ_STACK), ("CHECK", CHECK_STACK), ("RUN", RUN_STACK), ("TRANSLATE", TRANSLATE_STACK)] {
+        assert!(header.contains(&format!("#define IAL_{name}_STACK ({} * 1024)\n", bytes / 1024)), "{name}");
+    }
+}
