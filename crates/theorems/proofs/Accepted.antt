@@ -55,5 +55,5 @@ table-accepted-exactly t = (
   λ e.
       let q = tested (eqb (length t) tableLength) (check (decode t)) 9 0 e in
       (eqb→eq (length t) tableLength (q .0), accepted-exactly (decode t) .0 (q .1)),
-  λ l r. rw (eq-eqb (length t) tableLength l) (accepted-exactly (decode t) .1 r),
+  λ r. rw (eq-eqb (length t) tableLength (r .0)) (accepted-exactly (decode t) .1 (r .1)),
 )

@@ -2,6 +2,7 @@
 -- paths here, never by the computation that finds them.
 -- Assumes nothing.
 use mathlib.Core.Path.{_≡_}
+use mathlib.Core.Logic.{_↔_}
 use mathlib.Core.Bool.{false, cond}
 use mathlib.Core.List.{List, map}
 use Prim.Native.Nat.{ℕ, _≤_, _<_}
@@ -27,7 +28,7 @@ pub record RulesHold (names : List (List ℕ)) (f : Func) : Type 0 where
   -- 9 to 16 of every row
   pub rows : (b j : ℕ) → j < length (rowsAt f b) → breaksRow f (spotAt f b j) ≡ false
   -- 17 of every row, "over all paths from entry"
-  pub paths : (b j : ℕ) → j < length (rowsAt f b) → T (isSsa f) → Missing f (spotAt f b j) → ⊥
+  pub paths : (b j : ℕ) → j < length (rowsAt f b) → T (isSsa f) → ¬ Missing f (spotAt f b j)
 
 pub record Right (p : Program) : Type 0 where
   pub count : length p ≤ maxFunctions
@@ -35,7 +36,7 @@ pub record Right (p : Program) : Type 0 where
 
 -- "A function is accepted exactly when its rules hold", of all functions of a program.
 abbrev pub AcceptedExactly : Type 0
-AcceptedExactly = (p : Program) → (check p ≡ Verdict.accepted → Right p) × (Right p → check p ≡ Verdict.accepted)
+AcceptedExactly = (p : Program) → (check p ≡ Verdict.accepted) ↔ Right p
 
 -- ---- refused
 
@@ -72,10 +73,7 @@ pub data Fault (p : Program) : (function number row : ℕ) → Type 0 where
 
 -- Accepted, by the table: "none of 9 to 17 holds".
 abbrev pub AcceptedWithoutFault : Type 0
-AcceptedWithoutFault =
-    (p : Program)
-    → (check p ≡ Verdict.accepted → (i k r : ℕ) → Fault p i k r → ⊥)
-    × (((i k r : ℕ) → Fault p i k r → ⊥) → check p ≡ Verdict.accepted)
+AcceptedWithoutFault = (p : Program) → (check p ≡ Verdict.accepted) ↔ ((i k r : ℕ) → ¬ Fault p i k r)
 
 -- Where it is placed, 9 at the "function; 0 if the function count": "a row as a place is 2,048 times the function's number plus the row".
 abbrev pub faultPlace : (function number row : ℕ) → ℕ
@@ -93,28 +91,23 @@ pub record Refused (p : Program) (k place : ℕ) : Type 0 where
   pub row : ℕ
   pub fault : Fault p function k row
   pub placed : place ≡ faultPlace function k row
-  pub first : (i′ k′ r′ : ℕ) → Fault p i′ k′ r′ → Before i′ k′ r′ function k row → ⊥
+  pub first : (i′ k′ r′ : ℕ) → Fault p i′ k′ r′ → ¬ Before i′ k′ r′ function k row
 
 abbrev pub RefusedExactly : Type 0
 RefusedExactly =
-    (p : Program) (k place : ℕ)
-    → (check p ≡ Verdict.refused k place → Refused p k place) × (Refused p k place → check p ≡ Verdict.refused k place)
+    (p : Program) (k place : ℕ) → (check p ≡ Verdict.refused k place) ↔ Refused p k place
 
 -- ---- over tables as they are lent
 
 abbrev pub TableAcceptedExactly : Type 0
 TableAcceptedExactly =
-    (t : List ℕ)
-    → (checkAnswer t ≡ Verdict.accepted → (length t ≡ tableLength) × Right (decode t))
-    × (length t ≡ tableLength → Right (decode t) → checkAnswer t ≡ Verdict.accepted)
+    (t : List ℕ) → (checkAnswer t ≡ Verdict.accepted) ↔ ((length t ≡ tableLength) × Right (decode t))
 
 -- 9 at "0 if the function count or length"; a table of the one length is refused as its program is.
 pub data TableRefused (t : List ℕ) : (number place : ℕ) → Type 0 where
-  size : (length t ≡ tableLength → ⊥) → TableRefused t 9 0
+  size : ¬ (length t ≡ tableLength) → TableRefused t 9 0
   program : (k place : ℕ) → length t ≡ tableLength → Refused (decode t) k place → TableRefused t k place
 
 abbrev pub TableRefusedExactly : Type 0
 TableRefusedExactly =
-    (t : List ℕ) (k place : ℕ)
-    → (checkAnswer t ≡ Verdict.refused k place → TableRefused t k place)
-    × (TableRefused t k place → checkAnswer t ≡ Verdict.refused k place)
+    (t : List ℕ) (k place : ℕ) → (checkAnswer t ≡ Verdict.refused k place) ↔ TableRefused t k place

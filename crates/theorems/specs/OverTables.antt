@@ -54,7 +54,7 @@ StopsWithThese = (f : Func) (args : List ℕ) (n k : ℕ) → Ends f args n (Out
 -- "43 | stop: budget used up" is none of them, so that a call which answers 43, whatever it was called with, says that its run has not ended after
 -- as many steps as its budget.
 abbrev pub NoEndIs43 : Type 0
-NoEndIs43 = (f : Func) (args : List ℕ) (n : ℕ) → Ends f args n (Outcome.stopped 43) → ⊥
+NoEndIs43 = (f : Func) (args : List ℕ) (n : ℕ) → ¬ Ends f args n (Outcome.stopped 43)
 
 abbrev pub AnsweredIs43 : Type 0
 AnsweredIs43 =
