@@ -8,7 +8,7 @@
  *     0         done
  *     1         refused: the text is too long; place 0
  *     2 to 8    refused: the text; a byte of it
- *     9         refused: not a table; a function's number, 0 for the function count or the table's length
+ *     9         refused: a table's length, counts, numbers or names; a function's number, 0 for the function count or the length
  *     10 to 17  refused: the check; 2048 times the function's number plus the row
  *     20        refused: arguments; how many were given, or the first that does not fit, counted from 0
  *     21        refused: no such function; 0

@@ -155,3 +155,25 @@ impl std::fmt::Debug for Table {
         f.debug_struct("Table").field("functions", &self.cells[0]).finish_non_exhaustive()
     }
 }
+
+#[cfg(test)]
+mod tests {
+    use super::*;
+    use std::ptr::{null, null_mut};
+
+    fn numbers(a: Answer) -> [u64; 4] {
+        [a.number, a.place, a.value, a.steps]
+    }
+
+    // As bindings/c/ial.h says.
+    #[test]
+    fn null_is_an_empty_slice() {
+        let mut cells = vec![1; TABLE];
+        unsafe {
+            assert_eq!(numbers(ial_read(null(), 0, cells.as_mut_ptr(), cells.len())), [0; 4]);
+            assert_eq!(numbers(ial_read(null(), 0, null_mut(), 0)), [22, 0, 0, 0]);
+            assert_eq!(numbers(ial_check(null(), 0)), [9, 0, 0, 0]);
+        }
+        assert!(cells.iter().all(|&c| c == 0));
+    }
+}
