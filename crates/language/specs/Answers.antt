@@ -6,12 +6,13 @@ use mathlib.Core.List.{List, [], _∷_, _++_}
 use Prim.Native.Nat.{ℕ, _+_, _-_}
 use lib.Dec.{eqb, ltb}
 use lib.ListN.{length, getD, replicate}
-use Rattle.language.specs.Programs.{Func, Program, noFunction, isSsa, firstRow, rowPlace}
+use Rattle.language.specs.Programs.{Func, Program, maxText, noFunction, isSsa, firstRow, rowPlace}
 use Rattle.language.specs.Reading.{Reading, read}
 use Rattle.language.specs.Table.{tableLength, cells, decode}
 use Rattle.language.specs.Checking.{Verdict, check}
 use Rattle.language.specs.Running.{Place, Outcome, Run, runOf, firstUnfit}
 use Rattle.language.specs.Translating.{translation, translationFits}
+use Rattle.language.specs.MadeNames.{written}
 
 -- "A refusal (1 to 22, 30, 31) zeroes all lent output."
 unfoldable pub zeros : ℕ → List ℕ
@@ -53,6 +54,19 @@ pub record Filled : Type 0 where
 pub record Finished : Type 0 where
   pub answer : Ran
   pub registers : List ℕ
+
+-- What writing answers: the text's length, or a refusal; and that with the lent buffer.
+pub data Wrote : Type 0 where
+  wrote : (count : ℕ) → Wrote
+  refused : (number place : ℕ) → Wrote
+
+unfoldable pub wroteNumbers : Wrote → Answer
+wroteNumbers (Wrote.wrote n) = answerOf 0 0 n 0
+wroteNumbers (Wrote.refused n p) = answerOf n p 0 0
+
+pub record Shown : Type 0 where
+  pub answer : Wrote
+  pub buffer : List ℕ
 
 -- ---- read
 
@@ -134,3 +148,21 @@ translateFunction p i n =
 
 unfoldable pub translateAnswer : List ℕ → ℕ → ℕ → Filled
 translateAnswer t i n = ifAccepted (checkAnswer t) (refusedTable n) (translateFunction (decode t) i n)
+
+-- ---- write (document 02, A1)
+
+-- A refusal with a lent buffer of n bytes.
+unfoldable pub refusedText : ℕ → ℕ → ℕ → Shown
+refusedText n k p = record { answer = Wrote.refused k p; buffer = zeros n }
+
+-- A text to a lent buffer of n bytes: "33 if the text exceeds 65,536 bytes, then 32 exactly if it exceeds the buffer. The answer is the
+-- text's length; past it the buffer is zero."
+unfoldable pub show : ℕ → List ℕ → Shown
+show n text =
+    cond (ltb maxText (length text)) (refusedText n 33 0)
+    (cond (ltb n (length text)) (refusedText n 32 0)
+    (record { answer = Wrote.wrote (length text); buffer = text ++ zeros (n - length text) }))
+
+-- "The table is checked first, as for running."
+unfoldable pub writeAnswer : List ℕ → ℕ → Shown
+writeAnswer t n = ifAccepted (checkAnswer t) (refusedText n) (show n (written (decode t)))

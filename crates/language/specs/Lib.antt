@@ -1,4 +1,4 @@
--- The modules in document 01's order.
+-- The modules in document 01's order; then those of document 02's requests.
 pub mod Bytes
 pub mod Words
 pub mod Tokens
@@ -13,5 +13,7 @@ pub mod Table
 pub mod Checking
 pub mod Running
 pub mod Translating
-pub mod Answers
 pub mod Listing
+pub mod Writing
+pub mod MadeNames
+pub mod Answers
