@@ -35,3 +35,15 @@ pub mod ReadMoves
 pub mod ReadFits
 pub mod Turn
 pub mod Values
+pub mod WritingTokens
+pub mod WritingStates
+pub mod WritingDeclared
+pub mod WritingHeads
+pub mod WritingNumbers
+pub mod WritingRows
+pub mod WritingBlocks
+pub mod WritingResolved
+pub mod WritingRead
+pub mod WritingMade
+pub mod WritingAccepted
+pub mod WritingAgain
