@@ -2,7 +2,7 @@
 use mathlib.Core.Bool.{Bool, false, cond, not, _&&_}
 use mathlib.Core.List.{List, [], _∷_, map}
 use mathlib.Core.Path.{_≡_, refl, sym, _∙_, ap}
-use Prim.Native.Nat.{ℕ, zero, suc, _+_, _≤_, _<_, suc-le-suc}
+use Prim.Native.Nat.{ℕ, zero, suc, _+_, _<_, suc-le-suc}
 use native.Mathlib.Nat.{zero-lt-suc, zero-add}
 use native.Mathlib.Omega.{arith}
 use lib.Dec.{T, eqb}
@@ -10,18 +10,16 @@ use lib.ListN.{length, getD, length-map, List·getD-map}
 use borrow.Author.Tests.{eq-eqb}
 use Rattle.laws.specs.Lists.{empty, from, together}
 use Rattle.laws.proofs.Every.{Every, none as every-nil, more as every-cons}
-use Rattle.language.specs.Bytes.{bytesOf}
 use Rattle.language.specs.Names.{spelled}
-use Rattle.language.specs.Programs.{Register, Block, Func, Program, noBlock, maxText}
-use Rattle.language.specs.Checking.{Verdict, check}
-use Rattle.language.specs.Reading.{Reading, read}
-use Rattle.language.specs.MadeNames.{given, wanted, entitled, registerTitle, blockTitle, registerNames, blockNames, namedFunction, named, written}
+use Rattle.language.specs.Programs.{Register, Block, Func, Program, noBlock}
+use Rattle.language.specs.MadeNames.{registerPrefix, blockPrefix, given, wanted, entitled, registerTitle, blockTitle, registerNames, blockNames, namedFunction, named, written}
 use Rattle.language.specs.Writing.{textOf}
+use Rattle.theorems.specs.RoundTrip.{NamedOnce, WrittenAgain}
 use Rattle.theorems.proofs.WritingDeclared.{numbered, numbers}
 use Rattle.theorems.proofs.WritingHeads.{nameOf}
 use Rattle.theorems.proofs.WritingBlocks.{blockName}
 use Rattle.theorems.proofs.WritingRead.{FunctionReady}
-use Rattle.theorems.proofs.WritingAccepted.{program-ready, reads-back}
+use Rattle.theorems.proofs.WritingAccepted.{named-ready}
 
 spelled-some : (n : List ℕ) → T (spelled n) → empty n ≡ false
 unfolding spelled
@@ -63,9 +61,9 @@ unfolding namedFunction registerNames blockNames
 function-again f k =
     let ns = map blockName (f .blocks) in
     let registers : together (λ r n. record { type = r .type; name = n }) (f .registers) (registerNames f) ≡ f .registers =
-    ap (together (λ r n. record { type = r .type; name = n }) (f .registers)) (registers-stay (bytesOf "p.") (map nameOf (f .registers)) 0 (every-name (k .registerNames))) ∙ registers-again (f .registers) in
+    ap (together (λ r n. record { type = r .type; name = n }) (f .registers)) (registers-stay (registerPrefix) (map nameOf (f .registers)) 0 (every-name (k .registerNames))) ∙ registers-again (f .registers) in
     let blocks : together (λ b n. record { name = n; rows = b .rows }) (f .blocks) (blockNames f) ≡ f .blocks =
-    ap (together (λ b n. record { name = n; rows = b .rows }) (f .blocks)) (blocks-stay (bytesOf "e.") ns 0 (f .entry) 0 ns only) ∙ blocks-again (f .blocks) in
+    ap (together (λ b n. record { name = n; rows = b .rows }) (f .blocks)) (blocks-stay (blockPrefix) ns 0 (f .entry) 0 ns only) ∙ blocks-again (f .blocks) in
     λ i. record { name = f .name; ssa = f .ssa; result = f .result; params = f .params; registers = registers i; blocks = blocks i; entry = f .entry; placed = f .placed }
   where
     at : (j : ℕ) → j < length (map blockName (f .blocks)) → j ≡ Rattle.theorems.proofs.WritingDeclared.numbered (λ n. n) (map blockName (f .blocks)) (getD (map blockName (f .blocks)) j [])
@@ -81,9 +79,10 @@ functions-again : {p : Program} → Every FunctionReady p → map namedFunction 
 functions-again every-nil = refl
 functions-again (every-cons {x = f} k h) = λ i. function-again f k i ∷ functions-again h i
 
--- writing what was read back writes the same text
-pub written-again : (p q : Program) → check p ≡ Verdict.accepted → length (written p) ≤ maxText → read (written p) ≡ Reading.program q → written q ≡ written p
-unfolding written named
-written-again p q e h r =
-    let same : named p ≡ q = let z : Reading.program (named p) ≡ Reading.program q = sym (reads-back p e h) ∙ r in cc in
-    ap (λ (x : Program). textOf (named x)) (sym same) ∙ ap textOf (functions-again (program-ready p e .functions))
+pub named-once : NamedOnce
+unfolding named
+named-once p e = functions-again (named-ready p e .functions)
+
+pub written-again : WrittenAgain
+unfolding written
+written-again p e = ap textOf (named-once p e)

@@ -9,7 +9,6 @@ use borrow.Author.Tests.{lt-ltb, le-ltb}
 use Rattle.laws.specs.Lists.{gather}
 use Rattle.laws.proofs.Every.{Every, more as every-cons}
 use Rattle.laws.proofs.Sums.{gather-append}
-use Rattle.laws.proofs.Appending.{sum-append}
 use Rattle.language.specs.Bytes.{leftBrace, rightBrace}
 use Rattle.language.specs.Words.{blockWord}
 use Rattle.language.specs.Programs.{Row, Block, Func, entriesOf, namedBy, maxRows, maxEntries, maxBlocks}
@@ -17,10 +16,11 @@ use Rattle.language.specs.Tokens.{Token}
 use Rattle.language.specs.Grammar.{Stage, Act, to, gram}
 use Rattle.language.specs.Reading.{noParts, blockNumber, maxMentions, beginBlock, nameBlock, endBlock, perform}
 use Rattle.language.specs.Writing.{blockToken, rowLine, blockLines, closing}
+use Rattle.language.proofs.Rooms.{entriesIn, entries-append}
 use Rattle.theorems.proofs.WritingStates.{State, Takes, nothing, then, after, step, passes}
 use Rattle.theorems.proofs.WritingDeclared.{New, Apart, numbered, new-number}
 use Rattle.theorems.proofs.WritingHeads.{nameOf}
-use Rattle.theorems.proofs.WritingRows.{drafted, entriesIn, RowReady, rowing, Starts, mentioned, row-read}
+use Rattle.theorems.proofs.WritingRows.{drafted, RowReady, rowing, Starts, mentioned, row-read}
 
 abbrev pub blockName : Block → List ℕ
 blockName b = b .name
@@ -36,9 +36,6 @@ draftedBlocks n (b ∷ bs) = record { name = b .name; rows = draftedRows n (b .r
 
 abbrev pub rowsIn : List Block → List Row
 rowsIn bs = gather (λ b. b .rows) bs
-
-entries-append : (xs ys : List Row) → entriesIn (xs ++ ys) ≡ entriesIn xs + entriesIn ys
-entries-append xs ys = sum-append (λ r. length (entriesOf r)) xs ys
 
 drafted-entries : (n : ℕ) (r : Row) → entriesOf (drafted n r) ≡ entriesOf r
 drafted-entries n Row.nop = refl

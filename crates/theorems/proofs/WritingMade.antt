@@ -1,61 +1,33 @@
 -- Made names are new, different from each other, and spelled. Assumes nothing.
 use mathlib.Core.Bool.{Bool, true, false, cond, not, _&&_, _||_, false≢true}
 use mathlib.Core.List.{List, [], _∷_, _++_, foldl, foldl-append}
-use mathlib.Core.Logic.{_⊎_, inl, inr}
+use mathlib.Core.Logic.{_⊎_, inl, inr, ⊎-elim}
 use mathlib.Core.Path.{_≡_, refl, sym, _∙_, ap, subst}
-use Prim.Native.Nat.{ℕ, zero, suc, _+_, _-_, _*_, _/_, _%_, _^_, _≤_, _<_}
-use native.Mathlib.Nat.{div-add-mod, mod-lt, div-lt-self, div-lt-iff-lt-mul}
+use Prim.Native.Nat.{ℕ, zero, suc, _+_, _-_, _*_, _%_, _≤_, _<_, suc-le-suc}
+use native.Mathlib.Nat.{not-suc-le-zero, mod-lt, le-of-suc-le-suc, zero-lt-suc}
 use native.Mathlib.Decide.{decLt}
 use native.Mathlib.Omega.{arith}
-use lib.Dec.{T, eqb, ltb, leb, lit<}
-use lib.ListN.{length, drop, length-append}
+use lib.Dec.{T, eqb, leb, lit<}
+use lib.ListN.{length, getD, drop, length-append}
 use lib.Seq.{drop-append-seam}
-use borrow.Author.Tests.{ltb-true, ltb-false, lt-ltb, le-leb, eq-eqb, not-true, not-false}
+use borrow.Author.Tests.{lt-ltb, le-leb, eq-eqb, not-true, not-false}
 use mir.Facts.{yes-and}
 use Rattle.laws.specs.Lists.{any, keep, position, same, from}
-use Rattle.laws.proofs.Every.{Every, none as every-nil, more as every-cons, every-append, every-imp}
 use Rattle.laws.proofs.Positions.{position-le, position-hit, position-before, same-eq}
 use Rattle.laws.proofs.Indexing.{getD-from, length-from}
 use Rattle.laws.proofs.Tests.{of-true}
-use Rattle.language.specs.Bytes.{classOf, bytesOf, digitZero}
+use Rattle.language.specs.Bytes.{classOf, digitZero}
 use Rattle.language.specs.Words.{words, wordOf, wordCount}
 use Rattle.language.specs.Names.{Spelling, spell, whole, spelled}
 use Rattle.language.specs.Programs.{maxName}
-use Rattle.language.specs.Listing.{digits, digitsWithin}
-use Rattle.language.specs.MadeNames.{Title, given, wanted, madeName, inUse, nextFree, entitled}
+use Rattle.language.specs.Listing.{digits}
+use Rattle.language.proofs.Digits.{digits-by, digits-apart, digits-short}
+use Rattle.language.specs.MadeNames.{registerPrefix, blockPrefix, Title, given, wanted, madeName, inUse, nextFree, entitled}
 use Rattle.theorems.proofs.WritingTokens.{digit-class}
-use Rattle.theorems.proofs.WritingDeclared.{New, Apart}
 
--- ---- digits
+-- ---- numbers and names
 
-abbrev value : List ℕ → ℕ
-value ds = foldl (λ v b. 10 * v + (b - digitZero)) 0 ds
-
--- What holds of the digits of a tenth and of one digit more holds of all digits.
-digits-by :
-    (P : ℕ → List ℕ → Type 0) → ((n : ℕ) → n < 10 → P n ((digitZero + n) ∷ []))
-    → ((n : ℕ) (ds : List ℕ) → 10 ≤ n → P (n / 10) ds → P n (ds ++ ((digitZero + n % 10) ∷ [])))
-    → (k n : ℕ) → n ≤ k → P n (digitsWithin k n)
-digits-by P one more zero n h = one n (omega arith)
-digits-by P one more (suc k) n h = by (ltb n 10) refl (digits-by P one more k)
-  where
-    by : (t : Bool) → ltb n 10 ≡ t → ((n : ℕ) → n ≤ k → P n (digitsWithin k n)) → P n (elim t [ true ↦ (digitZero + n) ∷ [] | false ↦ digitsWithin k (n / 10) ++ ((digitZero + n % 10) ∷ []) ])
-    by true e ih = one n (ltb-true n 10 e)
-    by false e ih =
-        let big : 10 ≤ n = ltb-false n 10 e in
-        let less : n / 10 < n = div-lt-self (omega arith) (lit< tt) in
-        more n (digitsWithin k (n / 10)) big (ih (n / 10) (omega arith))
-
-pub value-digits : (n : ℕ) → value (digits n) ≡ n
-unfolding digits
-value-digits n =
-    digits-by (λ n ds. value ds ≡ n) (λ n h. omega arith)
-    (λ n ds h e. foldl-append (λ v b. 10 * v + (b - digitZero)) 0 ds ((digitZero + n % 10) ∷ []) ∙ omega (arith, e, div-add-mod n 10)) n n (omega arith)
-
-pub digits-apart : (i j : ℕ) → digits i ≡ digits j → i ≡ j
-digits-apart i j e = sym (value-digits i) ∙ ap value e ∙ value-digits j
-
-made-apart : (prefix : List ℕ) (i j : ℕ) → madeName prefix i ≡ madeName prefix j → i ≡ j
+pub made-apart : (prefix : List ℕ) (i j : ℕ) → madeName prefix i ≡ madeName prefix j → i ≡ j
 made-apart prefix i j e =
     digits-apart i j (sym (drop-append-seam prefix (digits i)) ∙ ap (drop (length prefix)) e ∙ drop-append-seam prefix (digits j))
 
@@ -158,135 +130,123 @@ module _ (prefix : List ℕ) (used : List (List ℕ)) where
       let m : i < n = omega (arith, position-le p (from k n), length-from k n) in
       not-false (inUse prefix used j) (ap p (sym same-j) ∙ ap p (sym (getD-from k n i 0 m)) ∙ position-before p 0 (from k n) i (omega arith))
 
--- ---- names given and made are apart
+-- ---- which number each title gets
+
+-- The i-th title wants a name; it gives n.
+abbrev pub Wants : List Title → ℕ → Type 0
+Wants ts i = getD ts i (given []) ≡ wanted
+
+abbrev pub Gives : List Title → ℕ → List ℕ → Type 0
+Gives ts i n = getD ts i (given []) ≡ given n
+
+pub wants-none : {A : Type 0} {n : List ℕ} → given n ≡ wanted → A
+wants-none e = absurd (let z : _≡_ {A = ℕ} 0 1 = cc in omega arith)
+
+none-given : {A : Type 0} {n : List ℕ} → wanted ≡ given n → A
+none-given e = wants-none (sym e)
+
+same-given : (m n : List ℕ) → given m ≡ given n → m ≡ n
+same-given m n e = cc
 
 module _ (prefix : List ℕ) (used : List (List ℕ)) where
-  abbrev pub In : List ℕ → Type 0
-  In n = any (same n) used ≡ true
-
-  -- A name made before number k.
-  record MadeBelow (k : ℕ) (b : List ℕ) : Type 0 where
-    number : ℕ
-    below : number < k
-    is : b ≡ madeName prefix number
-    fresh : any (same b) used ≡ false
-
-  Past : ℕ → List ℕ → Type 0
-  Past k b = In b ⊎ MadeBelow k b
-
-  -- No given name is one of these.
-  abbrev pub Clear : List (List ℕ) → List Title → Type 0
-  Clear before [] = Unit {0}
-  Clear before (given n ∷ ts) = Every (λ b. In b → b ≡ n → ⊥) before × Clear before ts
-  Clear before (wanted ∷ ts) = Clear before ts
-
-  -- The names given are names in use, and apart.
-  abbrev pub Distinct : List Title → Type 0
-  Distinct [] = Unit {0}
-  Distinct (given n ∷ ts) = In n × Clear (n ∷ []) ts × Distinct ts
-  Distinct (wanted ∷ ts) = Distinct ts
-
-  clear-more : (before : List (List ℕ)) (r : List ℕ) (ts : List Title) → Clear before ts → Clear (r ∷ []) ts → Clear (before ++ (r ∷ [])) ts
-  clear-more before r [] h k = tt
-  clear-more before r (given n ∷ ts) h k = (every-append (h .0) (k .0), clear-more before r ts (h .1) (k .1))
-  clear-more before r (wanted ∷ ts) h k = clear-more before r ts h k
-
-  clear-made : (r : List ℕ) (ts : List Title) → any (same r) used ≡ false → Clear (r ∷ []) ts
-  clear-made r [] e = tt
-  clear-made r (given n ∷ ts) e = (every-cons (λ i d. false≢true (sym e ∙ i)) every-nil, clear-made r ts e)
-  clear-made r (wanted ∷ ts) e = clear-made r ts e
-
-  past-more : (k m : ℕ) → k ≤ m → (b : List ℕ) → Past k b → Past m b
-  unfolding Past
-  past-more k m l b (inl h) = inl h
-  past-more k m l b (inr h) = inr (record { number = h .number; below = omega (arith, h .below); is = h .is; fresh = h .fresh })
-
-  new-given : (n : List ℕ) → In n → (k : ℕ) (before : List (List ℕ)) → Every (Past k) before → Every (λ b. In b → b ≡ n → ⊥) before → New (λ n. n) n before
-  unfolding Past
-  new-given n i k [] h c = tt
-  new-given n i k (b ∷ before) (every-cons (inl p) h) (every-cons q c) = (q p, new-given n i k before h c)
-  new-given n i k (b ∷ before) (every-cons (inr p) h) (every-cons q c) =
-      ((λ e. false≢true (sym (p .fresh) ∙ ap (λ (m : List ℕ). any (same m) used) e ∙ i)), new-given n i k before h c)
-
-  new-made : (k j : ℕ) → k ≤ j → inUse prefix used j ≡ false → (before : List (List ℕ)) → Every (Past k) before → New (λ n. n) (madeName prefix j) before
-  unfolding Past
-  new-made k j l f [] h = tt
-  new-made k j l f (b ∷ before) (every-cons (inl p) h) =
-      ((λ e. false≢true (sym f ∙ ap (λ (m : List ℕ). any (same m) used) (sym e) ∙ p)), new-made k j l f before h)
-  new-made k j l f (b ∷ before) (every-cons (inr p) h) =
-      ((λ e. absurd (omega (arith, made-apart prefix (p .number) j (sym (p .is) ∙ e), p .below))), new-made k j l f before h)
-
-  entitled-apart : (ts : List Title) (k : ℕ) (before : List (List ℕ)) → Every (Past k) before → Clear before ts → Distinct ts → Apart (λ n. n) before (entitled prefix used k ts)
-  unfolding Past
-  entitled-apart [] k before h c d = tt
-  entitled-apart (given n ∷ ts) k before h c d = (
-    new-given n (d .0) k before h (c .0),
-    entitled-apart ts k (before ++ (n ∷ [])) (every-append h (every-cons (inl (d .0)) every-nil)) (clear-more before n ts (c .1) (d .1)) (d .2),
-  )
-  entitled-apart (wanted ∷ ts) k before h c d =
-      let j = nextFree prefix used k in
-      let r = madeName prefix j in
-      let fresh = free prefix used k in
-      let on = free-from prefix used k in (
-        new-made k j on fresh before h,
-        entitled-apart ts (suc j) (before ++ (r ∷ []))
-            (every-append (every-imp (past-more k (suc j) (omega arith)) h) (every-cons (inr (record { number = j; below = omega arith; is = refl; fresh = fresh })) every-nil))
-            (clear-more before r ts c (clear-made r ts fresh)) d,
-      )
-
-  clear-none : (ts : List Title) → Clear [] ts
-  clear-none [] = tt
-  clear-none (given n ∷ ts) = (every-nil, clear-none ts)
-  clear-none (wanted ∷ ts) = clear-none ts
-
-  -- all names of the kind, given and made, are apart
-  pub titles-apart : (ts : List Title) → Distinct ts → Apart (λ n. n) [] (entitled prefix used 0 ts)
-  titles-apart ts d = entitled-apart ts 0 [] every-nil (clear-none ts) d
+  -- The number that the i-th title gets, from k on.
+  abbrev pub numberAt : ℕ → List Title → ℕ → ℕ
+  numberAt k [] i = 0
+  numberAt k (given n ∷ ts) zero = 0
+  numberAt k (given n ∷ ts) (suc i) = numberAt k ts i
+  numberAt k (wanted ∷ ts) zero = nextFree prefix used k
+  numberAt k (wanted ∷ ts) (suc i) = numberAt (suc (nextFree prefix used k)) ts i
 
   pub entitled-length : (k : ℕ) (ts : List Title) → length (entitled prefix used k ts) ≡ length ts
   entitled-length k [] = refl
   entitled-length k (given n ∷ ts) = ap suc (entitled-length k ts)
   entitled-length k (wanted ∷ ts) = ap suc (entitled-length (suc (nextFree prefix used k)) ts)
 
-  -- every name made has a number that is not too large
-  pub data Titled (P : List ℕ → Type 0) (n : ℕ) : List Title → Type 0 where
-    done : Titled P n []
-    also-given : {m : List ℕ} {ts : List Title} → P m → Titled P n ts → Titled P n (given m ∷ ts)
-    also-wanted : {ts : List Title} → Titled P n ts → Titled P n (wanted ∷ ts)
+  pub name-given : (k : ℕ) (ts : List Title) (i : ℕ) (n : List ℕ) → Gives ts i n → getD (entitled prefix used k ts) i [] ≡ n
+  name-given k [] i n e = same-given [] n e
+  name-given k (given m ∷ ts) zero n e = same-given m n e
+  name-given k (given m ∷ ts) (suc i) n e = name-given k ts i n e
+  name-given k (wanted ∷ ts) zero n e = none-given e
+  name-given k (wanted ∷ ts) (suc i) n e = name-given (suc (nextFree prefix used k)) ts i n e
 
-  pub entitled-every : (P : List ℕ → Type 0) (n : ℕ) → ((j : ℕ) → j < n → P (madeName prefix j)) → length used ≤ 256 → (ts : List Title) → Titled P n ts → (k : ℕ) → k + 257 * length ts ≤ n → Every P (entitled prefix used k ts)
-  entitled-every P n made few [] done k h = every-nil
-  entitled-every P n made few (given m ∷ ts) (also-given p t) k h = every-cons p (entitled-every P n made few ts t k (omega arith))
-  entitled-every P n made few (wanted ∷ ts) (also-wanted t) k h =
+  pub name-made : (k : ℕ) (ts : List Title) (i : ℕ) → Wants ts i → getD (entitled prefix used k ts) i [] ≡ madeName prefix (numberAt k ts i)
+  name-made k [] i e = wants-none e
+  name-made k (given m ∷ ts) zero e = wants-none e
+  name-made k (given m ∷ ts) (suc i) e = name-made k ts i e
+  name-made k (wanted ∷ ts) zero e = refl
+  name-made k (wanted ∷ ts) (suc i) e = name-made (suc (nextFree prefix used k)) ts i e
+
+  pub number-free : (k : ℕ) (ts : List Title) (i : ℕ) → Wants ts i → inUse prefix used (numberAt k ts i) ≡ false
+  number-free k [] i e = wants-none e
+  number-free k (given m ∷ ts) zero e = wants-none e
+  number-free k (given m ∷ ts) (suc i) e = number-free k ts i e
+  number-free k (wanted ∷ ts) zero e = free prefix used k
+  number-free k (wanted ∷ ts) (suc i) e = number-free (suc (nextFree prefix used k)) ts i e
+
+  number-from : (k : ℕ) (ts : List Title) (i : ℕ) → Wants ts i → k ≤ numberAt k ts i
+  number-from k [] i e = wants-none e
+  number-from k (given m ∷ ts) zero e = wants-none e
+  number-from k (given m ∷ ts) (suc i) e = number-from k ts i e
+  number-from k (wanted ∷ ts) zero e = free-from prefix used k
+  number-from k (wanted ∷ ts) (suc i) e =
+      let least = free-from prefix used k in
+      let later = number-from (suc (nextFree prefix used k)) ts i e in
+      omega arith
+
+  pub number-rises : (k : ℕ) (ts : List Title) (i j : ℕ) → i < j → Wants ts i → Wants ts j → numberAt k ts i < numberAt k ts j
+  number-rises k [] i j l e d = wants-none e
+  number-rises k (t ∷ ts) i zero l e d = absurd (not-suc-le-zero l)
+  number-rises k (given m ∷ ts) zero (suc j) l e d = wants-none e
+  number-rises k (given m ∷ ts) (suc i) (suc j) l e d = number-rises k ts i j (le-of-suc-le-suc l) e d
+  number-rises k (wanted ∷ ts) zero (suc j) l e d = number-from (suc (nextFree prefix used k)) ts j d
+  number-rises k (wanted ∷ ts) (suc i) (suc j) l e d = number-rises (suc (nextFree prefix used k)) ts i j (le-of-suc-le-suc l) e d
+
+  -- no name's number is too large
+  pub number-most : length used ≤ 256 → (k : ℕ) (ts : List Title) (i : ℕ) → Wants ts i → numberAt k ts i < k + 257 * suc i
+  number-most few k [] i e = wants-none e
+  number-most few k (given m ∷ ts) zero e = wants-none e
+  number-most few k (given m ∷ ts) (suc i) e = let later = number-most few k ts i e in omega arith
+  number-most few k (wanted ∷ ts) zero e = let most = free-most prefix used k in omega arith
+  number-most few k (wanted ∷ ts) (suc i) e =
       let most = free-most prefix used k in
-      every-cons (made (nextFree prefix used k) (omega arith)) (entitled-every P n made few ts t (suc (nextFree prefix used k)) (omega arith))
+      let later = number-most few (suc (nextFree prefix used k)) ts i e in
+      omega arith
+
+  -- n went to a title before the i-th
+  abbrev pub Earlier : ℕ → List Title → ℕ → ℕ → Type 0
+  Earlier k ts i n = (j : ℕ) × (j < i) × Wants ts j × (numberAt k ts j ≡ n)
+
+  pub number-smallest : (k : ℕ) (ts : List Title) (i n : ℕ) → Wants ts i → k ≤ n → n < numberAt k ts i → (inUse prefix used n ≡ true) ⊎ Earlier k ts i n
+  number-smallest k [] i n e l h = wants-none e
+  number-smallest k (given m ∷ ts) zero n e l h = wants-none e
+  number-smallest k (given m ∷ ts) (suc i) n e l h =
+      ⊎-elim (λ u. inl u) (λ u. inr (suc (u .0), suc-le-suc (u .1), u .2, u .3)) (number-smallest k ts i n e l h)
+  number-smallest k (wanted ∷ ts) zero n e l h = inl (smallest prefix used k n l h)
+  number-smallest k (wanted ∷ ts) (suc i) n e l h =
+      let m = nextFree prefix used k in
+      elim (decLt n m) [
+        | yes c ↦ inl (smallest prefix used k n l c)
+        | no c ↦
+            elim (decLt m n) [
+              | yes d ↦ ⊎-elim (λ u. inl u) (λ u. inr (suc (u .0), suc-le-suc (u .1), u .2, u .3)) (number-smallest (suc m) ts i n e d h)
+              | no d ↦ inr (zero, zero-lt-suc i, refl, let z : m ≡ n = omega arith in z)
+            ]
+      ]
 
 -- ---- made names are spelled
 
-digits-short : (m n : ℕ) → n < 10 ^ suc m → length (digits n) ≤ suc m
-unfolding digits
-digits-short m n h = digits-by (λ n ds. (m : ℕ) → n < 10 ^ suc m → length ds ≤ suc m) (λ n l m h. omega arith) longer n n (omega arith) m h
-  where
-    longer : (n : ℕ) (ds : List ℕ) → 10 ≤ n → ((m : ℕ) → n / 10 < 10 ^ suc m → length ds ≤ suc m) → (m : ℕ) → n < 10 ^ suc m → length (ds ++ ((digitZero + n % 10) ∷ [])) ≤ suc m
-    longer n ds b ih zero h = absurd (omega arith)
-    longer n ds b ih (suc m) h =
-        let tenth : n / 10 < 10 ^ suc m = div-lt-iff-lt-mul (lit< tt) .1 (omega arith) in
-        let r = ih m tenth in
-        simp length-append (omega arith)
-
 digits-plain : (n : ℕ) → foldl spell Spelling.plain (digits n) ≡ Spelling.plain
-unfolding digits
-digits-plain n =
-    digits-by (λ n ds. foldl spell Spelling.plain ds ≡ Spelling.plain) (λ n h. one n h)
-    (λ n ds h e. foldl-append spell Spelling.plain ds ((digitZero + n % 10) ∷ []) ∙ rw e (one (n % 10) (mod-lt n (lit< tt)))) n n (omega arith)
+digits-plain =
+    digits-by (λ n ds. foldl spell Spelling.plain ds ≡ Spelling.plain) one
+    (λ n ds h e. foldl-append spell Spelling.plain ds ((digitZero + n % 10) ∷ []) ∙ rw e (one (n % 10) (mod-lt n (lit< tt))))
   where
     one : (d : ℕ) → d < 10 → spell Spelling.plain (digitZero + d) ≡ Spelling.plain
     one d h = rw (lt-ltb (digitZero + d) 256 (omega arith), digit-class d h)
 
 -- The prefixes of made names.
 pub data Prefix : List ℕ → Type 0 where
-  registers : Prefix (bytesOf "p.")
-  blocks : Prefix (bytesOf "e.")
+  registers : Prefix (registerPrefix)
+  blocks : Prefix (blockPrefix)
 
 prefix-plain : {prefix : List ℕ} → Prefix prefix → foldl spell Spelling.none prefix ≡ Spelling.plain
 unfolding classOf

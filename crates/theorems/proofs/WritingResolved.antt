@@ -1,6 +1,6 @@
 -- At a function's closing brace the mentions become the blocks they name, and the draft the function. Assumes nothing.
 use mathlib.Core.Bool.{true}
-use mathlib.Core.List.{List, [], _∷_, _++_, map, append-assoc, append-nil}
+use mathlib.Core.List.{List, [], _∷_, _++_, map, append-assoc, append-nil, map-map}
 use mathlib.Core.Path.{_≡_, refl, sym, _∙_, ap, subst, subst⁻¹}
 use Prim.Native.Nat.{ℕ, _+_, _<_}
 use native.Mathlib.Nat.{zero-add}
@@ -10,7 +10,7 @@ use lib.ListN.{length, getD, length-append, length-map, List·getD-map}
 use lib.Seq.{getD-append-seam, getD-append-add}
 use borrow.Author.Tests.{lt-ltb, ne-eqb}
 use Rattle.laws.specs.Lists.{gather}
-use Rattle.laws.proofs.Every.{Every, none as every-nil, more as every-cons, every-imp, kept-every}
+use Rattle.laws.proofs.Every.{Every, every-imp, kept-every, every-unmap, map-fixed}
 use Rattle.laws.proofs.Gather.{map-gather}
 use Rattle.laws.proofs.Sums.{gather-append}
 use Rattle.language.specs.Bytes.{rightBrace}
@@ -69,18 +69,6 @@ drafted-names : (n : ℕ) (ks : List Block) → map blockName (draftedBlocks n k
 drafted-names n [] = refl
 drafted-names n (k ∷ ks) = ap (λ (l : List (List ℕ)). k .name ∷ l) (drafted-names (n + length (gather namedBy (k .rows))) ks)
 
-map-map : {A B C : Type 0} (g : B → C) (f : A → B) (xs : List A) → map g (map f xs) ≡ map (λ x. g (f x)) xs
-map-map g f [] = refl
-map-map g f (x ∷ xs) = ap (λ l. g (f x) ∷ l) (map-map g f xs)
-
-map-id : (g : ℕ → ℕ) {xs : List ℕ} → Every (λ x. g x ≡ x) xs → map g xs ≡ xs
-map-id g every-nil = refl
-map-id g (every-cons {x = x} {xs = xs} p h) = λ i. p i ∷ map-id g h i
-
-every-unmap : {A : Type 0} {P : ℕ → Type 0} (g : A → ℕ) (xs : List A) → Every P (map g xs) → Every (λ x. P (g x)) xs
-every-unmap g [] h = every-nil
-every-unmap g (x ∷ xs) (every-cons p h) = every-cons p (every-unmap g xs h)
-
 module _ (ks : List Block) (apart : Apart (λ n. n) [] (map blockName ks)) where
   -- a block's number by the names of the drafts
   draft-number : (b : ℕ) → b < length ks → numbered blockName (draftedBlocks 0 ks) (getD ks b noBlock .name) ≡ b
@@ -125,7 +113,7 @@ module _ (fs : List Func) (F : Func) (registers : Apart nameOf [] (F .registers)
       known =
           sym (map-map (blockNumber f) (λ m. m .name) ms) ∙ ap (map (blockNumber f)) (e ∙ sym (map-gather (λ b. blockAt F b .name) namedBy (rowsIn (F .blocks))))
           ∙ map-map (blockNumber f) (λ b. blockAt F b .name) (gather namedBy (rowsIn (F .blocks)))
-          ∙ map-id (λ b. blockNumber f (blockAt F b .name)) (every-imp number (c .named))
+          ∙ map-fixed (λ b. blockNumber f (blockAt F b .name)) (every-imp number (c .named))
 
       resolved : resolve f ms ≡ F
       unfolding resolve

@@ -8,7 +8,7 @@ use native.Mathlib.Omega.{arith}
 use lib.Dec.{T, eqb, ltb, ltb→lt}
 use lib.ListN.{length, getD, length-append, length-map}
 use borrow.Author.Tests.{lt-ltb, le-leb}
-use Rattle.laws.specs.Lists.{gather, sum, all, below}
+use Rattle.laws.specs.Lists.{gather, all, below}
 use Rattle.laws.proofs.Every.{Every, none as every-nil, more as every-cons, every-all, every-below-at}
 use Rattle.laws.proofs.Sums.{gather-append}
 use Rattle.language.specs.Bytes.{comma, leftParen, rightParen, equals, semicolon}
@@ -20,6 +20,7 @@ use Rattle.language.specs.Tokens.{Token, token}
 use Rattle.language.specs.Grammar.{Stage, Act, Move, to, afterSources, afterSource, afterMention, sources, afterWord, inOperand, wordWithTarget, wordAlone, gram}
 use Rattle.language.specs.Reading.{Mention, Parts, partsOf, noParts, Parse, functionOf, rowCount, phiEntries, registerNumber, maxMentions, beginInstruction, setTarget, setInstruction, addSource, addEntry, addMention, setNumber, rowAs, rowOf, endInstruction, perform, onward, take}
 use Rattle.language.specs.Writing.{registerToken, blockToken, opToken, numberToken, parted, inParens, rowLine}
+use Rattle.language.proofs.Rooms.{entriesIn}
 use Rattle.theorems.specs.RoundTrip.{none, more}
 use Rattle.theorems.proofs.WritingStates.{State, Takes, nothing, then, after, step, passes, draft}
 use Rattle.theorems.proofs.WritingDeclared.{Apart, numbers}
@@ -42,10 +43,6 @@ drafted n (Row.unknown op) = Row.unknown op
 -- The names of the blocks that a row names.
 abbrev pub mentioned : Func → Row → List (List ℕ)
 mentioned f r = map (λ b. blockAt f b .name) (namedBy r)
-
--- How many entries the phi among these rows have.
-abbrev pub entriesIn : List Row → ℕ
-entriesIn rs = sum (map (λ r. length (entriesOf r)) rs)
 
 -- An instruction may begin here.
 pub record Starts (s : Stage) : Type 0 where

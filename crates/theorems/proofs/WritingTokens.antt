@@ -5,20 +5,22 @@ use mathlib.Core.List.{List, [], _∷_, _++_, foldl, foldl-append, append-assoc,
 use mathlib.Core.Logic.{_⊎_, inl, inr, ⊎-elim}
 use mathlib.Core.Path.{_≡_, refl, sym, _∙_, ap, subst, subst⁻¹}
 use Prim.Native.Nat.{ℕ, zero, suc, _+_, _-_, _*_, _/_, _%_, _≤_, _<_}
-use native.Mathlib.Nat.{div-add-mod, mod-lt, div-lt-self}
+use native.Mathlib.Nat.{div-add-mod, mod-lt}
 use native.Mathlib.Omega.{arith}
 use lib.Dec.{T, eqb, ltb, leb, leb→le, eqb→eq, lit<}
 use lib.ListN.{length, getD, length-append}
 use mir.Facts.{and-yes}
-use borrow.Author.Tests.{lt-ltb, eq-eqb, ne-eqb, ltb-true, ltb-false}
+use borrow.Author.Tests.{lt-ltb, eq-eqb, ne-eqb}
 use Rattle.laws.specs.Lists.{all, below, gather}
 use Rattle.laws.proofs.Every.{Every, more as every-cons, every-all, every-below-at}
 use Rattle.language.specs.Bytes.{Class, classOf, nameByte, digitByte, quoteByte, backslash, letterX, digitZero, lineFeed, minus}
 use Rattle.language.specs.Words.{words, wordOf, wordCount}
 use Rattle.language.specs.Names.{Spelling, spell, nextSpelled, firstSpelled, insideQuotes, whole, spelled}
 use Rattle.language.specs.Programs.{maxName}
-use Rattle.language.specs.Listing.{digits, digitsWithin}
+use Rattle.language.specs.Listing.{digits}
 use Rattle.language.specs.Tokens.{Token, Found, token, Mode, Lexer, Lexed, lexer₀, quiet, finds, begun, begunName, longerName, longerNumber, begunNumber, digitMode, begin, beginAs, nameOrWord, ended, endedAs, ends, extends, quotes, closes, endsNumber, decimalDigit, stepAs, lexStep, lexEnd, lexMore, tokensOf}
+use Rattle.language.proofs.Digits.{digits-by}
+use Rattle.language.proofs.SpelledNames.{right, wrong-stays, right-before}
 use Rattle.theorems.specs.RoundTrip.{Finds, none, more}
 use Rattle.language.specs.Writing.{bytesFor, lineBytes, spaceByte}
 
@@ -139,15 +141,6 @@ Stands Spelling.escaping n us x = Naming Mode.escaping n us x × (2 ≤ length n
 Stands Spelling.closed n us x = Between (us ++ (Token.name n ∷ [])) x
 Stands Spelling.wrong n us x = ⊥
 
-abbrev right : Spelling → Bool
-right Spelling.none = true
-right Spelling.plain = true
-right Spelling.opened = true
-right Spelling.inside = true
-right Spelling.escaping = true
-right Spelling.closed = true
-right Spelling.wrong = false
-
 module _ (n : List ℕ) (b : ℕ) (us : List Token) (x : Lexed) (f : length n < maxName) where
   longer : (m m′ : Mode) (y : Lexed) → Naming m n us x → y ≡ also x (extends m′ (x .lexer) b) → Naming m′ (n ++ (b ∷ [])) us y
   unfolding extends
@@ -222,23 +215,6 @@ module _ (n : List ℕ) (b : ℕ) (us : List Token) (x : Lexed) (f : length n < 
   on Spelling.escaping k r = quotes-on Mode.escaping (omega arith) (k .0) (lexMore x b) (more-is x b Mode.escaping (k .0 .mode))
   on Spelling.closed k r = absurd r
   on Spelling.wrong k r = absurd r
-
-wrong-stays : (bs : List ℕ) → T (right (foldl spell Spelling.wrong bs)) → ⊥
-wrong-stays [] r = r
-wrong-stays (b ∷ bs) r = by (ltb b 256) r (wrong-stays bs)
-  where
-    by : (t : Bool) → T (right (foldl spell (cond t Spelling.wrong Spelling.wrong) bs)) → (T (right (foldl spell Spelling.wrong bs)) → ⊥) → ⊥
-    by true r h = h r
-    by false r h = h r
-
-right-before : (s : Spelling) (bs : List ℕ) → T (right (foldl spell s bs)) → T (right s)
-right-before Spelling.none bs r = tt
-right-before Spelling.plain bs r = tt
-right-before Spelling.opened bs r = tt
-right-before Spelling.inside bs r = tt
-right-before Spelling.escaping bs r = tt
-right-before Spelling.closed bs r = tt
-right-before Spelling.wrong bs r = absurd (wrong-stays bs r)
 
 spells-on :
     (bs n : List ℕ) (s : Spelling) (us : List Token) (x : Lexed) → Stands s n us x → length n + length bs ≤ maxName → T (right (foldl spell s bs))
@@ -464,21 +440,13 @@ module _ (s : Bool) (us : List Token) where
       ∙ ap (λ (v : ℕ). also x (quiet (longerNumber (digitMode b) l v))) worth)
 
   -- all digits, the first one being taken
-  digits-on : (x : Lexed) → ((d : ℕ) → d < 10 → Counting s d us (lexMore x (digitZero + d))) → (k n : ℕ) → n ≤ k → Counting s n us (foldl lexMore x (digitsWithin k n))
-  digits-on x first zero n h = first n (omega arith)
-  digits-on x first (suc k) n h = by (ltb n 10) refl (digits-on x first k)
-    where
-      by :
-          (t : Bool) → ltb n 10 ≡ t → ((n : ℕ) → n ≤ k → Counting s n us (foldl lexMore x (digitsWithin k n)))
-          → Counting s n us (foldl lexMore x (elim t [ true ↦ (digitZero + n) ∷ [] | false ↦ digitsWithin k (n / 10) ++ ((digitZero + n % 10) ∷ []) ]))
-      by true e ih = first n (ltb-true n 10 e)
-      by false e ih =
-          let big : 10 ≤ n = ltb-false n 10 e in
-          let less : n / 10 < n = div-lt-self (omega arith) (lit< tt) in
-          let last : n % 10 < 10 = mod-lt n (lit< tt) in
-          rw foldl-append
-          (subst (λ (v : ℕ). Counting s v us (lexMore (foldl lexMore x (digitsWithin k (n / 10))) (digitZero + n % 10))) (div-add-mod n 10)
-          (digit-on (n / 10) (n % 10) last (foldl lexMore x (digitsWithin k (n / 10))) (ih (n / 10) (omega arith))))
+  digits-on : (x : Lexed) → ((d : ℕ) → d < 10 → Counting s d us (lexMore x (digitZero + d))) → (n : ℕ) → Counting s n us (foldl lexMore x (digits n))
+  digits-on x first =
+      digits-by (λ n ds. Counting s n us (foldl lexMore x ds)) first
+      (λ n ds big k.
+      rw foldl-append
+      (subst (λ (v : ℕ). Counting s v us (lexMore (foldl lexMore x ds) (digitZero + n % 10))) (div-add-mod n 10)
+      (digit-on (n / 10) (n % 10) (mod-lt n (lit< tt)) (foldl lexMore x ds) k)))
 
 -- the first digit, with nothing open
 first-digit : (us : List Token) (d : ℕ) → d < 10 → (x : Lexed) → Between us x → Counting false d us (lexMore x (digitZero + d))
@@ -511,12 +479,11 @@ minus-on us x k =
 
 module _ (c : ℕ) (space : classOf c ≡ Class.space) (us : List Token) (x : Lexed) (k : Between us x) where
   number-then : (s : Bool) (v : ℕ) → Between (us ++ (Token.number s v ∷ [])) (lexMore (foldl lexMore x (cond s (minus ∷ digits v) (digits v))) c)
-  unfolding digits
   number-then true v =
       number-ends c space (foldl lexMore (lexMore x minus) (digits v))
-      (digits-on true us (lexMore x minus) (λ d h. first-signed true us d h (lexMore x minus) (minus-on us x k)) v v (omega arith))
+      (digits-on true us (lexMore x minus) (λ d h. first-signed true us d h (lexMore x minus) (minus-on us x k)) v)
   number-then false v =
-      number-ends c space (foldl lexMore x (digits v)) (digits-on false us x (λ d h. first-digit us d h x k) v v (omega arith))
+      number-ends c space (foldl lexMore x (digits v)) (digits-on false us x (λ d h. first-digit us d h x k) v)
 
   token-then : (t : Token) → Spellable t → Between (us ++ (t ∷ [])) (foldl lexMore x (bytesFor t ++ (c ∷ [])))
   unfolding bytesFor
