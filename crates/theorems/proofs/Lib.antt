@@ -49,3 +49,6 @@ pub mod NamesApart
 pub mod WritingNamed
 pub mod WritingAccepted
 pub mod WritingAgain
+pub mod RoundTrip
+pub mod RoundTripTranslation
+pub mod TurnWritten

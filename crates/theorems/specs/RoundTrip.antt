@@ -2,17 +2,26 @@
 -- here; over tables and lent buffers, and of a translation, further down.
 -- Assumes nothing.
 use mathlib.Core.Path.{_≡_}
-use mathlib.Core.Logic.{_⊎_}
+use mathlib.Core.Bool.{not}
+use mathlib.Core.Logic.{_⊎_, _↔_}
 use mathlib.Core.List.{List, [], _∷_, _++_, map}
-use Prim.Native.Nat.{ℕ, _≤_, _<_}
-use lib.ListN.{length, getD}
-use Rattle.language.specs.Programs.{Func, Program, functionIn, maxText}
+use Prim.Native.Nat.{ℕ, _-_, _≤_, _<_}
+use lib.Dec.{T}
+use lib.ListN.{length, getD, take, drop}
+use Rattle.laws.specs.Lists.{any}
+use Rattle.language.specs.Programs.{Func, Program, functionIn, isPhi, rowsOf, maxText}
 use Rattle.language.specs.Tokens.{Token, Found, token, tokensOf}
 use Rattle.language.specs.Reading.{Reading, read}
 use Rattle.language.specs.Checking.{Verdict, check}
-use Rattle.language.specs.Running.{runOf}
+use Rattle.language.specs.Running.{runOf, argumentsFit}
+use Rattle.language.specs.Table.{tableLength, cells, decode}
+use Rattle.language.specs.Translating.{translation}
 use Rattle.language.specs.Writing.{tokens}
 use Rattle.language.specs.MadeNames.{registerPrefix, blockPrefix, madeName, namedFunction, named, written}
+use Rattle.language.specs.Answers.{Wrote, Shown, zeros, fill, wroteNumbers, checkAnswer, readAnswer, runAnswer, translateAnswer, writeAnswer}
+use Rattle.theorems.specs.TableNeeds.{Needed}
+use Rattle.theorems.specs.Demand3.{RunsAlike}
+use Rattle.theorems.specs.OverTables.{functionInTable, TranslatableIn, RunsAgree}
 
 -- ---- the text of an accepted program
 
@@ -108,3 +117,109 @@ NamesDiffer =
     → check p ≡ Verdict.accepted
     → i < length p
     → (let f = namedFunction (functionIn p i) in AllApart (map (λ r. r .name) (f .registers)) × AllApart (map (λ b. b .name) (f .blocks)))
+
+-- ---- over tables and lent buffers
+
+-- Writing table t to a buffer of n bytes is not refused, and answers k: "The table is checked first, as for running", and the text exceeds neither
+-- 65,536 bytes nor the buffer.
+pub record Writes (t : List ℕ) (n k : ℕ) : Type 0 where
+  pub passes : checkAnswer t ≡ Verdict.accepted
+  pub count : k ≡ length (written (decode t))
+  pub within : k ≤ maxText
+  pub room : k ≤ n
+
+abbrev pub WrittenExactly : Type 0
+WrittenExactly = (t : List ℕ) (n k : ℕ) → (writeAnswer t n .answer ≡ Wrote.wrote k) ↔ Writes t n k
+
+-- "Refusals: 33 if the text exceeds 65,536 bytes, then 32 exactly if it exceeds the buffer", behind those of the check.
+pub data NotWritten (t : List ℕ) (n : ℕ) : (number place : ℕ) → Type 0 where
+  unsound : (k p : ℕ) → checkAnswer t ≡ Verdict.refused k p → NotWritten t n k p
+  long : checkAnswer t ≡ Verdict.accepted → maxText < length (written (decode t)) → NotWritten t n 33 0
+  full :
+      checkAnswer t ≡ Verdict.accepted
+      → length (written (decode t)) ≤ maxText
+      → n < length (written (decode t))
+      → NotWritten t n 32 0
+
+abbrev pub NotWrittenExactly : Type 0
+NotWrittenExactly = (t : List ℕ) (n k p : ℕ) → (writeAnswer t n .answer ≡ Wrote.refused k p) ↔ NotWritten t n k p
+
+-- These two numbers are no others'.
+abbrev pub LongIs33 : Type 0
+LongIs33 =
+    (t : List ℕ) (n : ℕ)
+    → (wroteNumbers (writeAnswer t n .answer) .number ≡ 33)
+    ↔ ((checkAnswer t ≡ Verdict.accepted) × (maxText < length (written (decode t))))
+
+abbrev pub FullIs32 : Type 0
+FullIs32 =
+    (t : List ℕ) (n : ℕ)
+    → (wroteNumbers (writeAnswer t n .answer) .number ≡ 32)
+    ↔ ((checkAnswer t ≡ Verdict.accepted) × (length (written (decode t)) ≤ maxText) × (n < length (written (decode t))))
+
+-- Number 0 says that a text was written; its length is the answer's value.
+abbrev pub WrittenIs0 : Type 0
+WrittenIs0 =
+    (t : List ℕ) (n : ℕ)
+    → (let a = wroteNumbers (writeAnswer t n .answer) in a .number ≡ 0 → writeAnswer t n .answer ≡ Wrote.wrote (a .value))
+
+-- A refusal zeroes the buffer.
+abbrev pub RefusedZeroes : Type 0
+RefusedZeroes = (t : List ℕ) (n k p : ℕ) → writeAnswer t n .answer ≡ Wrote.refused k p → writeAnswer t n .buffer ≡ zeros n
+
+-- "the same table, cells not needed 0, with the made names filled in"
+abbrev pub filledTable : List ℕ → List ℕ
+filledTable t = cells (named (decode t))
+
+-- The text that an answer k and the buffer after it give a caller.
+abbrev pub textIn : Shown → ℕ → List ℕ
+textIn x k = take k (x .buffer)
+
+-- What holds where writing table t to n bytes answered k.
+pub record RoundTrip (t : List ℕ) (n k : ℕ) : Type 0 where
+  -- "The answer is the text's length; past it the buffer is zero."
+  pub text : textIn (writeAnswer t n) k ≡ written (decode t)
+  pub rest : drop k (writeAnswer t n .buffer) ≡ zeros (n - k)
+  -- "Read back, the text gives the same table", for an output of any length: reading refuses none but with 22.
+  pub reads : (m : ℕ) → readAnswer (textIn (writeAnswer t n) k) m ≡ fill m (named (decode t))
+  pub gives : readAnswer (textIn (writeAnswer t n) k) tableLength ≡ record { answer = Verdict.accepted; table = filledTable t }
+  -- That table holds the program with the made names filled in, and "cells not needed 0".
+  pub holds : decode (filledTable t) ≡ named (decode t)
+  pub unneeded : (c : ℕ) → (getD (filledTable t) c 0 ≡ 0) ⊎ Needed (filledTable t) c
+  -- It passes its check, its runs answer as those of t, and writing it again gives the same text.
+  pub passes : checkAnswer (filledTable t) ≡ Verdict.accepted
+  pub runs : (i : ℕ) (args : List ℕ) (budget c : ℕ) → runAnswer (filledTable t) i args budget c ≡ runAnswer t i args budget c
+  pub again : (m : ℕ) → writeAnswer (filledTable t) m ≡ writeAnswer t m
+
+abbrev pub RoundTripLaw : Type 0
+RoundTripLaw = (t : List ℕ) (n k : ℕ) → writeAnswer t n .answer ≡ Wrote.wrote k → RoundTrip t n k
+
+-- ---- of a translation
+
+-- What demand 3 says of the source, function i of t, and of table v, which the text of its translation u gives: as of u, the made names apart.
+pub record TranslatedAsText (t : List ℕ) (i : ℕ) (u v : List ℕ) : Type 0 where
+  pub passes : checkAnswer v ≡ Verdict.accepted
+  pub holds : decode v ≡ functionInTable v 0 ∷ []
+  pub defined : functionInTable v 0 ≡ namedFunction (translation (functionInTable t i))
+  pub noPhi : T (not (any isPhi (rowsOf (functionInTable v 0))))
+  pub unmarked : functionInTable v 0 .ssa ≡ 0
+  -- it runs as the translation does,
+  pub answers : (args : List ℕ) (budget c : ℕ) → runAnswer v 0 args budget c ≡ runAnswer u 0 args budget c
+  -- and so as the source does, without a budget,
+  pub runs : (args : List ℕ) → T (argumentsFit (functionInTable t i) args) → RunsAlike (functionInTable t i) (functionInTable v 0) args
+  -- and with one
+  pub agree :
+      (args : List ℕ) (b b′ c c′ : ℕ)
+      → T (argumentsFit (functionInTable t i) args)
+      → length (functionInTable t i .registers) ≤ c
+      → length (functionInTable v 0 .registers) ≤ c′
+      → RunsAgree (λ r. r) (functionInTable t i) (functionInTable v 0) args b b′ (runAnswer t i args b c .answer) (runAnswer v 0 args b′ c′ .answer)
+
+-- Demand 3 of the text that the client sees: translate function i of t, write that to a buffer of n bytes, and read the text back.
+abbrev pub Demand3AsText : Type 0
+Demand3AsText =
+    (t : List ℕ) (i n k : ℕ)
+    → TranslatableIn t i
+    → (let u = translateAnswer t i tableLength .table in
+    writeAnswer u n .answer ≡ Wrote.wrote k
+    → (let back = readAnswer (textIn (writeAnswer u n) k) tableLength in (back .answer ≡ Verdict.accepted) × TranslatedAsText t i u (back .table)))
