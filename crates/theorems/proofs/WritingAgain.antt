@@ -26,7 +26,10 @@ unfolding spelled
 spelled-some [] h = absurd h
 spelled-some (b ∷ n) h = refl
 
-registers-stay : (prefix : List ℕ) (used : List (List ℕ)) (k : ℕ) {ns : List (List ℕ)} → Every (λ n. T (spelled n)) ns → entitled prefix used k (map registerTitle ns) ≡ ns
+registers-stay :
+    (prefix : List ℕ) (used : List (List ℕ)) (k : ℕ) {ns : List (List ℕ)}
+    → Every (λ n. T (spelled n)) ns
+    → entitled prefix used k (map registerTitle ns) ≡ ns
 registers-stay prefix used k every-nil = refl
 registers-stay prefix used k (every-cons {x = n} {xs = ns} p h) =
     ap (λ (b : Bool). entitled prefix used k (cond b wanted (given n) ∷ map registerTitle ns)) (spelled-some n p) ∙ ap (λ (l : List (List ℕ)). n ∷ l) (registers-stay prefix used k h)
@@ -66,7 +69,10 @@ function-again f k =
     ap (together (λ b n. record { name = n; rows = b .rows }) (f .blocks)) (blocks-stay (blockPrefix) ns 0 (f .entry) 0 ns only) ∙ blocks-again (f .blocks) in
     λ i. record { name = f .name; ssa = f .ssa; result = f .result; params = f .params; registers = registers i; blocks = blocks i; entry = f .entry; placed = f .placed }
   where
-    at : (j : ℕ) → j < length (map blockName (f .blocks)) → j ≡ Rattle.theorems.proofs.WritingDeclared.numbered (λ n. n) (map blockName (f .blocks)) (getD (map blockName (f .blocks)) j [])
+    at :
+        (j : ℕ)
+        → j < length (map blockName (f .blocks))
+        → j ≡ Rattle.theorems.proofs.WritingDeclared.numbered (λ n. n) (map blockName (f .blocks)) (getD (map blockName (f .blocks)) j [])
     at j l = sym (numbers (λ n. n) [] (map blockName (f .blocks)) [] (k .rooms .names) j l ∙ zero-add j)
 
     only : (j : ℕ) → j < length (map blockName (f .blocks)) → getD (map blockName (f .blocks)) j [] ≡ [] → 0 + j ≡ f .entry

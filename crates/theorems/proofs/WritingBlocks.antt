@@ -115,7 +115,12 @@ module _ (fs : List Func) (F : Func) (apart : Apart nameOf [] (F .registers)) wh
     named-few (Row.unknown op) = omega arith
 
     -- one row, then the others
-    row-then : (s : Stage) → Starts s → (pre : List Row) (ns : List (List ℕ)) (r : Row) (rs : List Row) → RowReady F r → Room pre ns (r ∷ rs)
+    row-then :
+        (s : Stage)
+        → Starts s
+        → (pre : List Row) (ns : List (List ℕ)) (r : Row) (rs : List Row)
+        → RowReady F r
+        → Room pre ns (r ∷ rs)
         → (ts : List Token) (τ : State)
         → (Room (pre ++ (drafted (length ns) r ∷ [])) (ns ++ mentioned F r) rs → Takes (inBlock Stage.nextInstruction bs (ns ++ mentioned F r) nm (pre ++ (drafted (length ns) r ∷ []))) ts τ)
         → Takes (inBlock s bs ns nm pre) (rowLine F r ++ ts) τ
@@ -136,7 +141,12 @@ module _ (fs : List Func) (F : Func) (apart : Apart nameOf [] (F .registers)) wh
     Rows-read s pre ns rs =
         Takes (inBlock s bs ns nm pre) (gather (λ l. l) (map (rowLine F) rs)) (inBlock Stage.nextInstruction bs (ns ++ mentions F rs) nm (pre ++ draftedRows (length ns) rs))
 
-    cons-read : (s : Stage) → Starts s → (pre : List Row) (ns : List (List ℕ)) (r : Row) (rs : List Row) → RowReady F r → Room pre ns (r ∷ rs)
+    cons-read :
+        (s : Stage)
+        → Starts s
+        → (pre : List Row) (ns : List (List ℕ)) (r : Row) (rs : List Row)
+        → RowReady F r
+        → Room pre ns (r ∷ rs)
         → (Room (pre ++ (drafted (length ns) r ∷ [])) (ns ++ mentioned F r) rs → Rows-read Stage.nextInstruction (pre ++ (drafted (length ns) r ∷ [])) (ns ++ mentioned F r) rs)
         → Rows-read s pre ns (r ∷ rs)
     cons-read s st pre ns r rs k room later =
@@ -154,7 +164,12 @@ module _ (fs : List Func) (F : Func) (apart : Apart nameOf [] (F .registers)) wh
     rows-read [] pre ns h room = rw (append-nil ns, append-nil pre) (nothing (inBlock Stage.nextInstruction bs ns nm pre))
     rows-read (r ∷ rs) pre ns (every-cons k h) room = cons-read Stage.nextInstruction starts-next pre ns r rs k room (λ room. rows-read rs _ _ h room)
 
-    first-rows : (rs : List Row) (ns : List (List ℕ)) → Every (RowReady F) rs → 0 < length rs → Room [] ns rs → Rows-read Stage.firstInstruction [] ns rs
+    first-rows :
+        (rs : List Row) (ns : List (List ℕ))
+        → Every (RowReady F) rs
+        → 0 < length rs
+        → Room [] ns rs
+        → Rows-read Stage.firstInstruction [] ns rs
     first-rows [] ns h some room = absurd (omega arith)
     first-rows (r ∷ rs) ns (every-cons k h) some room = cons-read Stage.firstInstruction starts-first [] ns r rs k room (λ room. rows-read rs _ _ h room)
 
@@ -250,7 +265,11 @@ module _ (fs : List Func) (F : Func) (apart : Apart nameOf [] (F .registers)) wh
   blocks-read (b ∷ rest) bs ns (every-cons k h) room = block-then Stage.blocks refl bs ns b rest k room (λ room. blocks-read rest _ _ h room)
 
   -- from the register declarations on, one block or more
-  pub all-blocks : (bs : List Block) → 0 < length bs → Every (BlockReady F) bs → Rooms [] [] bs
+  pub all-blocks :
+      (bs : List Block)
+      → 0 < length bs
+      → Every (BlockReady F) bs
+      → Rooms [] [] bs
       → Takes (atBlock Stage.declarations [] []) (gather (λ l. l) (gather (blockLines F) bs)) (atBlock Stage.blocks (draftedBlocks 0 bs) (mentions F (rowsIn bs)))
   unfolding gram
   all-blocks [] some h room = absurd (omega arith)

@@ -44,7 +44,12 @@ module _ {A : Type 0} (name : A → List ℕ) where
   own-number (y ∷ ys) x xs h = rw (same-not (name y) (name x) (h .0)) (ap suc (own-number ys x xs (h .1)))
 
   -- where all names are apart, each is found at its place
-  pub numbers : (before xs : List A) (d : A) → Apart before xs → (i : ℕ) → i < length xs → numbered (before ++ xs) (name (getD xs i d)) ≡ length before + i
+  pub numbers :
+      (before xs : List A) (d : A)
+      → Apart before xs
+      → (i : ℕ)
+      → i < length xs
+      → numbered (before ++ xs) (name (getD xs i d)) ≡ length before + i
   numbers before [] d h i l = absurd (not-suc-le-zero l)
   numbers before (x ∷ xs) d h zero l = own-number before x xs (h .0) ∙ omega arith
   numbers before (x ∷ xs) d h (suc i) l =

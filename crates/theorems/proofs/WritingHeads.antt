@@ -62,7 +62,9 @@ module _ (fs : List Func) (name : List ℕ) (ssa result : ℕ) where
         (passes (headed Stage.registerEnd k (rs ++ (r ∷ []))) Stage.declarations (Token.mark semicolon) refl)))
 
     -- a parameter, the first or a later one
-    parameter-read : (s : Stage) → gram s (typeToken (r .type)) ≡ to (Stage.parameterName (r .type)) Act.beginRegister
+    parameter-read :
+        (s : Stage)
+        → gram s (typeToken (r .type)) ≡ to (Stage.parameterName (r .type)) Act.beginRegister
         → Takes (headed s k rs) (parameterPart r) (headed Stage.parameterEnd (k + 1) (rs ++ (r ∷ [])))
     unfolding gram perform
     parameter-read s e =
@@ -80,7 +82,10 @@ module _ (fs : List Func) (name : List ℕ) (ssa result : ℕ) where
       registers-read k (rs ++ (r ∷ [])) more (simp length-append (omega arith)) ts (new .1) in
       after (registerLine r) _ _ _ _ (register-read k rs r (omega arith) t (new .0)) (rw append-assoc at later)
 
-  parameter-word : (s : Stage) (t : ℕ) → ((w : ℕ) → gram s (Token.word w) ≡ aType (λ t. to (Stage.parameterName t) Act.beginRegister) w) → t < 10
+  parameter-word :
+      (s : Stage) (t : ℕ)
+      → ((w : ℕ) → gram s (Token.word w) ≡ aType (λ t. to (Stage.parameterName t) Act.beginRegister) w)
+      → t < 10
       → gram s (typeToken t) ≡ to (Stage.parameterName t) Act.beginRegister
   parameter-word s t e h = e (firstType + t) ∙ type-word (λ t. to (Stage.parameterName t) Act.beginRegister) t h
 
@@ -136,7 +141,11 @@ abbrev pub between : List Func → State
 between fs = heading Stage.top fs (functionOf [] 0 0 0 [] [] 0)
 
 -- the return type or `void`, also where `ssa` may stand
-result-word : (t : ℕ) → t ≤ void → (s : Stage) → ((w : ℕ) → (w ≡ ssaWord → ⊥) → gram s (Token.word w) ≡ aResult w)
+result-word :
+    (t : ℕ)
+    → t ≤ void
+    → (s : Stage)
+    → ((w : ℕ) → (w ≡ ssaWord → ⊥) → gram s (Token.word w) ≡ aResult w)
     → gram s (resultToken t) ≡ to Stage.functionName (Act.setResult t)
 result-word t h s e = by (eqb t void) refl
   where
@@ -148,13 +157,17 @@ result-word t h s e = by (eqb t void) refl
         ∙ rw (ne-eqb (firstType + t) voidWord (λ z. absurd (omega arith))) (type-word (λ t. to Stage.functionName (Act.setResult t)) t other)
 
 module _ (fs : List Func) (name : List ℕ) (ssa result : ℕ) (room : length fs < maxFunctions) (marked : ssa < 2) (typed : result ≤ void) (new : New functionName name fs) where
-  named-function : (s : ℕ) → Takes (heading Stage.functionName fs (functionOf [] s result 0 [] [] 0)) (Token.name name ∷ []) (heading Stage.parameters fs (functionOf name s result 0 [] [] 0))
+  named-function :
+      (s : ℕ)
+      → Takes (heading Stage.functionName fs (functionOf [] s result 0 [] [] 0)) (Token.name name ∷ []) (heading Stage.parameters fs (functionOf name s result 0 [] [] 0))
   unfolding gram perform nameFunction functionNumber
   named-function s =
       step (heading Stage.functionName fs (functionOf [] s result 0 [] [] 0)) (heading Stage.parameters fs (functionOf name s result 0 [] [] 0)) (Token.name name) (Act.nameFunction name) refl
       (λ p ms h. rw (lt-ltb (length fs) maxFunctions room, new-number functionName name fs new, le-ltb (length fs) (length fs) (omega arith))) refl
 
-  resulted : (s : ℕ) (g : Stage) → ((w : ℕ) → (w ≡ ssaWord → ⊥) → gram g (Token.word w) ≡ aResult w)
+  resulted :
+      (s : ℕ) (g : Stage)
+      → ((w : ℕ) → (w ≡ ssaWord → ⊥) → gram g (Token.word w) ≡ aResult w)
       → Takes (heading g fs (functionOf [] s 0 0 [] [] 0)) (resultToken result ∷ []) (heading Stage.functionName fs (functionOf [] s result 0 [] [] 0))
   unfolding perform setResult
   resulted s g e =
@@ -168,7 +181,9 @@ module _ (fs : List Func) (name : List ℕ) (ssa result : ℕ) (room : length fs
       (λ p ms h. rw (lt-ltb (length fs) maxFunctions room)) refl
 
   -- up to the parameters
-  pub titled : (ts : List Token) (τ : State) → Takes (heading Stage.parameters fs (functionOf name ssa result 0 [] [] 0)) ts τ
+  pub titled :
+      (ts : List Token) (τ : State)
+      → Takes (heading Stage.parameters fs (functionOf name ssa result 0 [] [] 0)) ts τ
       → Takes (between fs) (Token.word functionWord ∷ (cond (eqb ssa 1) (Token.word ssaWord ∷ []) [] ++ (resultToken result ∷ Token.name name ∷ ts))) τ
   unfolding gram perform markSsa
   titled ts τ later = then _ (heading Stage.header fs (functionOf [] 0 0 0 [] [] 0)) _ _ _ begun (by (eqb ssa 1) refl)
@@ -176,7 +191,10 @@ module _ (fs : List Func) (name : List ℕ) (ssa result : ℕ) (room : length fs
       unmarked : (b : Bool) → eqb ssa 1 ≡ b → b ≡ false → 0 ≡ ssa
       unmarked b e d = let z : ssa ≡ 1 → ⊥ = eqb-false ssa 1 (e ∙ d) in omega arith
 
-      by : (b : Bool) → eqb ssa 1 ≡ b → Takes (heading Stage.header fs (functionOf [] 0 0 0 [] [] 0)) (cond b (Token.word ssaWord ∷ []) [] ++ (resultToken result ∷ Token.name name ∷ ts)) τ
+      by :
+          (b : Bool)
+          → eqb ssa 1 ≡ b
+          → Takes (heading Stage.header fs (functionOf [] 0 0 0 [] [] 0)) (cond b (Token.word ssaWord ∷ []) [] ++ (resultToken result ∷ Token.name name ∷ ts)) τ
       by true e =
           then _ (heading Stage.result fs (functionOf [] 1 0 0 [] [] 0)) _ _ _
           (step (heading Stage.header fs (functionOf [] 0 0 0 [] [] 0)) (heading Stage.result fs (functionOf [] 1 0 0 [] [] 0)) (Token.word ssaWord) Act.markSsa refl (λ p ms h. refl) refl)

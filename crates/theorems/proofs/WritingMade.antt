@@ -49,7 +49,11 @@ module _ (a : List ℕ) where
   one-fewer [] e = absurd (false≢true e)
   one-fewer (u ∷ used) e = by (same a u) e (one-fewer used)
     where
-      by : (b : Bool) → (b || any (same a) used) ≡ true → (any (same a) used ≡ true → length (others used) < length used) → length (cond (not b) (u ∷ others used) (others used)) < suc (length used)
+      by :
+          (b : Bool)
+          → (b || any (same a) used) ≡ true
+          → (any (same a) used ≡ true → length (others used) < length used)
+          → length (cond (not b) (u ∷ others used) (others used)) < suc (length used)
       by true e h = omega (arith, fewer used)
       by false e h = omega (arith, h e)
 
@@ -216,7 +220,12 @@ module _ (prefix : List ℕ) (used : List (List ℕ)) where
   abbrev pub Earlier : ℕ → List Title → ℕ → ℕ → Type 0
   Earlier k ts i n = (j : ℕ) × (j < i) × Wants ts j × (numberAt k ts j ≡ n)
 
-  pub number-smallest : (k : ℕ) (ts : List Title) (i n : ℕ) → Wants ts i → k ≤ n → n < numberAt k ts i → (inUse prefix used n ≡ true) ⊎ Earlier k ts i n
+  pub number-smallest :
+      (k : ℕ) (ts : List Title) (i n : ℕ)
+      → Wants ts i
+      → k ≤ n
+      → n < numberAt k ts i
+      → (inUse prefix used n ≡ true) ⊎ Earlier k ts i n
   number-smallest k [] i n e l h = wants-none e
   number-smallest k (given m ∷ ts) zero n e l h = wants-none e
   number-smallest k (given m ∷ ts) (suc i) n e l h =

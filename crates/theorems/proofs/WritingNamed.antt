@@ -4,7 +4,9 @@ use mathlib.Core.Bool.{Bool, true, false, cond, not, _&&_, false≢true}
 use mathlib.Core.List.{List, [], _∷_, map}
 use mathlib.Core.Logic.{_⊎_, inl, inr, ⊎-elim}
 use mathlib.Core.Path.{_≡_, refl, sym, _∙_, ap, subst, subst⁻¹}
-use Prim.Native.Nat.{ℕ, zero, suc, _≤_, _<_, zero-le}
+use Prim.Native.Nat.{ℕ, zero, suc, _+_, _*_, _≤_, _<_, zero-le}
+use native.Mathlib.Nat.{not-suc-le-zero}
+use native.Mathlib.Decide.{decLt}
 use native.Mathlib.Omega.{arith}
 use borrow.Author.Tests.{eqb-true, eqb-false}
 use lib.Dec.{T, eqb, ltb}
@@ -21,7 +23,7 @@ use Rattle.language.specs.Programs.{Row, Func, Program, noBlock, noFunction, fu
 use Rattle.language.specs.Checking.{Verdict, check, spotAt, breaksRow, Missing, inRange, spelledOrNone}
 use Rattle.language.specs.MadeNames.{Title, given, wanted, registerPrefix, blockPrefix, madeName, inUse, entitled, registerTitle, blockTitle, registerNames, blockNames, namedFunction, named}
 use Rattle.theorems.specs.Accepted.{namesBefore, RulesHold}
-use Rattle.theorems.specs.RoundTrip.{AlikeButNames, OnlyNamesFilled, NamesMade, RegistersNamed, BlocksNamed, AllApart, NamesDiffer, StillAccepted}
+use Rattle.theorems.specs.RoundTrip.{AlikeButNames, OnlyNamesFilled, NamesMade, MadeOneWay, RegistersNamed, BlocksNamed, AllApart, NamesDiffer, StillAccepted}
 use Rattle.theorems.proofs.AcceptanceCheck.{Sound, sound-parts, sound-apart, parts-sound-among}
 use Rattle.theorems.proofs.Accepted.{accepted-exactly}
 use Rattle.theorems.proofs.NamesApart.{rows-alike, registers-alike, blocks-alike, all-rows-alike, range-alike, breaks-alike, missing-alike}
@@ -107,6 +109,44 @@ module _ (prefix : List ℕ) (Unnamed : ℕ → Type 0) (kept : List (List ℕ))
       (λ u. h i j l b (t .0) (u .0) (sym (k .stays i a (t .0)) ∙ e ∙ k .stays j b (u .0)))
       (titled j b))
       (titled i a)
+
+-- ---- the sentences leave no choice
+
+module _ {prefix : List ℕ} {Unnamed : ℕ → Type 0} {kept : List (List ℕ)} where
+  -- where the numbers before are the same, this one is no smaller
+  not-less :
+      {a b : List (List ℕ)} (x : NamesMade prefix Unnamed kept a) (y : NamesMade prefix Unnamed kept b) (i : ℕ)
+      → i < length kept
+      → Unnamed i
+      → ((j : ℕ) → j < i → Unnamed j → x .number j ≡ y .number j)
+      → x .number i < y .number i
+      → ⊥
+  not-less x y i l u same h =
+      ⊎-elim (λ e. x .unused i (e .0) l (e .1) u (e .2))
+      (λ e. absurd (omega (arith, x .rising (e .0) i (e .1) l (e .2) u, same (e .0) (e .1) (e .2), e .3)))
+      (y .smallest i (x .number i) l u h)
+
+  same-numbers :
+      {a b : List (List ℕ)} (x : NamesMade prefix Unnamed kept a) (y : NamesMade prefix Unnamed kept b) (n i : ℕ)
+      → i < n
+      → i < length kept
+      → Unnamed i
+      → x .number i ≡ y .number i
+  same-numbers x y zero i m l u = absurd (not-suc-le-zero m)
+  same-numbers x y (suc n) i m l u =
+      let before : (j : ℕ) → j < i → Unnamed j → x .number j ≡ y .number j = λ j k v. same-numbers x y n j (omega arith) (omega arith) v in
+      elim (decLt (x .number i) (y .number i)) [
+        | yes c ↦ absurd (not-less x y i l u before c)
+        | no c ↦
+            elim (decLt (y .number i) (x .number i)) [
+              | yes d ↦ absurd (not-less y x i l u (λ j k v. sym (before j k v)) d)
+              | no d ↦ let z : x .number i ≡ y .number i = omega arith in z
+            ]
+      ]
+
+pub made-one-way : MadeOneWay
+made-one-way prefix Unnamed kept a b x y i l u =
+    y .made i l u ∙ ap (madeName prefix) (sym (same-numbers x y (suc i) i (omega arith) l u)) ∙ sym (x .made i l u)
 
 -- ---- the titles of registers, and of blocks
 

@@ -92,7 +92,11 @@ module _ (fs : List Func) (f : Func) (k : FunctionReady f) (new : New functionNa
       (after (gather (λ l. l) (gather (blockLines f) (f .blocks))) closing _ (atBlock fs f (k .registers) Stage.blocks (draftedBlocks 0 (f .blocks)) (mentions f (rowsIn (f .blocks)))) _
       (all-blocks fs f (k .registers) (f .blocks) some (k .blocks) (k .rooms)) (closed fs f (k .registers) closing-facts))))
 
-functions-read : (rest fs : List Func) → Every FunctionReady rest → Apart functionName fs rest → length fs + length rest ≤ maxFunctions
+functions-read :
+    (rest fs : List Func)
+    → Every FunctionReady rest
+    → Apart functionName fs rest
+    → length fs + length rest ≤ maxFunctions
     → Takes (between fs) (gather (λ l. l) (gather functionLines rest)) (between (fs ++ rest))
 functions-read [] fs h new room = rw append-nil (nothing (between fs))
 functions-read (f ∷ rest) fs (every-cons k h) new room =
@@ -186,14 +190,23 @@ module _ (f : Func) (k : FunctionReady f) where
       every-append (target-spelled (targetsOf r) (h .targets))
       (every-cons (omega (arith, h .op)) (every-append (some-registers (h .sources)) (every-append (operand-spelled r h n) (one (marks-classed .5)))))
 
-  rows-spelled : (rs : List Row) → Every (RowReady f) rs → Every (λ b. b < length (f .blocks)) (gather namedBy rs) → Every (Every Spellable) (map (rowLine f) rs)
+  rows-spelled :
+      (rs : List Row)
+      → Every (RowReady f) rs
+      → Every (λ b. b < length (f .blocks)) (gather namedBy rs)
+      → Every (Every Spellable) (map (rowLine f) rs)
   rows-spelled [] h n = every-nil
   rows-spelled (r ∷ rs) (every-cons l h) n = every-cons (row-spelled r l (every-left (namedBy r) (gather namedBy rs) n)) (rows-spelled rs h (every-right (namedBy r) (gather namedBy rs) n))
 
   closing-spelled : Every Spellable closing
   closing-spelled = one (marks-classed .3)
 
-  blocks-spelled : (bs : List Block) → Every (BlockReady f) bs → Every (λ b. T (spelledOrNone (b .name))) bs → Every (λ b. b < length (f .blocks)) (gather namedBy (rowsIn bs)) → Every (Every Spellable) (gather (blockLines f) bs)
+  blocks-spelled :
+      (bs : List Block)
+      → Every (BlockReady f) bs
+      → Every (λ b. T (spelledOrNone (b .name))) bs
+      → Every (λ b. b < length (f .blocks)) (gather namedBy (rowsIn bs))
+      → Every (Every Spellable) (gather (blockLines f) bs)
   unfolding blockLines
   blocks-spelled [] h m n = every-nil
   blocks-spelled (b ∷ bs) (every-cons l h) (every-cons q m) n =

@@ -42,7 +42,10 @@ resolve-row bs pre post (Row.return s) e = refl
 resolve-row bs pre post Row.leave e = refl
 resolve-row bs pre post (Row.unknown op) e = refl
 
-resolve-rows : (bs pre post : List ℕ) (rs : List Row) → bs ≡ pre ++ (gather namedBy rs ++ post) → map (resolveRow bs) (draftedRows (length pre) rs) ≡ rs
+resolve-rows :
+    (bs pre post : List ℕ) (rs : List Row)
+    → bs ≡ pre ++ (gather namedBy rs ++ post)
+    → map (resolveRow bs) (draftedRows (length pre) rs) ≡ rs
 resolve-rows bs pre post [] e = refl
 resolve-rows bs pre post (r ∷ rs) e =
     let later = gather namedBy rs in
@@ -51,7 +54,10 @@ resolve-rows bs pre post (r ∷ rs) e =
     resolve-rows bs (pre ++ namedBy r) post rs (here ∙ sym (append-assoc pre (namedBy r) (later ++ post))) in
     rw (resolve-row bs pre (later ++ post) r here) (ap (λ (l : List Row). r ∷ l) (rw length-append at on))
 
-resolve-blocks : (bs pre post : List ℕ) (ks : List Block) → bs ≡ pre ++ (gather namedBy (rowsIn ks) ++ post) → map (resolveBlock bs) (draftedBlocks (length pre) ks) ≡ ks
+resolve-blocks :
+    (bs pre post : List ℕ) (ks : List Block)
+    → bs ≡ pre ++ (gather namedBy (rowsIn ks) ++ post)
+    → map (resolveBlock bs) (draftedBlocks (length pre) ks) ≡ ks
 resolve-blocks bs pre post [] e = refl
 resolve-blocks bs pre post (k ∷ ks) e =
     let now = gather namedBy (k .rows) in

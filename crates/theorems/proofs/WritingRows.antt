@@ -86,7 +86,11 @@ module _ (fs : List Func) (F : Func) (apart : Apart nameOf [] (F .registers)) wh
       }
 
   -- a register's name is found at its number
-  found : (r : ℕ) → r < length (F .registers) → (bs : List Block) → registerNumber (functionOf (F .name) (F .ssa) (F .result) (F .params) (F .registers) bs 0) (getD (F .registers) r noRegister .name) ≡ r
+  found :
+      (r : ℕ)
+      → r < length (F .registers)
+      → (bs : List Block)
+      → registerNumber (functionOf (F .name) (F .ssa) (F .result) (F .params) (F .registers) bs 0) (getD (F .registers) r noRegister .name) ≡ r
   unfolding registerNumber
   found r h bs = numbers nameOf [] (F .registers) noRegister apart r h ∙ omega arith
 
@@ -94,11 +98,15 @@ module _ (fs : List Func) (F : Func) (apart : Apart nameOf [] (F .registers)) wh
     open-rows : gather (λ (b : Block). b .rows) (bs ++ (record { name = nm; rows = rows } ∷ [])) ≡ gather (λ (b : Block). b .rows) bs ++ rows
     open-rows = gather-append (λ (b : Block). b .rows) bs (record { name = nm; rows = rows } ∷ []) ∙ ap (λ (r : List Row). gather (λ (b : Block). b .rows) bs ++ r) (append-nil rows)
 
-    rows-now : (s : Stage) (ns : List (List ℕ)) (x : Parts) (ms : List Mention) → rowCount (draft (rowing s bs ns nm rows x) ms) ≡ length (gather (λ b. b .rows) bs) + length rows
+    rows-now :
+        (s : Stage) (ns : List (List ℕ)) (x : Parts) (ms : List Mention)
+        → rowCount (draft (rowing s bs ns nm rows x) ms) ≡ length (gather (λ b. b .rows) bs) + length rows
     unfolding rowCount rowsOf
     rows-now s ns x ms = ap length open-rows ∙ length-append (gather (λ (b : Block). b .rows) bs) rows
 
-    entries-now : (s : Stage) (ns : List (List ℕ)) (x : Parts) (ms : List Mention) → phiEntries (draft (rowing s bs ns nm rows x) ms) ≡ entriesIn (gather (λ b. b .rows) bs ++ rows) + length (x .entries)
+    entries-now :
+        (s : Stage) (ns : List (List ℕ)) (x : Parts) (ms : List Mention)
+        → phiEntries (draft (rowing s bs ns nm rows x) ms) ≡ entriesIn (gather (λ b. b .rows) bs ++ rows) + length (x .entries)
     unfolding phiEntries entryCount rowsOf
     entries-now s ns x ms = ap (λ (rs : List Row). entriesIn rs + length (x .entries)) open-rows
 
@@ -123,13 +131,21 @@ module _ (fs : List Func) (F : Func) (apart : Apart nameOf [] (F .registers)) wh
         unfolding wordAlone
         without e = rw (back, is-instruction, e)
 
-        word-alone : (s : Stage) (x : Parts) → ((w : ℕ) → gram s (Token.word w) ≡ wordAlone w) → hasTarget (formOf op) ≡ false → Takes (on s x) (opToken op ∷ []) (on (afterWord op) (partsOf op 0 [] 0 [] []))
+        word-alone :
+            (s : Stage) (x : Parts)
+            → ((w : ℕ) → gram s (Token.word w) ≡ wordAlone w)
+            → hasTarget (formOf op) ≡ false
+            → Takes (on s x) (opToken op ∷ []) (on (afterWord op) (partsOf op 0 [] 0 [] []))
         unfolding perform beginInstruction
         word-alone s x g e =
             step (on s x) (on (afterWord op) (partsOf op 0 [] 0 [] [])) (opToken op) (Act.beginInstruction op) (g (firstInstruction + op) ∙ without e)
             (λ p ms h. rw (rows-now s ns x ms, lt-ltb (length (gather (λ b. b .rows) bs) + length rows) maxRows room)) refl
 
-        word-after : (s : Stage) (x : Parts) (t : ℕ) → t < length (F .registers) → ((n : List ℕ) → gram s (Token.name n) ≡ to Stage.assignment (Act.setTarget n)) → hasTarget (formOf op) ≡ true
+        word-after :
+            (s : Stage) (x : Parts) (t : ℕ)
+            → t < length (F .registers)
+            → ((n : List ℕ) → gram s (Token.name n) ≡ to Stage.assignment (Act.setTarget n))
+            → hasTarget (formOf op) ≡ true
             → Takes (on s x) (registerToken F t ∷ Token.mark equals ∷ opToken op ∷ []) (on (afterWord op) (partsOf op t [] 0 [] []))
         unfolding perform setTarget setInstruction gram
         word-after s x t h g e =
@@ -147,13 +163,18 @@ module _ (fs : List Func) (F : Func) (apart : Apart nameOf [] (F .registers)) wh
         abbrev having : List ℕ → Parts
         having ss = partsOf op t ss n es ms
 
-        source-read : (k : ℕ) (o : Operand) (ss : List ℕ) (s : ℕ) → s < length (F .registers) → Takes (on (Stage.source k o) (having ss)) (registerToken F s ∷ []) (on (afterSource k o) (having (ss ++ (s ∷ []))))
+        source-read :
+            (k : ℕ) (o : Operand) (ss : List ℕ) (s : ℕ)
+            → s < length (F .registers)
+            → Takes (on (Stage.source k o) (having ss)) (registerToken F s ∷ []) (on (afterSource k o) (having (ss ++ (s ∷ []))))
         unfolding perform addSource gram
         source-read k o ss s h =
             step (on (Stage.source k o) (having ss)) (on (afterSource k o) (having (ss ++ (s ∷ [])))) (registerToken F s) (Act.addSource (getD (F .registers) s noRegister .name)) refl
             (λ p ms k. rw (found s h bs, lt-ltb s (length (F .registers)) h)) refl
 
-        some-sources : (o : Operand) (ss : List ℕ) (s : ℕ) (rest : List ℕ) → Every (λ u. u < length (F .registers)) (s ∷ rest)
+        some-sources :
+            (o : Operand) (ss : List ℕ) (s : ℕ) (rest : List ℕ)
+            → Every (λ u. u < length (F .registers)) (s ∷ rest)
             → Takes (on (Stage.source (length rest) o) (having ss)) (parted (map (λ s. registerToken F s ∷ []) (s ∷ rest))) (on (afterSources o) (having (ss ++ (s ∷ rest))))
         unfolding gram
         some-sources o ss s [] (every-cons h hs) = source-read 0 o ss s h
@@ -164,7 +185,9 @@ module _ (fs : List Func) (F : Func) (apart : Apart nameOf [] (F .registers)) wh
             (then _ (on (Stage.source (length rest) o) (having (ss ++ (s ∷ [])))) _ _ _ (passes (on (Stage.sourceComma (length rest) o) (having (ss ++ (s ∷ [])))) (Stage.source (length rest) o) (Token.mark comma) refl)
             (rw append-assoc at later))
 
-        all-sources : (o : Operand) (ss : List ℕ) → Every (λ u. u < length (F .registers)) ss
+        all-sources :
+            (o : Operand) (ss : List ℕ)
+            → Every (λ u. u < length (F .registers)) ss
             → Takes (on (sources (length ss) o) (having [])) (parted (map (λ s. registerToken F s ∷ []) ss)) (on (afterSources o) (having ss))
         all-sources o [] h = nothing (on (afterSources o) (having []))
         all-sources o (s ∷ ss) h = some-sources o [] s ss h
@@ -175,7 +198,9 @@ module _ (fs : List Func) (F : Func) (apart : Apart nameOf [] (F .registers)) wh
       unfolding gram
       paren o x = passes (on (Stage.operand o) x) (inOperand o) (Token.mark leftParen) refl
 
-      number-read : (op t n : ℕ) → n < 2 ^ width (loadType op)
+      number-read :
+          (op t n : ℕ)
+          → n < 2 ^ width (loadType op)
           → Takes (on (Stage.operand Operand.number) (partsOf op t [] 0 [] [])) (inParens (numberToken (loadType op) n ∷ [])) (on Stage.instructionEnd (partsOf op t [] n [] []))
       unfolding gram perform setNumber
       number-read op t n h =
@@ -190,14 +215,20 @@ module _ (fs : List Func) (F : Func) (apart : Apart nameOf [] (F .registers)) wh
         abbrev listing : List ℕ → Parts
         listing es = partsOf op t [] 0 es []
 
-        entry-read : (es : List ℕ) (e : ℕ) → entriesIn (gather (λ b. b .rows) bs ++ rows) + length es < maxEntries → e < length (F .registers)
+        entry-read :
+            (es : List ℕ) (e : ℕ)
+            → entriesIn (gather (λ b. b .rows) bs ++ rows) + length es < maxEntries
+            → e < length (F .registers)
             → Takes (on Stage.entry (listing es)) (registerToken F e ∷ []) (on Stage.entryEnd (listing (es ++ (e ∷ []))))
         unfolding gram perform addEntry
         entry-read es e room h =
             step (on Stage.entry (listing es)) (on Stage.entryEnd (listing (es ++ (e ∷ [])))) (registerToken F e) (Act.addEntry (getD (F .registers) e noRegister .name)) refl
             (λ p ms k. rw (entries-now Stage.entry ns (listing es) ms, lt-ltb (entriesIn (gather (λ b. b .rows) bs ++ rows) + length es) maxEntries room, found e h bs, lt-ltb e (length (F .registers)) h)) refl
 
-        some-entries : (es : List ℕ) (e : ℕ) (rest : List ℕ) → entriesIn (gather (λ b. b .rows) bs ++ rows) + (length es + suc (length rest)) ≤ maxEntries → Every (λ u. u < length (F .registers)) (e ∷ rest)
+        some-entries :
+            (es : List ℕ) (e : ℕ) (rest : List ℕ)
+            → entriesIn (gather (λ b. b .rows) bs ++ rows) + (length es + suc (length rest)) ≤ maxEntries
+            → Every (λ u. u < length (F .registers)) (e ∷ rest)
             → Takes (on Stage.entry (listing es)) (parted (map (λ s. registerToken F s ∷ []) (e ∷ rest))) (on Stage.entryEnd (listing (es ++ (e ∷ rest))))
         unfolding gram
         some-entries es e [] room (every-cons h hs) = entry-read es e (omega arith) h
@@ -209,7 +240,11 @@ module _ (fs : List Func) (F : Func) (apart : Apart nameOf [] (F .registers)) wh
             (then _ (on Stage.entry (listing (es ++ (e ∷ [])))) _ _ _ (passes (on Stage.entryEnd (listing (es ++ (e ∷ [])))) Stage.entry (Token.mark comma) refl)
             (rw append-assoc at later))
 
-        entries-read : (es : List ℕ) → 0 < length es → entriesIn (gather (λ b. b .rows) bs ++ rows) + length es ≤ maxEntries → Every (λ u. u < length (F .registers)) es
+        entries-read :
+            (es : List ℕ)
+            → 0 < length es
+            → entriesIn (gather (λ b. b .rows) bs ++ rows) + length es ≤ maxEntries
+            → Every (λ u. u < length (F .registers)) es
             → Takes (on (Stage.operand Operand.registers) (listing [])) (inParens (parted (map (λ s. registerToken F s ∷ []) es))) (on Stage.instructionEnd (listing es))
         unfolding gram
         entries-read [] some room h = absurd (omega arith)
@@ -226,7 +261,9 @@ module _ (fs : List Func) (F : Func) (apart : Apart nameOf [] (F .registers)) wh
   block-word k (b ∷ n) = refl
 
   module _ (bs : List Block) (nm : List ℕ) (rows : List Row) where
-    mention-read : (op : ℕ) (ss ms : List ℕ) (ns : List (List ℕ)) (k : ℕ) (n : List ℕ) → length ns < maxMentions
+    mention-read :
+        (op : ℕ) (ss ms : List ℕ) (ns : List (List ℕ)) (k : ℕ) (n : List ℕ)
+        → length ns < maxMentions
         → Takes (rowing (Stage.mention k) bs ns nm rows (partsOf op 0 ss 0 [] ms)) (blockToken n ∷ [])
         (rowing (afterMention k) bs (ns ++ (n ∷ [])) nm rows (partsOf op 0 ss 0 [] (ms ++ (length ns ∷ []))))
     unfolding Takes take perform addMention
@@ -245,7 +282,9 @@ module _ (fs : List Func) (F : Func) (apart : Apart nameOf [] (F .registers)) wh
 
     -- ---- the end of the instruction
 
-    end-read : (ns : List (List ℕ)) (x : Parts) → length (gather (λ b. b .rows) bs) + length rows < maxRows
+    end-read :
+        (ns : List (List ℕ)) (x : Parts)
+        → length (gather (λ b. b .rows) bs) + length rows < maxRows
         → Takes (rowing Stage.instructionEnd bs ns nm rows x) (Token.mark semicolon ∷ []) (rowing Stage.nextInstruction bs ns nm (rows ++ (rowOf x ∷ [])) noParts)
     unfolding gram perform endInstruction
     end-read ns x room =
@@ -282,7 +321,12 @@ module _ (fs : List Func) (F : Func) (apart : Apart nameOf [] (F .registers)) wh
     nothing-more : (o : Parts) → Takes (rowing Stage.instructionEnd bs ns nm rows o) [] (rowing Stage.instructionEnd bs (ns ++ []) nm rows o)
     nothing-more o = rw append-nil (nothing (rowing Stage.instructionEnd bs ns nm rows o))
 
-    pub row-read : (r : Row) → RowReady F r → entriesIn (gather (λ b. b .rows) bs ++ rows) + length (entriesOf r) ≤ maxEntries → length ns + 1 < maxMentions → Read r
+    pub row-read :
+        (r : Row)
+        → RowReady F r
+        → entriesIn (gather (λ b. b .rows) bs ++ rows) + length (entriesOf r) ≤ maxEntries
+        → length ns + 1 < maxMentions
+        → Read r
     unfolding rowLine gram
     row-read Row.nop k fits few =
         then _ (rowing (afterWord 0) bs ns nm rows (partsOf 0 0 [] 0 [] [])) _ _ _ (word-alone bs nm rows ns room 0 (k .op) s x (starts .words) (ap hasTarget (k .form)))

@@ -65,9 +65,12 @@ after ts us σ τ υ f g x k fs h =
     (subst⁻¹ (At υ) (foldl-append take x (r .left) (r .right)) (g (foldl take x (r .left)) (f x k (r .left) (r .first)) (r .right) (r .second)))
 
 -- a token whose act changes no mention
-pub step : (σ τ : State) (t : Token) (a : Act) → gram (σ .stage) t ≡ to (τ .stage) a
+pub step :
+    (σ τ : State) (t : Token) (a : Act)
+    → gram (σ .stage) t ≡ to (τ .stage) a
     → ((p : ℕ) (ms : List Mention) → namesOf ms ≡ σ .names → perform a p (draft σ ms) ≡ proceed (draft τ ms))
-    → σ .names ≡ τ .names → Takes σ (t ∷ []) τ
+    → σ .names ≡ τ .names
+    → Takes σ (t ∷ []) τ
 unfolding Takes take
 step σ τ t a e f d x k fs (more p none) =
     record {

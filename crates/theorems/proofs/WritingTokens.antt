@@ -82,8 +82,12 @@ module _ (c : ℕ) (space : classOf c ≡ Class.space) where
   unfolding ends ended
   ends-is l m e = λ i. record { lexer = begin-space (l .next) i .lexer; found = endedAs (e i) l ++ begin-space (l .next) i .found }
 
-  ended-on : {us : List Token} (t : Token) (x : Lexed) (p : ℕ) → Finds us (x .found) → (y : Lexed)
-      → y ≡ also x (record { lexer = begun Mode.between (x .lexer .next); found = token p t ∷ [] ++ [] }) → Between (us ++ (t ∷ [])) y
+  ended-on :
+      {us : List Token} (t : Token) (x : Lexed) (p : ℕ)
+      → Finds us (x .found)
+      → (y : Lexed)
+      → y ≡ also x (record { lexer = begun Mode.between (x .lexer .next); found = token p t ∷ [] ++ [] })
+      → Between (us ++ (t ∷ [])) y
   ended-on {us} t x p h y e =
       record { mode = ap (λ (z : Lexed). z .lexer .mode) e; found = subst⁻¹ (λ (z : Lexed). Finds (us ++ (t ∷ [])) (z .found)) e (finds-append h (more p none)) }
 
@@ -154,7 +158,12 @@ module _ (n : List ℕ) (b : ℕ) (us : List Token) (x : Lexed) (f : length n < 
         found = subst⁻¹ (λ (y : Lexed). Finds us (y .found)) d (still (x .found) (k .found));
       }
 
-  plain-on : Naming Mode.plain n us x → (t : Bool) → nameByte b ≡ t → T (right (cond t Spelling.plain Spelling.wrong)) → Stands (cond t Spelling.plain Spelling.wrong) (n ++ (b ∷ [])) us (lexMore x b)
+  plain-on :
+      Naming Mode.plain n us x
+      → (t : Bool)
+      → nameByte b ≡ t
+      → T (right (cond t Spelling.plain Spelling.wrong))
+      → Stands (cond t Spelling.plain Spelling.wrong) (n ++ (b ∷ [])) us (lexMore x b)
   plain-on k true e r =
       longer Mode.plain Mode.plain (lexMore x b) k
       (more-is x b Mode.plain (k .mode) ∙ ap (λ (t : Bool). also x (cond t (extends Mode.plain (x .lexer) b) (ends (x .lexer) b))) e)
@@ -164,7 +173,13 @@ module _ (n : List ℕ) (b : ℕ) (us : List Token) (x : Lexed) (f : length n < 
   two h = simp length-append (omega arith)
 
   -- a byte in quotes that closes nothing
-  quotes-on : (m : Mode) → 1 ≤ length n → Naming m n us x → (y : Lexed) → y ≡ also x (quotes (x .lexer) b) → Stands (insideQuotes b) (n ++ (b ∷ [])) us y
+  quotes-on :
+      (m : Mode)
+      → 1 ≤ length n
+      → Naming m n us x
+      → (y : Lexed)
+      → y ≡ also x (quotes (x .lexer) b)
+      → Stands (insideQuotes b) (n ++ (b ∷ [])) us y
   unfolding quotes
   quotes-on m h k y e = by (eqb b backslash) e
     where
@@ -174,7 +189,12 @@ module _ (n : List ℕ) (b : ℕ) (us : List Token) (x : Lexed) (f : length n < 
       by true e = (longer m Mode.escaping y k e, two h)
       by false e = (longer m Mode.quoted y k e, two h)
 
-  closes-on : 2 ≤ length n → Naming Mode.quoted n us x → (y : Lexed) → y ≡ also x (closes (x .lexer) b) → Between (us ++ (Token.name (n ++ (b ∷ [])) ∷ [])) y
+  closes-on :
+      2 ≤ length n
+      → Naming Mode.quoted n us x
+      → (y : Lexed)
+      → y ≡ also x (closes (x .lexer) b)
+      → Between (us ++ (Token.name (n ++ (b ∷ [])) ∷ [])) y
   unfolding closes
   closes-on h k y e =
       let l = x .lexer in
@@ -236,7 +256,11 @@ begin-is : (x : Lexed) (b : ℕ) → x .lexer .mode ≡ Mode.between → (c : Cl
 unfolding begin
 begin-is x b e c d = more-is x b Mode.between e ∙ ap (λ (k : Class). also x (beginAs k (x .lexer .next) b)) d
 
-first-on : (b : ℕ) (us : List Token) (x : Lexed) → Between us x → T (right (firstSpelled (classOf b))) → Stands (firstSpelled (classOf b)) (b ∷ []) us (lexMore x b)
+first-on :
+    (b : ℕ) (us : List Token) (x : Lexed)
+    → Between us x
+    → T (right (firstSpelled (classOf b)))
+    → Stands (firstSpelled (classOf b)) (b ∷ []) us (lexMore x b)
 first-on b us x k r = by (classOf b) refl r
   where
     opens : (m : Mode) → lexMore x b ≡ also x (quiet (begunName m (x .lexer .next) b)) → Naming m (b ∷ []) us (lexMore x b)
@@ -312,7 +336,11 @@ plain-is-none : (s : Spelling) → s ≡ Spelling.plain → s ≡ Spelling.none 
 plain-is-none s p q = let z : _≡_ {A = ℕ} 0 1 = cc in omega arith
 
 module _ (c : ℕ) (space : classOf c ≡ Class.space) (us : List Token) (x : Lexed) (k : Between us x) where
-  plain-then : (n : List ℕ) → foldl spell Spelling.none n ≡ Spelling.plain → length n ≤ maxName → Between (us ++ (nameOrWord n ∷ [])) (lexMore (foldl lexMore x n) c)
+  plain-then :
+      (n : List ℕ)
+      → foldl spell Spelling.none n ≡ Spelling.plain
+      → length n ≤ maxName
+      → Between (us ++ (nameOrWord n ∷ [])) (lexMore (foldl lexMore x n) c)
   plain-then n e h =
       name-ends c space (foldl lexMore x n)
       (subst (λ (s : Spelling). Stands s n us (foldl lexMore x n)) e (spells-all n us x k h (rw e tt) (plain-is-none _ e)))
@@ -338,7 +366,13 @@ module _ (c : ℕ) (space : classOf c ≡ Class.space) (us : List Token) (x : Le
       let q = and-yes (whole s) (leb (length n) maxName) (p .0) in
       by s refl (q .0) (leb→le (length n) maxName (q .1)) (eqb→eq (wordOf n) wordCount (p .1))
     where
-      by : (s : Spelling) → foldl spell Spelling.none n ≡ s → T (whole s) → length n ≤ maxName → wordOf n ≡ wordCount → Between (us ++ (Token.name n ∷ [])) (lexMore (foldl lexMore x n) c)
+      by :
+          (s : Spelling)
+          → foldl spell Spelling.none n ≡ s
+          → T (whole s)
+          → length n ≤ maxName
+          → wordOf n ≡ wordCount
+          → Between (us ++ (Token.name n ∷ [])) (lexMore (foldl lexMore x n) c)
       by Spelling.none e w f d = absurd w
       by Spelling.plain e w f d =
           subst (λ (t : Token). Between (us ++ (t ∷ [])) (lexMore (foldl lexMore x n) c)) (rw (eq-eqb (wordOf n) wordCount d)) (plain-then n e f)
@@ -388,8 +422,13 @@ module _ (s : Bool) (us : List Token) where
     value : x .lexer .value ≡ 0
     found : Finds us (x .found)
 
-  counts : (x y : Lexed) (m : Mode) (v : ℕ) → Finds us (x .found) → x .lexer .negative ≡ s → (m ≡ Mode.leadingZero) ⊎ (m ≡ Mode.decimal)
-      → y ≡ also x (quiet (longerNumber m (x .lexer) v)) → Counting s v us y
+  counts :
+      (x y : Lexed) (m : Mode) (v : ℕ)
+      → Finds us (x .found)
+      → x .lexer .negative ≡ s
+      → (m ≡ Mode.leadingZero) ⊎ (m ≡ Mode.decimal)
+      → y ≡ also x (quiet (longerNumber m (x .lexer) v))
+      → Counting s v us y
   counts x y m v f g h e =
       record {
         mode = ⊎-elim (λ d. inl (ap (λ (y : Lexed). y .lexer .mode) e ∙ d)) (λ d. inr (ap (λ (y : Lexed). y .lexer .mode) e ∙ d)) h;
@@ -513,7 +552,10 @@ line-on (t ∷ (u ∷ ts)) us x (every-cons p h) k =
     let r : Between (us ++ (t ∷ []) ++ (u ∷ ts)) (foldl lexMore y (lineBytes (u ∷ ts))) = line-on (u ∷ ts) (us ++ (t ∷ [])) y h g in
     rw (← joined, foldl-append) (rw append-assoc at r)
 
-lines-on : (ls : List (List Token)) (us : List Token) (x : Lexed) → Every (Every Spellable) ls → Between us x
+lines-on :
+    (ls : List (List Token)) (us : List Token) (x : Lexed)
+    → Every (Every Spellable) ls
+    → Between us x
     → Between (us ++ gather (λ l. l) ls) (foldl lexMore x (gather lineBytes ls))
 lines-on [] us x h k = rw append-nil k
 lines-on (l ∷ ls) us x (every-cons p h) k =

@@ -92,6 +92,17 @@ pub record NamesMade (prefix : List ℕ) (Unnamed : ℕ → Type 0) (kept filled
   -- "in table order"
   pub rising : (i j : ℕ) → i < j → j < length kept → Unnamed i → Unnamed j → number i < number j
 
+-- These sentences leave no choice: names that are made by them are the same ones.
+abbrev pub MadeOneWay : Type 1
+MadeOneWay =
+    (prefix : List ℕ) (Unnamed : ℕ → Type 0) (kept filled other : List (List ℕ))
+    → NamesMade prefix Unnamed kept filled
+    → NamesMade prefix Unnamed kept other
+    → (i : ℕ)
+    → i < length kept
+    → Unnamed i
+    → getD other i [] ≡ getD filled i []
+
 -- "Unnamed registers are called `p.`"
 abbrev pub RegistersNamed : Type 0
 RegistersNamed =
