@@ -17,7 +17,7 @@ use Rattle.language.specs.Grammar.{Stage, Act, to, gram}
 use Rattle.language.specs.Reading.{noParts, blockNumber, maxMentions, beginBlock, nameBlock, endBlock, perform}
 use Rattle.language.specs.Writing.{blockToken, rowLine, blockLines, closing}
 use Rattle.language.proofs.Rooms.{entriesIn, entries-append}
-use Rattle.theorems.proofs.WritingStates.{State, Takes, nothing, then, after, step, passes}
+use Rattle.theorems.proofs.WritingStates.{State, Takes, nothing, then, after, step, passes, pass-then}
 use Rattle.theorems.proofs.WritingDeclared.{New, Apart, numbered, new-number}
 use Rattle.theorems.proofs.WritingHeads.{nameOf}
 use Rattle.theorems.proofs.WritingRows.{drafted, RowReady, rowing, Starts, mentioned, row-read}
@@ -198,7 +198,7 @@ module _ (fs : List Func) (F : Func) (apart : Apart nameOf [] (F .registers)) wh
       (then _ (inBlock Stage.blockBody bs ns n []) _ _ _
       (step (atBlock Stage.blockName bs ns) (inBlock Stage.blockBody bs ns n []) (blockToken n) (Act.nameBlock n) (named-block n)
       (λ p ms h. rw (lt-ltb (length bs) maxBlocks few, count, le-ltb (length bs) (length bs) (omega arith))) refl)
-      (then _ (inBlock Stage.firstInstruction bs ns n []) _ _ _ (passes (inBlock Stage.blockBody bs ns n []) Stage.firstInstruction (Token.mark leftBrace) refl)
+      (pass-then (inBlock Stage.blockBody bs ns n []) Stage.firstInstruction _ _ _ refl
       (rw parted
       (after (gather (λ l. l) (map (rowLine F) (b .rows))) closing _ after-rows _ (first-rows bs n (b .rows) ns (k .rows) (k .some) room)
       (step after-rows (atBlock Stage.blocks (bs ++ (asDrafted (length ns) b ∷ [])) (ns ++ mentions F (b .rows))) (Token.mark rightBrace) Act.endBlock refl

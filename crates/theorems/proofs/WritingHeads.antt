@@ -18,7 +18,7 @@ use Rattle.language.specs.Tokens.{Token}
 use Rattle.language.specs.Grammar.{Stage, Act, to, aType, aResult, gram}
 use Rattle.language.specs.Reading.{Mention, noParts, functionOf, functionNumber, registerNumber, beginFunction, markSsa, setResult, nameFunction, beginRegister, nameRegister, perform}
 use Rattle.language.specs.Writing.{registerLine, parameterPart, parted, typeToken, resultToken, inParens}
-use Rattle.theorems.proofs.WritingStates.{State, Takes, nothing, then, after, step, passes, type-word, draft}
+use Rattle.theorems.proofs.WritingStates.{State, Takes, nothing, then, after, step, passes, pass-then, type-word, draft}
 use Rattle.theorems.proofs.WritingDeclared.{New, Apart, new-number}
 
 abbrev pub nameOf : Register → List ℕ
@@ -117,18 +117,18 @@ module _ (fs : List Func) (name : List ℕ) (ssa result : ℕ) where
       → Takes (headed Stage.parameters 0 []) (inParens (parted (map parameterPart ps)) ++ (Token.mark leftBrace ∷ [])) (headed Stage.declarations (length ps) ps)
   unfolding gram
   list-read [] h t new =
-      then _ (headed Stage.firstParameter 0 []) _ _ _ (passes (headed Stage.parameters 0 []) Stage.firstParameter (Token.mark leftParen) refl)
-      (then _ (headed Stage.body 0 []) _ _ _ (passes (headed Stage.firstParameter 0 []) Stage.body (Token.mark rightParen) refl)
+      pass-then (headed Stage.parameters 0 []) Stage.firstParameter _ _ _ refl
+      (pass-then (headed Stage.firstParameter 0 []) Stage.body _ _ _ refl
       (passes (headed Stage.body 0 []) Stage.declarations (Token.mark leftBrace) refl))
   list-read (r ∷ ps) h t new =
       let k = suc (length ps) in
       let all : Takes (headed Stage.firstParameter 0 []) (parted (map parameterPart (r ∷ ps))) (headed Stage.parameterEnd (0 + k) (r ∷ ps)) =
       parameters-read Stage.firstParameter (λ w. refl) 0 [] r ps (omega arith) t new in
       let count : 0 + k ≡ k = omega arith in
-      then _ (headed Stage.firstParameter 0 []) _ _ _ (passes (headed Stage.parameters 0 []) Stage.firstParameter (Token.mark leftParen) refl)
+      pass-then (headed Stage.parameters 0 []) Stage.firstParameter _ _ _ refl
       (rw append-assoc
       (after (parted (map parameterPart (r ∷ ps))) _ _ _ _ (rw count at all)
-      (then _ (headed Stage.body k (r ∷ ps)) _ _ _ (passes (headed Stage.parameterEnd k (r ∷ ps)) Stage.body (Token.mark rightParen) refl)
+      (pass-then (headed Stage.parameterEnd k (r ∷ ps)) Stage.body _ _ _ refl
       (passes (headed Stage.body k (r ∷ ps)) Stage.declarations (Token.mark leftBrace) refl))))
 
 -- ---- the head

@@ -19,10 +19,10 @@ use Rattle.language.specs.Checking.{numberFits}
 use Rattle.language.specs.Tokens.{Token, token}
 use Rattle.language.specs.Grammar.{Stage, Act, Move, to, afterSources, afterSource, afterMention, sources, afterWord, inOperand, wordWithTarget, wordAlone, gram}
 use Rattle.language.specs.Reading.{Mention, Parts, partsOf, noParts, Parse, functionOf, rowCount, phiEntries, registerNumber, maxMentions, beginInstruction, setTarget, setInstruction, addSource, addEntry, addMention, setNumber, rowAs, rowOf, endInstruction, perform, onward, take}
-use Rattle.language.specs.Writing.{registerToken, blockToken, opToken, numberToken, parted, inParens, rowLine}
+use Rattle.language.specs.Writing.{registerToken, blockToken, opToken, numberToken, inParens, registersPart, operandPart, rowLine}
 use Rattle.language.proofs.Rooms.{entriesIn}
 use Rattle.theorems.specs.RoundTrip.{none, more}
-use Rattle.theorems.proofs.WritingStates.{State, Takes, nothing, then, after, step, passes, draft}
+use Rattle.theorems.proofs.WritingStates.{State, Takes, nothing, then, after, step, passes, pass-then, draft}
 use Rattle.theorems.proofs.WritingDeclared.{Apart, numbers}
 use Rattle.theorems.proofs.WritingHeads.{nameOf}
 use Rattle.theorems.proofs.WritingNumbers.{meant}
@@ -153,7 +153,7 @@ module _ (fs : List Func) (F : Func) (apart : Apart nameOf [] (F .registers)) wh
             then _ (on Stage.assignment (partsOf 0 t [] 0 [] [])) _ _ _
             (step (on s x) (on Stage.assignment (partsOf 0 t [] 0 [] [])) (registerToken F t) (Act.setTarget n) (g n)
             (λ p ms k. rw (rows-now s ns x ms, lt-ltb (length (gather (λ b. b .rows) bs) + length rows) maxRows room, found t h bs, lt-ltb t (length (F .registers)) h)) refl)
-            (then _ (on Stage.instruction (partsOf 0 t [] 0 [] [])) _ _ _ (passes (on Stage.assignment (partsOf 0 t [] 0 [] [])) Stage.instruction (Token.mark equals) refl)
+            (pass-then (on Stage.assignment (partsOf 0 t [] 0 [] [])) Stage.instruction _ _ _ refl
             (step (on Stage.instruction (partsOf 0 t [] 0 [] [])) (on (afterWord op) (partsOf op t [] 0 [] [])) (opToken op) (Act.setInstruction op) (with-target e)
             (λ p ms k. refl) refl))
 
@@ -175,20 +175,20 @@ module _ (fs : List Func) (F : Func) (apart : Apart nameOf [] (F .registers)) wh
         some-sources :
             (o : Operand) (ss : List ℕ) (s : ℕ) (rest : List ℕ)
             → Every (λ u. u < length (F .registers)) (s ∷ rest)
-            → Takes (on (Stage.source (length rest) o) (having ss)) (parted (map (λ s. registerToken F s ∷ []) (s ∷ rest))) (on (afterSources o) (having (ss ++ (s ∷ rest))))
+            → Takes (on (Stage.source (length rest) o) (having ss)) (registersPart F (s ∷ rest)) (on (afterSources o) (having (ss ++ (s ∷ rest))))
         unfolding gram
         some-sources o ss s [] (every-cons h hs) = source-read 0 o ss s h
         some-sources o ss s (u ∷ rest) (every-cons h hs) =
-            let later : Takes (on (Stage.source (length rest) o) (having (ss ++ (s ∷ [])))) (parted (map (λ s. registerToken F s ∷ []) (u ∷ rest))) (on (afterSources o) (having (ss ++ (s ∷ []) ++ (u ∷ rest)))) =
+            let later : Takes (on (Stage.source (length rest) o) (having (ss ++ (s ∷ [])))) (registersPart F (u ∷ rest)) (on (afterSources o) (having (ss ++ (s ∷ []) ++ (u ∷ rest)))) =
             some-sources o (ss ++ (s ∷ [])) u rest hs in
             then _ (on (Stage.sourceComma (length rest) o) (having (ss ++ (s ∷ [])))) _ _ _ (source-read (suc (length rest)) o ss s h)
-            (then _ (on (Stage.source (length rest) o) (having (ss ++ (s ∷ [])))) _ _ _ (passes (on (Stage.sourceComma (length rest) o) (having (ss ++ (s ∷ [])))) (Stage.source (length rest) o) (Token.mark comma) refl)
+            (pass-then (on (Stage.sourceComma (length rest) o) (having (ss ++ (s ∷ [])))) (Stage.source (length rest) o) _ _ _ refl
             (rw append-assoc at later))
 
         all-sources :
             (o : Operand) (ss : List ℕ)
             → Every (λ u. u < length (F .registers)) ss
-            → Takes (on (sources (length ss) o) (having [])) (parted (map (λ s. registerToken F s ∷ []) ss)) (on (afterSources o) (having ss))
+            → Takes (on (sources (length ss) o) (having [])) (registersPart F ss) (on (afterSources o) (having ss))
         all-sources o [] h = nothing (on (afterSources o) (having []))
         all-sources o (s ∷ ss) h = some-sources o [] s ss h
 
@@ -229,15 +229,15 @@ module _ (fs : List Func) (F : Func) (apart : Apart nameOf [] (F .registers)) wh
             (es : List ℕ) (e : ℕ) (rest : List ℕ)
             → entriesIn (gather (λ b. b .rows) bs ++ rows) + (length es + suc (length rest)) ≤ maxEntries
             → Every (λ u. u < length (F .registers)) (e ∷ rest)
-            → Takes (on Stage.entry (listing es)) (parted (map (λ s. registerToken F s ∷ []) (e ∷ rest))) (on Stage.entryEnd (listing (es ++ (e ∷ rest))))
+            → Takes (on Stage.entry (listing es)) (registersPart F (e ∷ rest)) (on Stage.entryEnd (listing (es ++ (e ∷ rest))))
         unfolding gram
         some-entries es e [] room (every-cons h hs) = entry-read es e (omega arith) h
         some-entries es e (u ∷ rest) room (every-cons h hs) =
             let fits : entriesIn (gather (λ b. b .rows) bs ++ rows) + (length (es ++ (e ∷ [])) + suc (length rest)) ≤ maxEntries = simp length-append (omega arith) in
-            let later : Takes (on Stage.entry (listing (es ++ (e ∷ [])))) (parted (map (λ s. registerToken F s ∷ []) (u ∷ rest))) (on Stage.entryEnd (listing (es ++ (e ∷ []) ++ (u ∷ rest)))) =
+            let later : Takes (on Stage.entry (listing (es ++ (e ∷ [])))) (registersPart F (u ∷ rest)) (on Stage.entryEnd (listing (es ++ (e ∷ []) ++ (u ∷ rest)))) =
             some-entries (es ++ (e ∷ [])) u rest fits hs in
             then _ (on Stage.entryEnd (listing (es ++ (e ∷ [])))) _ _ _ (entry-read es e (omega arith) h)
-            (then _ (on Stage.entry (listing (es ++ (e ∷ [])))) _ _ _ (passes (on Stage.entryEnd (listing (es ++ (e ∷ [])))) Stage.entry (Token.mark comma) refl)
+            (pass-then (on Stage.entryEnd (listing (es ++ (e ∷ [])))) Stage.entry _ _ _ refl
             (rw append-assoc at later))
 
         entries-read :
@@ -245,12 +245,12 @@ module _ (fs : List Func) (F : Func) (apart : Apart nameOf [] (F .registers)) wh
             → 0 < length es
             → entriesIn (gather (λ b. b .rows) bs ++ rows) + length es ≤ maxEntries
             → Every (λ u. u < length (F .registers)) es
-            → Takes (on (Stage.operand Operand.registers) (listing [])) (inParens (parted (map (λ s. registerToken F s ∷ []) es))) (on Stage.instructionEnd (listing es))
+            → Takes (on (Stage.operand Operand.registers) (listing [])) (inParens (registersPart F es)) (on Stage.instructionEnd (listing es))
         unfolding gram
         entries-read [] some room h = absurd (omega arith)
         entries-read (e ∷ es) some room h =
             then _ (on Stage.entry (listing [])) _ _ _ (paren Operand.registers (listing []))
-            (after (parted (map (λ s. registerToken F s ∷ []) (e ∷ es))) _ _ _ _ (some-entries [] e es (omega arith) h)
+            (after (registersPart F (e ∷ es)) _ _ _ _ (some-entries [] e es (omega arith) h)
             (passes (on Stage.entryEnd (listing (e ∷ es))) Stage.instructionEnd (Token.mark rightParen) refl))
 
   -- ---- mentions
@@ -293,22 +293,59 @@ module _ (fs : List Func) (F : Func) (apart : Apart nameOf [] (F .registers)) wh
 
   -- ---- any row
 
-  module _ (bs : List Block) (nm : List ℕ) (rows : List Row) (ns ns′ : List (List ℕ)) (room : length (gather (λ b. b .rows) bs) + length rows < maxRows) (op t : ℕ) where
+  module _
+      (bs : List Block) (nm : List ℕ) (rows : List Row) (ns : List (List ℕ)) (s : Stage) (starts : Starts s) (x : Parts)
+      (room : length (gather (λ b. b .rows) bs) + length rows < maxRows) (r : Row) (k : RowReady F r) where
+    abbrev ended : State
+    ended = rowing Stage.nextInstruction bs (ns ++ mentioned F r) nm (rows ++ (drafted (length ns) r ∷ [])) noParts
+
+    -- Its operand is read: y is what the instruction is made of then.
+    record Operated (t : ℕ) (y : Parts) : Type 0 where
+      counted : sourceCount (formIn r) ≡ length (sourcesOf r)
+      word : y .op ≡ opOf r
+      whole : rowAs (formIn r) y ≡ drafted (length ns) r
+      operand :
+          Takes (rowing (afterSources (operandOf (formIn r))) bs ns nm rows (partsOf (opOf r) t (sourcesOf r) 0 [] [])) (operandPart F r)
+          (rowing Stage.instructionEnd bs (ns ++ mentioned F r) nm rows y)
+
     -- from the word on
     rest-read :
-        (form : Form) → formOf op ≡ form → (ss : List ℕ) → sourceCount form ≡ length ss → Every (λ u. u < length (F .registers)) ss
-        → (ts : List Token) (x : Parts)
-        → Takes (rowing (afterSources (operandOf form)) bs ns nm rows (partsOf op t ss 0 [] [])) ts (rowing Stage.instructionEnd bs ns′ nm rows x)
-        → (row : Row) → rowAs form x ≡ row → x .op ≡ op
-        → Takes (rowing (afterWord op) bs ns nm rows (partsOf op t [] 0 [] [])) (parted (map (λ s. registerToken F s ∷ []) ss) ++ (ts ++ (Token.mark semicolon ∷ [])))
-        (rowing Stage.nextInstruction bs ns′ nm (rows ++ (row ∷ [])) noParts)
+        (t : ℕ) (y : Parts)
+        → Operated t y
+        → Takes (rowing (afterWord (opOf r)) bs ns nm rows (partsOf (opOf r) t [] 0 [] []))
+        (registersPart F (sourcesOf r) ++ (operandPart F r ++ (Token.mark semicolon ∷ []))) ended
     unfolding afterWord rowOf
-    rest-read form e ss c h ts x f row made same =
-        let word : afterWord op ≡ sources (length ss) (operandOf form) = ap (λ (g : Form). sources (sourceCount g) (operandOf g)) e ∙ ap (λ (k : ℕ). sources k (operandOf form)) c in
-        let whole : rowOf x ≡ row = ap (λ (n : ℕ). rowAs (formOf n) x) same ∙ ap (λ (g : Form). rowAs g x) e ∙ made in
+    rest-read t y o =
+        let word : afterWord (opOf r) ≡ sources (length (sourcesOf r)) (operandOf (formIn r)) =
+        ap (λ (g : Form). sources (sourceCount g) (operandOf g)) (k .form) ∙ ap (λ (n : ℕ). sources n (operandOf (formIn r))) (o .counted) in
+        let whole : rowOf y ≡ drafted (length ns) r =
+        ap (λ (n : ℕ). rowAs (formOf n) y) (o .word) ∙ ap (λ (g : Form). rowAs g y) (k .form) ∙ o .whole in
         rw (word, ← whole)
-        (after (parted (map (λ s. registerToken F s ∷ []) ss)) _ _ _ _ (all-sources bs nm rows ns op t 0 [] [] (operandOf form) ss h)
-        (after ts _ _ _ _ f (end-read bs nm rows ns′ x room)))
+        (after (registersPart F (sourcesOf r)) _ _ _ _ (all-sources bs nm rows ns (opOf r) t 0 [] [] (operandOf (formIn r)) (sourcesOf r) (k .sources))
+        (after (operandPart F r) _ _ _ _ (o .operand) (end-read bs nm rows (ns ++ mentioned F r) y room)))
+
+    -- a row without a target, and one with target t
+    plain-read :
+        (y : Parts)
+        → hasTarget (formIn r) ≡ false
+        → Operated 0 y
+        → Takes (rowing s bs ns nm rows x) (opToken (opOf r) ∷ (registersPart F (sourcesOf r) ++ (operandPart F r ++ (Token.mark semicolon ∷ [])))) ended
+    plain-read y e o =
+        then _ (rowing (afterWord (opOf r)) bs ns nm rows (partsOf (opOf r) 0 [] 0 [] [])) _ _ _
+        (word-alone bs nm rows ns room (opOf r) (k .op) s x (starts .words) (ap hasTarget (k .form) ∙ e))
+        (rest-read 0 y o)
+
+    target-read :
+        (t : ℕ) (y : Parts)
+        → t < length (F .registers)
+        → hasTarget (formIn r) ≡ true
+        → Operated t y
+        → Takes (rowing s bs ns nm rows x)
+        (registerToken F t ∷ Token.mark equals ∷ opToken (opOf r) ∷ (registersPart F (sourcesOf r) ++ (operandPart F r ++ (Token.mark semicolon ∷ [])))) ended
+    target-read t y l e o =
+        after (registerToken F t ∷ Token.mark equals ∷ opToken (opOf r) ∷ []) _ _ (rowing (afterWord (opOf r)) bs ns nm rows (partsOf (opOf r) t [] 0 [] [])) _
+        (word-after bs nm rows ns room (opOf r) (k .op) s x t l (starts .names) (ap hasTarget (k .form) ∙ e))
+        (rest-read t y o)
 
   module _
       (bs : List Block) (nm : List ℕ) (rows : List Row) (ns : List (List ℕ)) (s : Stage) (starts : Starts s) (x : Parts)
@@ -318,8 +355,41 @@ module _ (fs : List Func) (F : Func) (apart : Apart nameOf [] (F .registers)) wh
         Takes (rowing s bs ns nm rows x) (rowLine F r)
         (rowing Stage.nextInstruction bs (ns ++ mentioned F r) nm (rows ++ (drafted (length ns) r ∷ [])) noParts)
 
-    nothing-more : (o : Parts) → Takes (rowing Stage.instructionEnd bs ns nm rows o) [] (rowing Stage.instructionEnd bs (ns ++ []) nm rows o)
-    nothing-more o = rw append-nil (nothing (rowing Stage.instructionEnd bs ns nm rows o))
+    abbrev having-read : Stage → List (List ℕ) → Parts → State
+    having-read s ns y = rowing s bs ns nm rows y
+
+    no-operand : (y : Parts) → Takes (having-read Stage.instructionEnd ns y) [] (having-read Stage.instructionEnd (ns ++ []) y)
+    no-operand y = rw append-nil (nothing (having-read Stage.instructionEnd ns y))
+
+    -- the one block of a jump, the two of a jump.cond
+    block-read :
+        (n : List ℕ)
+        → length ns + 1 < maxMentions
+        → Takes (having-read (Stage.operand Operand.block) ns (partsOf 32 0 [] 0 [] [])) (inParens (blockToken n ∷ []))
+        (having-read Stage.instructionEnd (ns ++ (n ∷ [])) (partsOf 32 0 [] 0 [] (length ns ∷ [])))
+    unfolding gram
+    block-read n few =
+        let after-n = having-read Stage.operandEnd (ns ++ (n ∷ [])) (partsOf 32 0 [] 0 [] (length ns ∷ [])) in
+        pass-then (having-read (Stage.operand Operand.block) ns (partsOf 32 0 [] 0 [] [])) (Stage.mention 0) _ _ _ refl
+        (then _ after-n _ _ _ (mention-read bs nm rows 32 [] [] ns 0 n (omega arith))
+        (passes after-n Stage.instructionEnd (Token.mark rightParen) refl))
+
+    blocks-read :
+        (u : ℕ) (n o : List ℕ)
+        → length ns + 1 < maxMentions
+        → Takes (having-read (Stage.operand Operand.blocks) ns (partsOf 33 0 (u ∷ []) 0 [] [])) (inParens (blockToken n ∷ Token.mark comma ∷ blockToken o ∷ []))
+        (having-read Stage.instructionEnd (ns ++ (n ∷ o ∷ [])) (partsOf 33 0 (u ∷ []) 0 [] (length ns ∷ (length ns + 1) ∷ [])))
+    unfolding gram
+    blocks-read u n o few =
+        let count : length (ns ++ (n ∷ [])) ≡ length ns + 1 = length-append ns (n ∷ []) in
+        let joined : ns ++ (n ∷ []) ++ (o ∷ []) ≡ ns ++ (n ∷ o ∷ []) = append-assoc ns (n ∷ []) (o ∷ []) in
+        let second = mention-read bs nm rows 33 (u ∷ []) (length ns ∷ []) (ns ++ (n ∷ [])) 0 o (rw count few) in
+        let after-n = having-read (Stage.mentionComma 0) (ns ++ (n ∷ [])) (partsOf 33 0 (u ∷ []) 0 [] (length ns ∷ [])) in
+        let after-o = having-read Stage.operandEnd (ns ++ (n ∷ o ∷ [])) (partsOf 33 0 (u ∷ []) 0 [] (length ns ∷ (length ns + 1) ∷ [])) in
+        pass-then (having-read (Stage.operand Operand.blocks) ns (partsOf 33 0 (u ∷ []) 0 [] [])) (Stage.mention 1) _ _ _ refl
+        (then _ after-n _ _ _ (mention-read bs nm rows 33 (u ∷ []) [] ns 1 n (omega arith))
+        (pass-then after-n (Stage.mention 0) _ _ _ refl
+        (then _ after-o _ _ _ (rw (count, joined) at second) (passes after-o Stage.instructionEnd (Token.mark rightParen) refl))))
 
     pub row-read :
         (r : Row)
@@ -327,56 +397,36 @@ module _ (fs : List Func) (F : Func) (apart : Apart nameOf [] (F .registers)) wh
         → entriesIn (gather (λ b. b .rows) bs ++ rows) + length (entriesOf r) ≤ maxEntries
         → length ns + 1 < maxMentions
         → Read r
-    unfolding rowLine gram
+    unfolding rowLine
     row-read Row.nop k fits few =
-        then _ (rowing (afterWord 0) bs ns nm rows (partsOf 0 0 [] 0 [] [])) _ _ _ (word-alone bs nm rows ns room 0 (k .op) s x (starts .words) (ap hasTarget (k .form)))
-        (rest-read bs nm rows ns (ns ++ []) room 0 0 Form.nop (k .form) [] refl every-nil [] (partsOf 0 0 [] 0 [] []) (nothing-more (partsOf 0 0 [] 0 [] [])) Row.nop refl refl)
+        let y = partsOf 0 0 [] 0 [] [] in
+        plain-read bs nm rows ns s starts x room Row.nop k y refl (record { counted = refl; word = refl; whole = refl; operand = no-operand y })
     row-read (Row.load op t n) k fits few =
-        after (registerToken F t ∷ Token.mark equals ∷ opToken op ∷ []) _ _ (rowing (afterWord op) bs ns nm rows (partsOf op t [] 0 [] [])) _
-        (word-after bs nm rows ns room op (k .op) s x t (first (k .targets)) (starts .names) (ap hasTarget (k .form)))
-        (rest-read bs nm rows ns (ns ++ []) room op t Form.load (k .form) [] refl every-nil (inParens (numberToken (loadType op) n ∷ [])) (partsOf op t [] n [] [])
-        (rw append-nil (number-read bs nm rows ns op t n (ltb→lt n (2 ^ width (loadType op)) (k .number)))) (Row.load op t n) refl refl)
+        let read = number-read bs nm rows ns op t n (ltb→lt n (2 ^ width (loadType op)) (k .number)) in
+        target-read bs nm rows ns s starts x room (Row.load op t n) k t (partsOf op t [] n [] []) (first (k .targets)) refl
+        (record { counted = refl; word = refl; whole = refl; operand = rw append-nil read })
     row-read (Row.unary op t u) k fits few =
-        after (registerToken F t ∷ Token.mark equals ∷ opToken op ∷ []) _ _ (rowing (afterWord op) bs ns nm rows (partsOf op t [] 0 [] [])) _
-        (word-after bs nm rows ns room op (k .op) s x t (first (k .targets)) (starts .names) (ap hasTarget (k .form)))
-        (rest-read bs nm rows ns (ns ++ []) room op t Form.unary (k .form) (u ∷ []) refl (k .sources) [] (partsOf op t (u ∷ []) 0 [] []) (nothing-more (partsOf op t (u ∷ []) 0 [] [])) (Row.unary op t u) refl refl)
+        let y = partsOf op t (u ∷ []) 0 [] [] in
+        target-read bs nm rows ns s starts x room (Row.unary op t u) k t y (first (k .targets)) refl
+        (record { counted = refl; word = refl; whole = refl; operand = no-operand y })
     row-read (Row.binary op t l u) k fits few =
-        after (registerToken F t ∷ Token.mark equals ∷ opToken op ∷ []) _ _ (rowing (afterWord op) bs ns nm rows (partsOf op t [] 0 [] [])) _
-        (word-after bs nm rows ns room op (k .op) s x t (first (k .targets)) (starts .names) (ap hasTarget (k .form)))
-        (rest-read bs nm rows ns (ns ++ []) room op t Form.binary (k .form) (l ∷ u ∷ []) refl (k .sources) [] (partsOf op t (l ∷ u ∷ []) 0 [] []) (nothing-more (partsOf op t (l ∷ u ∷ []) 0 [] [])) (Row.binary op t l u) refl refl)
+        let y = partsOf op t (l ∷ u ∷ []) 0 [] [] in
+        target-read bs nm rows ns s starts x room (Row.binary op t l u) k t y (first (k .targets)) refl
+        (record { counted = refl; word = refl; whole = refl; operand = no-operand y })
     row-read (Row.phi t es) k fits few =
-        after (registerToken F t ∷ Token.mark equals ∷ opToken 31 ∷ []) _ _ (rowing (afterWord 31) bs ns nm rows (partsOf 31 t [] 0 [] [])) _
-        (word-after bs nm rows ns room 31 (k .op) s x t (first (k .targets)) (starts .names) (ap hasTarget (k .form)))
-        (rest-read bs nm rows ns (ns ++ []) room 31 t Form.phi (k .form) [] refl every-nil (inParens (parted (map (λ s. registerToken F s ∷ []) es))) (partsOf 31 t [] 0 es [])
-        (rw append-nil (entries-read bs nm rows ns 31 t es (k .some tt) fits (k .entries))) (Row.phi t es) refl refl)
+        let read = entries-read bs nm rows ns 31 t es (k .some tt) fits (k .entries) in
+        target-read bs nm rows ns s starts x room (Row.phi t es) k t (partsOf 31 t [] 0 es []) (first (k .targets)) refl
+        (record { counted = refl; word = refl; whole = refl; operand = rw append-nil read })
     row-read (Row.jump b) k fits few =
-        let n = blockAt F b .name in
-        then _ (rowing (afterWord 32) bs ns nm rows (partsOf 32 0 [] 0 [] [])) _ _ _ (word-alone bs nm rows ns room 32 (k .op) s x (starts .words) (ap hasTarget (k .form)))
-        (rest-read bs nm rows ns (ns ++ (n ∷ [])) room 32 0 Form.jump (k .form) [] refl every-nil (inParens (blockToken n ∷ [])) (partsOf 32 0 [] 0 [] (length ns ∷ []))
-        (then _ (rowing (Stage.mention 0) bs ns nm rows (partsOf 32 0 [] 0 [] [])) _ _ _ (paren bs nm rows ns Operand.block (partsOf 32 0 [] 0 [] []))
-        (then _ (rowing Stage.operandEnd bs (ns ++ (n ∷ [])) nm rows (partsOf 32 0 [] 0 [] (length ns ∷ []))) _ _ _ (mention-read bs nm rows 32 [] [] ns 0 n (omega arith))
-        (passes (rowing Stage.operandEnd bs (ns ++ (n ∷ [])) nm rows (partsOf 32 0 [] 0 [] (length ns ∷ []))) Stage.instructionEnd (Token.mark rightParen) refl)))
-        (Row.jump (length ns)) refl refl)
+        plain-read bs nm rows ns s starts x room (Row.jump b) k (partsOf 32 0 [] 0 [] (length ns ∷ [])) refl
+        (record { counted = refl; word = refl; whole = refl; operand = block-read (blockAt F b .name) few })
     row-read (Row.branch u y z) k fits few =
-        let n = blockAt F y .name in
-        let o = blockAt F z .name in
-        let count : length (ns ++ (n ∷ [])) ≡ length ns + 1 = length-append ns (n ∷ []) in
-        let joined : ns ++ (n ∷ []) ++ (o ∷ []) ≡ ns ++ (n ∷ o ∷ []) = append-assoc ns (n ∷ []) (o ∷ []) in
-        let second = mention-read bs nm rows 33 (u ∷ []) (length ns ∷ []) (ns ++ (n ∷ [])) 0 o (rw count few) in
-        then _ (rowing (afterWord 33) bs ns nm rows (partsOf 33 0 [] 0 [] [])) _ _ _ (word-alone bs nm rows ns room 33 (k .op) s x (starts .words) (ap hasTarget (k .form)))
-        (rest-read bs nm rows ns (ns ++ (n ∷ o ∷ [])) room 33 0 Form.branch (k .form) (u ∷ []) refl (k .sources)
-        (inParens (parted ((blockToken n ∷ []) ∷ (blockToken o ∷ []) ∷ []))) (partsOf 33 0 (u ∷ []) 0 [] (length ns ∷ (length ns + 1) ∷ []))
-        (then _ (rowing (Stage.mention 1) bs ns nm rows (partsOf 33 0 (u ∷ []) 0 [] [])) _ _ _ (paren bs nm rows ns Operand.blocks (partsOf 33 0 (u ∷ []) 0 [] []))
-        (then _ (rowing (Stage.mentionComma 0) bs (ns ++ (n ∷ [])) nm rows (partsOf 33 0 (u ∷ []) 0 [] (length ns ∷ []))) _ _ _ (mention-read bs nm rows 33 (u ∷ []) [] ns 1 n (omega arith))
-        (then _ (rowing (Stage.mention 0) bs (ns ++ (n ∷ [])) nm rows (partsOf 33 0 (u ∷ []) 0 [] (length ns ∷ []))) _ _ _
-        (passes (rowing (Stage.mentionComma 0) bs (ns ++ (n ∷ [])) nm rows (partsOf 33 0 (u ∷ []) 0 [] (length ns ∷ []))) (Stage.mention 0) (Token.mark comma) refl)
-        (then _ (rowing Stage.operandEnd bs (ns ++ (n ∷ o ∷ [])) nm rows (partsOf 33 0 (u ∷ []) 0 [] (length ns ∷ (length ns + 1) ∷ []))) _ _ _ (rw (count, joined) at second)
-        (passes (rowing Stage.operandEnd bs (ns ++ (n ∷ o ∷ [])) nm rows (partsOf 33 0 (u ∷ []) 0 [] (length ns ∷ (length ns + 1) ∷ []))) Stage.instructionEnd (Token.mark rightParen) refl)))))
-        (Row.branch u (length ns) (length ns + 1)) refl refl)
+        plain-read bs nm rows ns s starts x room (Row.branch u y z) k (partsOf 33 0 (u ∷ []) 0 [] (length ns ∷ (length ns + 1) ∷ [])) refl
+        (record { counted = refl; word = refl; whole = refl; operand = blocks-read u (blockAt F y .name) (blockAt F z .name) few })
     row-read (Row.return u) k fits few =
-        then _ (rowing (afterWord 34) bs ns nm rows (partsOf 34 0 [] 0 [] [])) _ _ _ (word-alone bs nm rows ns room 34 (k .op) s x (starts .words) (ap hasTarget (k .form)))
-        (rest-read bs nm rows ns (ns ++ []) room 34 0 Form.return (k .form) (u ∷ []) refl (k .sources) [] (partsOf 34 0 (u ∷ []) 0 [] []) (nothing-more (partsOf 34 0 (u ∷ []) 0 [] [])) (Row.return u) refl refl)
+        let y = partsOf 34 0 (u ∷ []) 0 [] [] in
+        plain-read bs nm rows ns s starts x room (Row.return u) k y refl (record { counted = refl; word = refl; whole = refl; operand = no-operand y })
     row-read Row.leave k fits few =
-        then _ (rowing (afterWord 35) bs ns nm rows (partsOf 35 0 [] 0 [] [])) _ _ _ (word-alone bs nm rows ns room 35 (k .op) s x (starts .words) (ap hasTarget (k .form)))
-        (rest-read bs nm rows ns (ns ++ []) room 35 0 Form.leave (k .form) [] refl every-nil [] (partsOf 35 0 [] 0 [] []) (nothing-more (partsOf 35 0 [] 0 [] [])) Row.leave refl refl)
+        let y = partsOf 35 0 [] 0 [] [] in
+        plain-read bs nm rows ns s starts x room Row.leave k y refl (record { counted = refl; word = refl; whole = refl; operand = no-operand y })
     row-read (Row.unknown op) k fits few = absurd (no-unknown op (k .op) (k .form))

@@ -90,6 +90,11 @@ pub passes : (σ : State) (s : Stage) (t : Token) → gram (σ .stage) t ≡ to 
 unfolding perform
 passes σ s t e = step σ (stage-to σ s) t Act.pass e (λ p ms h. refl) refl
 
+-- such a token, then the others
+pub pass-then :
+    (σ : State) (s : Stage) (υ : State) (t : Token) (ts : List Token) → gram (σ .stage) t ≡ to s Act.pass → Takes (stage-to σ s) ts υ → Takes σ (t ∷ ts) υ
+pass-then σ s υ t ts e f = then σ (stage-to σ s) υ t ts (passes σ s t e) f
+
 -- a type's word
 pub type-word : (k : ℕ → Move) (t : ℕ) → t < 10 → aType k (firstType + t) ≡ k t
 type-word k t h =
