@@ -45,7 +45,7 @@ pub mod WritingBlocks
 pub mod WritingResolved
 pub mod WritingRead
 pub mod WritingMade
-pub mod NamesApart
+pub mod WritingAlike
 pub mod WritingNamed
 pub mod WritingAccepted
 pub mod WritingAgain

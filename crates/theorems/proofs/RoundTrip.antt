@@ -24,7 +24,7 @@ use Rattle.theorems.proofs.NoRefusal.{refused-numbers}
 use Rattle.theorems.proofs.OverTables.{accepted-program}
 use Rattle.theorems.proofs.Table.{unneeded-zero}
 use Rattle.theorems.proofs.TableSound.{accepted-fits, accepted-held}
-use Rattle.theorems.proofs.NamesApart.{registers-alike, first-alike, unfit-alike, names-do-not-matter}
+use Rattle.theorems.proofs.WritingAlike.{registers-alike, first-alike, unfit-alike, names-do-not-matter}
 use Rattle.theorems.proofs.WritingNamed.{only-names-filled, still-accepted}
 use Rattle.theorems.proofs.WritingAccepted.{reads-back}
 use Rattle.theorems.proofs.WritingAgain.{written-again}
@@ -84,7 +84,8 @@ module _ (t : List ℕ) (n : ℕ) where
 
   not-written : (k p : ℕ) {x : Shown} → Comes t n x → x .answer ≡ Wrote.refused k p → NotWritten t n k p
   unfolding refusedText
-  not-written k p (Comes.refused i j h) e = subst (λ (a : ℕ). NotWritten t n a p) (let z : i ≡ k = cc in z) (subst (NotWritten t n i) (let z : j ≡ p = cc in z) h)
+  not-written k p (Comes.refused i j h) e =
+      subst (λ (a : ℕ). NotWritten t n a p) (let z : i ≡ k = cc in z) (subst (NotWritten t n i) (let z : j ≡ p = cc in z) h)
   not-written k p (Comes.wrote i w) e = wrote-not (sym e)
 
   zeroed : (k p : ℕ) {x : Shown} → Comes t n x → x .answer ≡ Wrote.refused k p → x .buffer ≡ zeros n

@@ -20,7 +20,7 @@ use Rattle.theorems.specs.OverTables.{functionInTable, TranslatableIn, T
 use Rattle.theorems.specs.RoundTrip.{AlikeButNames, RoundTrip, filledTable, textIn, TranslatedAsText, Demand3AsText}
 use Rattle.theorems.proofs.AcceptanceCheck.{clean-of-check, sound-parts}
 use Rattle.theorems.proofs.OverTables.{accepted-program, demand3-over-tables, run-answer, fits-translation, agree}
-use Rattle.theorems.proofs.NamesApart.{all-rows-alike, unfit-alike, names-do-not-matter}
+use Rattle.theorems.proofs.WritingAlike.{all-rows-alike, unfit-alike, names-do-not-matter}
 use Rattle.theorems.proofs.WritingNamed.{only-names-filled}
 use Rattle.theorems.proofs.RoundTrip.{round-trip}
 

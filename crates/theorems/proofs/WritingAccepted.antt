@@ -30,7 +30,7 @@ use Rattle.theorems.proofs.WritingHeads.{nameOf, functionName}
 use Rattle.theorems.proofs.WritingRows.{RowReady}
 use Rattle.theorems.proofs.WritingBlocks.{blockName, BlockReady}
 use Rattle.theorems.proofs.WritingRead.{FunctionReady, ProgramReady, program-found, program-read}
-use Rattle.theorems.proofs.WritingNamed.{AllNamed, all-named, still-accepted}
+use Rattle.theorems.proofs.WritingNamed.{AllNamed, all-named, no-bytes-none, still-accepted}
 
 -- ---- a function
 
@@ -83,10 +83,6 @@ module _ (f : Func) (c : Clean f) (n : AllNamed f) where
       n .registers i j l (rw length-map m)
       (List·getD-map nameOf (f .registers) i noRegister ∙ e ∙ sym (List·getD-map nameOf (f .registers) j noRegister)))
 
-  none : (n : List ℕ) → T (empty n) → n ≡ []
-  none [] h = refl
-  none (x ∷ n) h = absurd h
-
   function-ready : FunctionReady f
   unfolding rowsOf entryCount
   function-ready =
@@ -111,7 +107,7 @@ module _ (f : Func) (c : Clean f) (n : AllNamed f) where
               names = apart-at (λ n. n) (map blockName (f .blocks)) [] (n .blocks);
             };
         entry = s .entry;
-        unnamed = none (blockAt f (f .entry) .name) (s .unnamed);
+        unnamed = no-bytes-none (blockAt f (f .entry) .name) (s .unnamed);
         named = named-blocks;
       }
 

@@ -1,93 +1,94 @@
 -- Names that are all there stay: writing what was read back writes the same text. Assumes nothing.
-use mathlib.Core.Bool.{Bool, false, cond, not, _&&_}
 use mathlib.Core.List.{List, [], _∷_, map}
-use mathlib.Core.Path.{_≡_, refl, sym, _∙_, ap}
-use Prim.Native.Nat.{ℕ, zero, suc, _+_, _<_, suc-le-suc}
-use native.Mathlib.Nat.{zero-lt-suc, zero-add}
+use mathlib.Core.Path.{_≡_, refl, sym, _∙_, ap, subst}
+use Prim.Native.Nat.{ℕ, _<_}
+use native.Mathlib.Decide.{decLt}
 use native.Mathlib.Omega.{arith}
-use lib.Dec.{T, eqb}
+use lib.Dec.{T}
 use lib.ListN.{length, getD, length-map, List·getD-map}
-use borrow.Author.Tests.{eq-eqb}
-use Rattle.laws.specs.Lists.{empty, from, together}
-use Rattle.laws.proofs.Every.{Every, none as every-nil, more as every-cons}
+use lib.Seq.{ext-getD}
+use Rattle.laws.specs.Lists.{empty, together}
+use Rattle.laws.proofs.Every.{every-at, every-of, map-fixed}
 use Rattle.language.specs.Names.{spelled}
-use Rattle.language.specs.Programs.{Register, Block, Func, Program, noBlock}
-use Rattle.language.specs.MadeNames.{registerPrefix, blockPrefix, given, wanted, entitled, registerTitle, blockTitle, registerNames, blockNames, namedFunction, named, written}
+use Rattle.language.specs.Programs.{Register, Block, Func, Program, noBlock, noFunction, functionIn, blockAt}
+use Rattle.language.specs.Checking.{Verdict, check}
 use Rattle.language.specs.Writing.{textOf}
-use Rattle.theorems.specs.RoundTrip.{NamedOnce, WrittenAgain}
-use Rattle.theorems.proofs.WritingDeclared.{numbered, numbers}
-use Rattle.theorems.proofs.WritingHeads.{nameOf}
-use Rattle.theorems.proofs.WritingBlocks.{blockName}
-use Rattle.theorems.proofs.WritingRead.{FunctionReady}
-use Rattle.theorems.proofs.WritingAccepted.{named-ready}
+use Rattle.language.specs.MadeNames.{registerNames, blockNames, namedFunction, named, written}
+use Rattle.theorems.specs.Accepted.{namesBefore}
+use Rattle.theorems.specs.RoundTrip.{NamesMade, NamedOnce, WrittenAgain}
+use Rattle.theorems.proofs.AcceptanceCheck.{Sound, sound-parts, sound-of-check}
+use Rattle.theorems.proofs.WritingNamed.{AllNamed, all-named, registersOf, blocksOf, registers-made, blocks-made, no-bytes-none, still-accepted}
 
-spelled-some : (n : List ℕ) → T (spelled n) → empty n ≡ false
-unfolding spelled
-spelled-some [] h = absurd h
-spelled-some (b ∷ n) h = refl
+-- Where no name is to be made, all stay.
+names-stay :
+    {prefix : List ℕ} {Unnamed : ℕ → Type 0} {kept filled : List (List ℕ)}
+    → NamesMade prefix Unnamed kept filled
+    → ((i : ℕ) → i < length kept → Unnamed i → ⊥)
+    → filled ≡ kept
+names-stay {kept = kept} {filled = filled} m h =
+    ext-getD [] filled kept (m .count) (λ i l. let inside : i < length kept = omega (arith, m .count) in m .stays i inside (h i inside))
 
-registers-stay :
-    (prefix : List ℕ) (used : List (List ℕ)) (k : ℕ) {ns : List (List ℕ)}
-    → Every (λ n. T (spelled n)) ns
-    → entitled prefix used k (map registerTitle ns) ≡ ns
-registers-stay prefix used k every-nil = refl
-registers-stay prefix used k (every-cons {x = n} {xs = ns} p h) =
-    ap (λ (b : Bool). entitled prefix used k (cond b wanted (given n) ∷ map registerTitle ns)) (spelled-some n p) ∙ ap (λ (l : List (List ℕ)). n ∷ l) (registers-stay prefix used k h)
-
--- only the name at place e has no bytes
-blocks-stay :
-    (prefix : List ℕ) (used : List (List ℕ)) (k e i : ℕ) (ns : List (List ℕ)) → ((j : ℕ) → j < length ns → getD ns j [] ≡ [] → i + j ≡ e)
-    → entitled prefix used k (together (blockTitle e) (from i (length ns)) ns) ≡ ns
-blocks-stay prefix used k e i [] h = refl
-blocks-stay prefix used k e i (n ∷ ns) h =
-    ap (λ (b : Bool). entitled prefix used k (cond b wanted (given n) ∷ together (blockTitle e) (from (suc i) (length ns)) ns)) (by n h)
-    ∙ ap (λ (l : List (List ℕ)). n ∷ l) (blocks-stay prefix used k e (suc i) ns (λ j l d. let z = h (suc j) (suc-le-suc l) d in omega arith))
-  where
-    by : (n : List ℕ) → ((j : ℕ) → j < suc (length ns) → getD (n ∷ ns) j [] ≡ [] → i + j ≡ e) → (empty n && not (eqb i e)) ≡ false
-    by [] h = ap not (eq-eqb i e (let z = h zero (zero-lt-suc (length ns)) refl in omega arith))
-    by (b ∷ n) h = refl
-
-registers-again : (rs : List Register) → together (λ r n. record { type = r .type; name = n }) rs (map nameOf rs) ≡ rs
+registers-again : (rs : List Register) → together (λ r n. record { type = r .type; name = n }) rs (map (λ r. r .name) rs) ≡ rs
 registers-again [] = refl
 registers-again (r ∷ rs) = ap (λ (l : List Register). r ∷ l) (registers-again rs)
 
-blocks-again : (bs : List Block) → together (λ b n. record { name = n; rows = b .rows }) bs (map blockName bs) ≡ bs
+blocks-again : (bs : List Block) → together (λ b n. record { name = n; rows = b .rows }) bs (map (λ b. b .name) bs) ≡ bs
 blocks-again [] = refl
 blocks-again (b ∷ bs) = ap (λ (l : List Block). b ∷ l) (blocks-again bs)
 
-every-name : {rs : List Register} → Every (λ r. T (spelled (r .name))) rs → Every (λ n. T (spelled n)) (map nameOf rs)
-every-name every-nil = every-nil
-every-name (every-cons p h) = every-cons p (every-name h)
+not-spelled : T (spelled []) → ⊥
+unfolding spelled
+not-spelled h = h
 
-function-again : (f : Func) → FunctionReady f → namedFunction f ≡ f
-unfolding namedFunction registerNames blockNames
-function-again f k =
-    let ns = map blockName (f .blocks) in
-    let registers : together (λ r n. record { type = r .type; name = n }) (f .registers) (registerNames f) ≡ f .registers =
-    ap (together (λ r n. record { type = r .type; name = n }) (f .registers)) (registers-stay (registerPrefix) (map nameOf (f .registers)) 0 (every-name (k .registerNames))) ∙ registers-again (f .registers) in
-    let blocks : together (λ b n. record { name = n; rows = b .rows }) (f .blocks) (blockNames f) ≡ f .blocks =
-    ap (together (λ b n. record { name = n; rows = b .rows }) (f .blocks)) (blocks-stay (blockPrefix) ns 0 (f .entry) 0 ns only) ∙ blocks-again (f .blocks) in
-    λ i. record { name = f .name; ssa = f .ssa; result = f .result; params = f .params; registers = registers i; blocks = blocks i; entry = f .entry; placed = f .placed }
-  where
-    at :
-        (j : ℕ)
-        → j < length (map blockName (f .blocks))
-        → j ≡ Rattle.theorems.proofs.WritingDeclared.numbered (λ n. n) (map blockName (f .blocks)) (getD (map blockName (f .blocks)) j [])
-    at j l = sym (numbers (λ n. n) [] (map blockName (f .blocks)) [] (k .rooms .names) j l ∙ zero-add j)
+module _ (f : Func) (s : Sound f) (n : AllNamed f) where
+  registers-stay : registerNames f ≡ registersOf f
+  registers-stay = names-stay (registers-made f) (λ i l e. not-spelled (subst (λ (n : List ℕ). T (spelled n)) e (every-at (n .spelled) [] i l)))
 
-    only : (j : ℕ) → j < length (map blockName (f .blocks)) → getD (map blockName (f .blocks)) j [] ≡ [] → 0 + j ≡ f .entry
-    only j l d =
-        let own : getD (map blockName (f .blocks)) (f .entry) [] ≡ [] = List·getD-map blockName (f .blocks) (f .entry) noBlock ∙ k .unnamed in
-        let m : f .entry < length (map blockName (f .blocks)) = rw length-map (k .entry) in
-        zero-add j ∙ at j l ∙ ap (Rattle.theorems.proofs.WritingDeclared.numbered (λ n. n) (map blockName (f .blocks))) (d ∙ sym own) ∙ sym (at (f .entry) m)
+  -- entry alone has a name of no bytes
+  blocks-stay : blockNames f ≡ blocksOf f
+  blocks-stay =
+      names-stay (blocks-made f)
+      (λ i l u.
+      let e = f .entry in
+      let inside : e < length (blocksOf f) = rw length-map (s .entry) in
+      let none : getD (blocksOf f) e [] ≡ [] = List·getD-map (λ b. b .name) (f .blocks) e noBlock ∙ no-bytes-none (blockAt f e .name) (s .unnamed) in
+      elim (decLt i e) [
+        | yes c ↦ n .blocks i e c inside (u .0 ∙ sym none)
+        | no c ↦
+            elim (decLt e i) [
+              | yes d ↦ n .blocks e i d l (none ∙ sym (u .0))
+              | no d ↦ u .1 (let z : i ≡ e = omega arith in z)
+            ]
+      ])
 
-functions-again : {p : Program} → Every FunctionReady p → map namedFunction p ≡ p
-functions-again every-nil = refl
-functions-again (every-cons {x = f} k h) = λ i. function-again f k i ∷ functions-again h i
+  function-again : namedFunction f ≡ f
+  unfolding namedFunction
+  function-again =
+      let registers : together (λ r n. record { type = r .type; name = n }) (f .registers) (registerNames f) ≡ f .registers =
+      ap (together (λ r n. record { type = r .type; name = n }) (f .registers)) registers-stay ∙ registers-again (f .registers) in
+      let blocks : together (λ b n. record { name = n; rows = b .rows }) (f .blocks) (blockNames f) ≡ f .blocks =
+      ap (together (λ b n. record { name = n; rows = b .rows }) (f .blocks)) blocks-stay ∙ blocks-again (f .blocks) in
+      λ i.
+      record {
+        name = f .name;
+        ssa = f .ssa;
+        result = f .result;
+        params = f .params;
+        registers = registers i;
+        blocks = blocks i;
+        entry = f .entry;
+        placed = f .placed;
+      }
 
 pub named-once : NamedOnce
 unfolding named
-named-once p e = functions-again (named-ready p e .functions)
+named-once p e =
+    let q = named p in
+    map-fixed namedFunction
+    (every-of noFunction q
+    (λ i l.
+    function-again (functionIn q i) (sound-parts (namesBefore q i) (functionIn q i) (sound-of-check q i (still-accepted p e) l))
+    (every-at (all-named p e) noFunction i l)))
 
 pub written-again : WrittenAgain
 unfolding written

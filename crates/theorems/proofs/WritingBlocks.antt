@@ -11,7 +11,7 @@ use Rattle.laws.proofs.Every.{Every, more as every-cons}
 use Rattle.laws.proofs.Sums.{gather-append}
 use Rattle.language.specs.Bytes.{leftBrace, rightBrace}
 use Rattle.language.specs.Words.{blockWord}
-use Rattle.language.specs.Programs.{Row, Block, Func, entriesOf, namedBy, maxRows, maxEntries, maxBlocks}
+use Rattle.language.specs.Programs.{Row, Block, Func, blockAt, entriesOf, namedBy, maxRows, maxEntries, maxBlocks}
 use Rattle.language.specs.Tokens.{Token}
 use Rattle.language.specs.Grammar.{Stage, Act, to, gram}
 use Rattle.language.specs.Reading.{noParts, blockNumber, maxMentions, beginBlock, nameBlock, endBlock, perform}
@@ -122,15 +122,19 @@ module _ (fs : List Func) (F : Func) (apart : Apart nameOf [] (F .registers)) wh
         → RowReady F r
         → Room pre ns (r ∷ rs)
         → (ts : List Token) (τ : State)
-        → (Room (pre ++ (drafted (length ns) r ∷ [])) (ns ++ mentioned F r) rs → Takes (inBlock Stage.nextInstruction bs (ns ++ mentioned F r) nm (pre ++ (drafted (length ns) r ∷ []))) ts τ)
+        → (Room (pre ++ (drafted (length ns) r ∷ [])) (ns ++ mentioned F r) rs
+        → Takes (inBlock Stage.nextInstruction bs (ns ++ mentioned F r) nm (pre ++ (drafted (length ns) r ∷ []))) ts τ)
         → Takes (inBlock s bs ns nm pre) (rowLine F r ++ ts) τ
     row-then s st pre ns r rs k room ts τ later =
         let d = drafted (length ns) r in
         let rows-more : length (pre ++ (d ∷ [])) ≡ length pre + 1 = length-append pre (d ∷ []) in
         let same : entriesOf d ≡ entriesOf r = drafted-entries (length ns) r in
         let entries-more : entriesIn (rowsIn bs ++ (pre ++ (d ∷ []))) ≡ entriesIn (rowsIn bs ++ pre) + (length (entriesOf r) + 0) =
-        ap entriesIn (sym (append-assoc (rowsIn bs) pre (d ∷ []))) ∙ entries-append (rowsIn bs ++ pre) (d ∷ []) ∙ ap (λ (es : List ℕ). entriesIn (rowsIn bs ++ pre) + (length es + 0)) same in
-        let names-more : length (ns ++ mentioned F r) ≡ length ns + length (namedBy r) = length-append ns (mentioned F r) ∙ ap (λ (k : ℕ). length ns + k) (length-map (namedBy r) (λ b. Rattle.language.specs.Programs.blockAt F b .name)) in
+        ap entriesIn (sym (append-assoc (rowsIn bs) pre (d ∷ [])))
+        ∙ entries-append (rowsIn bs ++ pre) (d ∷ [])
+        ∙ ap (λ (es : List ℕ). entriesIn (rowsIn bs ++ pre) + (length es + 0)) same in
+        let names-more : length (ns ++ mentioned F r) ≡ length ns + length (namedBy r) =
+        length-append ns (mentioned F r) ∙ ap (λ (k : ℕ). length ns + k) (length-map (namedBy r) (λ b. blockAt F b .name)) in
         let few = named-few r in
         after (rowLine F r) ts _ _ _
         (row-read fs F apart bs nm pre ns s st noParts (omega (arith, room .rows)) r k (omega (arith, room .entries)) (omega (arith, room .mentions)))
@@ -147,7 +151,8 @@ module _ (fs : List Func) (F : Func) (apart : Apart nameOf [] (F .registers)) wh
         → (pre : List Row) (ns : List (List ℕ)) (r : Row) (rs : List Row)
         → RowReady F r
         → Room pre ns (r ∷ rs)
-        → (Room (pre ++ (drafted (length ns) r ∷ [])) (ns ++ mentioned F r) rs → Rows-read Stage.nextInstruction (pre ++ (drafted (length ns) r ∷ [])) (ns ++ mentioned F r) rs)
+        → (Room (pre ++ (drafted (length ns) r ∷ [])) (ns ++ mentioned F r) rs
+        → Rows-read Stage.nextInstruction (pre ++ (drafted (length ns) r ∷ [])) (ns ++ mentioned F r) rs)
         → Rows-read s pre ns (r ∷ rs)
     cons-read s st pre ns r rs k room later =
         row-then s st pre ns r rs k room _ _
@@ -155,7 +160,8 @@ module _ (fs : List Func) (F : Func) (apart : Apart nameOf [] (F .registers)) wh
         let d = drafted (length ns) r in
         let m = mentioned F r in
         let n = length ns + length (namedBy r) in
-        let count : length (ns ++ m) ≡ n = length-append ns m ∙ ap (λ (k : ℕ). length ns + k) (length-map (namedBy r) (λ b. Rattle.language.specs.Programs.blockAt F b .name)) in
+        let count : length (ns ++ m) ≡ n =
+        length-append ns m ∙ ap (λ (k : ℕ). length ns + k) (length-map (namedBy r) (λ b. blockAt F b .name)) in
         let a : ns ++ m ++ mentions F rs ≡ ns ++ (m ++ mentions F rs) = append-assoc ns m (mentions F rs) in
         let b : pre ++ (d ∷ []) ++ draftedRows n rs ≡ pre ++ (d ∷ draftedRows n rs) = append-assoc pre (d ∷ []) (draftedRows n rs) in
         rw (← b, ← a, ← count) (later room))
@@ -184,7 +190,11 @@ module _ (fs : List Func) (F : Func) (apart : Apart nameOf [] (F .registers)) wh
   named-block (b ∷ n) = refl
 
   block-read :
-      (s : Stage) → gram s (Token.word blockWord) ≡ to Stage.blockName Act.beginBlock → (bs : List Block) (ns : List (List ℕ)) (b : Block) → BlockReady F b → New (λ n. n) (b .name) (map blockName bs)
+      (s : Stage)
+      → gram s (Token.word blockWord) ≡ to Stage.blockName Act.beginBlock
+      → (bs : List Block) (ns : List (List ℕ)) (b : Block)
+      → BlockReady F b
+      → New (λ n. n) (b .name) (map blockName bs)
       → length bs < maxBlocks → Room bs (b .name) [] ns (b .rows)
       → Takes (atBlock s bs ns) (gather (λ l. l) (blockLines F b)) (atBlock Stage.blocks (bs ++ (asDrafted (length ns) b ∷ [])) (ns ++ mentions F (b .rows)))
   unfolding blockLines gram perform beginBlock nameBlock endBlock blockNumber
@@ -192,7 +202,8 @@ module _ (fs : List Func) (F : Func) (apart : Apart nameOf [] (F .registers)) wh
       let n = b .name in
       let count : numbered blockName bs n ≡ length bs = by-names bs n ∙ new-number (λ n. n) n (map blockName bs) new ∙ length-map bs blockName in
       let after-rows = inBlock Stage.nextInstruction bs (ns ++ mentions F (b .rows)) n (draftedRows (length ns) (b .rows)) in
-      let parted : gather (λ l. l) (map (rowLine F) (b .rows) ++ (closing ∷ [])) ≡ gather (λ l. l) (map (rowLine F) (b .rows)) ++ closing = gather-append (λ l. l) (map (rowLine F) (b .rows)) (closing ∷ []) in
+      let parted : gather (λ l. l) (map (rowLine F) (b .rows) ++ (closing ∷ [])) ≡ gather (λ l. l) (map (rowLine F) (b .rows)) ++ closing =
+      gather-append (λ l. l) (map (rowLine F) (b .rows)) (closing ∷ []) in
       then _ (atBlock Stage.blockName bs ns) _ _ _
       (step (atBlock s bs ns) (atBlock Stage.blockName bs ns) (Token.word blockWord) Act.beginBlock g (λ p ms h. rw (lt-ltb (length bs) maxBlocks few)) refl)
       (then _ (inBlock Stage.blockBody bs ns n []) _ _ _
@@ -210,7 +221,7 @@ module _ (fs : List Func) (F : Func) (apart : Apart nameOf [] (F .registers)) wh
   mentions-count [] = refl
   mentions-count (r ∷ rs) =
       length-append (mentioned F r) (mentions F rs)
-      ∙ ap (λ (k : ℕ). k + length (mentions F rs)) (length-map (namedBy r) (λ b. Rattle.language.specs.Programs.blockAt F b .name))
+      ∙ ap (λ (k : ℕ). k + length (mentions F rs)) (length-map (namedBy r) (λ b. blockAt F b .name))
       ∙ ap (λ (k : ℕ). length (namedBy r) + k) (mentions-count rs) ∙ sym (length-append (namedBy r) (gather namedBy rs))
 
   few-named : (rs : List Row) → length (gather namedBy rs) ≤ 2 * length rs
@@ -222,8 +233,13 @@ module _ (fs : List Func) (F : Func) (apart : Apart nameOf [] (F .registers)) wh
       Takes (atBlock s bs ns) (gather (λ l. l) (gather (blockLines F) rest)) (atBlock Stage.blocks (bs ++ draftedBlocks (length ns) rest) (ns ++ mentions F (rowsIn rest)))
 
   block-then :
-      (s : Stage) → gram s (Token.word blockWord) ≡ to Stage.blockName Act.beginBlock → (bs : List Block) (ns : List (List ℕ)) (b : Block) (rest : List Block) → BlockReady F b → Rooms bs ns (b ∷ rest)
-      → (Rooms (bs ++ (asDrafted (length ns) b ∷ [])) (ns ++ mentions F (b .rows)) rest → Blocks-read Stage.blocks (bs ++ (asDrafted (length ns) b ∷ [])) (ns ++ mentions F (b .rows)) rest)
+      (s : Stage)
+      → gram s (Token.word blockWord) ≡ to Stage.blockName Act.beginBlock
+      → (bs : List Block) (ns : List (List ℕ)) (b : Block) (rest : List Block)
+      → BlockReady F b
+      → Rooms bs ns (b ∷ rest)
+      → (Rooms (bs ++ (asDrafted (length ns) b ∷ [])) (ns ++ mentions F (b .rows)) rest
+      → Blocks-read Stage.blocks (bs ++ (asDrafted (length ns) b ∷ [])) (ns ++ mentions F (b .rows)) rest)
       → Blocks-read s bs ns (b ∷ rest)
   block-then s g bs ns b rest k room later =
       let d = asDrafted (length ns) b in
@@ -233,7 +249,8 @@ module _ (fs : List Func) (F : Func) (apart : Apart nameOf [] (F .registers)) wh
       let few = few-named (b .rows) in
       let rows-here : length (rowsIn (b ∷ rest)) ≡ length (b .rows) + length (rowsIn rest) = length-append (b .rows) (rowsIn rest) in
       let entries-here : entriesIn (rowsIn (b ∷ rest)) ≡ entriesIn (b .rows) + entriesIn (rowsIn rest) = entries-append (b .rows) (rowsIn rest) in
-      let longer : rowsIn (bs ++ (d ∷ [])) ≡ rowsIn bs ++ d .rows = gather-append (λ b. b .rows) bs (d ∷ []) ∙ ap (λ (r : List Row). rowsIn bs ++ r) (append-nil (d .rows)) in
+      let longer : rowsIn (bs ++ (d ∷ [])) ≡ rowsIn bs ++ d .rows =
+      gather-append (λ b. b .rows) bs (d ∷ []) ∙ ap (λ (r : List Row). rowsIn bs ++ r) (append-nil (d .rows)) in
       let rows-now : length (rowsIn (bs ++ (d ∷ []))) ≡ length (rowsIn bs) + length (b .rows) =
       ap length longer ∙ length-append (rowsIn bs) (d .rows) ∙ ap (λ (k : ℕ). length (rowsIn bs) + k) (drafted-count (length ns) (b .rows)) in
       let entries-now : entriesIn (rowsIn (bs ++ (d ∷ []))) ≡ entriesIn (rowsIn bs) + entriesIn (b .rows) =

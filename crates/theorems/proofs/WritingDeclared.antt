@@ -54,7 +54,8 @@ module _ {A : Type 0} (name : A → List ℕ) where
   numbers before (x ∷ xs) d h zero l = own-number before x xs (h .0) ∙ omega arith
   numbers before (x ∷ xs) d h (suc i) l =
       let joined : before ++ (x ∷ []) ++ xs ≡ before ++ (x ∷ xs) = append-assoc before (x ∷ []) xs in
-      let r : numbered (before ++ (x ∷ []) ++ xs) (name (getD xs i d)) ≡ length (before ++ (x ∷ [])) + i = numbers (before ++ (x ∷ [])) xs d (h .1) i (le-of-suc-le-suc l) in
+      let r : numbered (before ++ (x ∷ []) ++ xs) (name (getD xs i d)) ≡ length (before ++ (x ∷ [])) + i =
+      numbers (before ++ (x ∷ [])) xs d (h .1) i (le-of-suc-le-suc l) in
       rw (← joined) (r ∙ simp length-append (omega arith))
 
   -- ---- names that are apart place by place

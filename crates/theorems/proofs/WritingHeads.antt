@@ -92,7 +92,10 @@ module _ (fs : List Func) (name : List ℕ) (ssa result : ℕ) where
   -- one or more parameters
   parameters-read :
       (s : Stage) → ((w : ℕ) → gram s (Token.word w) ≡ aType (λ t. to (Stage.parameterName t) Act.beginRegister) w)
-      → (k : ℕ) (rs : List Register) (r : Register) (more : List Register) → length rs + suc (length more) ≤ maxRegisters → Every (λ r. r .type < 10) (r ∷ more) → Apart nameOf rs (r ∷ more)
+      → (k : ℕ) (rs : List Register) (r : Register) (more : List Register)
+      → length rs + suc (length more) ≤ maxRegisters
+      → Every (λ r. r .type < 10) (r ∷ more)
+      → Apart nameOf rs (r ∷ more)
       → Takes (headed s k rs) (parted (map parameterPart (r ∷ more))) (headed Stage.parameterEnd (k + suc (length more)) (rs ++ (r ∷ more)))
   unfolding gram
   parameters-read s e k rs r [] h (every-cons t ts) new = parameter-read k rs r (omega arith) t (new .0) s (parameter-word s (r .type) e t)

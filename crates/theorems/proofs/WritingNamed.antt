@@ -26,7 +26,7 @@ use Rattle.theorems.specs.Accepted.{namesBefore, RulesHold}
 use Rattle.theorems.specs.RoundTrip.{AlikeButNames, OnlyNamesFilled, NamesMade, MadeOneWay, RegistersNamed, BlocksNamed, AllApart, NamesDiffer, StillAccepted}
 use Rattle.theorems.proofs.AcceptanceCheck.{Sound, sound-parts, sound-apart, parts-sound-among}
 use Rattle.theorems.proofs.Accepted.{accepted-exactly}
-use Rattle.theorems.proofs.NamesApart.{rows-alike, registers-alike, blocks-alike, all-rows-alike, range-alike, breaks-alike, missing-alike}
+use Rattle.theorems.proofs.WritingAlike.{rows-alike, registers-alike, blocks-alike, all-rows-alike, range-alike, breaks-alike, missing-alike}
 use Rattle.theorems.proofs.WritingDeclared.{distinct-at, at-distinct}
 use Rattle.theorems.proofs.WritingMade.{Prefix, made-apart, made-spelled, Wants, Gives, wants-none, numberAt, entitled-length, name-given, name-made, number-free, number-rises, number-most, number-smallest}
 
@@ -36,7 +36,9 @@ use Rattle.theorems.proofs.WritingMade.{Prefix, made-apart, made-spelle
 abbrev Titled : (ℕ → Type 0) → List (List ℕ) → List Title → ℕ → Type 0
 Titled Unnamed kept ts i = (Unnamed i × Wants ts i) ⊎ ((Unnamed i → ⊥) × Gives ts i (getD kept i []))
 
-module _ (prefix : List ℕ) (Unnamed : ℕ → Type 0) (kept : List (List ℕ)) (ts : List Title) (count : length ts ≡ length kept) (titled : (i : ℕ) → i < length kept → Titled Unnamed kept ts i) where
+module _
+    (prefix : List ℕ) (Unnamed : ℕ → Type 0) (kept : List (List ℕ)) (ts : List Title) (count : length ts ≡ length kept)
+    (titled : (i : ℕ) → i < length kept → Titled Unnamed kept ts i) where
   abbrev filled : List (List ℕ)
   filled = entitled prefix kept 0 ts
 
@@ -153,6 +155,10 @@ made-one-way prefix Unnamed kept a b x y i l u =
 no-bytes : (b : ℕ) (n : List ℕ) → _≡_ {A = List ℕ} (b ∷ n) [] → ⊥
 no-bytes b n e = let z : _≡_ {A = ℕ} 0 1 = cc in omega arith
 
+pub no-bytes-none : (n : List ℕ) → T (empty n) → n ≡ []
+no-bytes-none [] h = refl
+no-bytes-none (b ∷ n) h = absurd h
+
 registers-titled : (ns : List (List ℕ)) (i : ℕ) → i < length ns → Titled (λ i. getD ns i [] ≡ []) ns (map registerTitle ns) i
 registers-titled ns i l = by (getD ns i []) (getD-map registerTitle ns i [] (given []) l)
   where
@@ -164,7 +170,7 @@ registers-titled ns i l = by (getD ns i []) (getD-map registerTitle ns i [] (giv
     by (b ∷ n) e = inr (no-bytes b n, e)
 
 -- "unnamed blocks but entry"
-abbrev Nameless : ℕ → List (List ℕ) → ℕ → Type 0
+abbrev pub Nameless : ℕ → List (List ℕ) → ℕ → Type 0
 Nameless e ns i = (getD ns i [] ≡ []) × (i ≡ e → ⊥)
 
 abbrev blockTitles : ℕ → List (List ℕ) → List Title
@@ -192,20 +198,20 @@ titles-count e ns = length-together-le (blockTitle e) (below (length ns)) ns (om
 
 -- ---- a function
 
-abbrev registersOf : Func → List (List ℕ)
+abbrev pub registersOf : Func → List (List ℕ)
 registersOf f = map (λ r. r .name) (f .registers)
 
-abbrev blocksOf : Func → List (List ℕ)
+abbrev pub blocksOf : Func → List (List ℕ)
 blocksOf f = map (λ b. b .name) (f .blocks)
 
 module _ (f : Func) where
-  registers-made : NamesMade registerPrefix (λ i. getD (registersOf f) i [] ≡ []) (registersOf f) (registerNames f)
+  pub registers-made : NamesMade registerPrefix (λ i. getD (registersOf f) i [] ≡ []) (registersOf f) (registerNames f)
   unfolding registerNames
   registers-made =
       let ns = registersOf f in
       names-made registerPrefix (λ i. getD ns i [] ≡ []) ns (map registerTitle ns) (length-map ns registerTitle) (registers-titled ns)
 
-  blocks-made : NamesMade blockPrefix (Nameless (f .entry) (blocksOf f)) (blocksOf f) (blockNames f)
+  pub blocks-made : NamesMade blockPrefix (Nameless (f .entry) (blocksOf f)) (blocksOf f) (blockNames f)
   unfolding blockNames
   blocks-made =
       let ns = blocksOf f in
@@ -274,7 +280,8 @@ module _ (f : Func) (s : Sound f) where
   unfolding registerNames
   registers-spelled =
       let ns = registersOf f in
-      let kept : Every (λ n. T (spelledOrNone n)) ns = every-map (λ r. r .name) (λ r h. h) (every-all (λ r. spelledOrNone (r .name)) (f .registers) (s .registerNames)) in
+      let kept : Every (λ n. T (spelledOrNone n)) ns =
+      every-map (λ r. r .name) (λ r h. h) (every-all (λ r. spelledOrNone (r .name)) (f .registers) (s .registerNames)) in
       subst⁻¹ (Every (λ n. T (spelledᴺ n))) (registers-are f)
       (every-filled registerPrefix (λ i. getD ns i [] ≡ []) ns (map registerTitle ns) (length-map ns registerTitle) (registers-titled ns) (λ n. T (spelledᴺ n))
       (rw length-map (s .registers)) (made-spelled Prefix.registers)
@@ -285,7 +292,8 @@ module _ (f : Func) (s : Sound f) where
   blocks-spelled =
       let ns = blocksOf f in
       let e = f .entry in
-      let kept : Every (λ n. T (spelledOrNone n)) ns = every-map (λ b. b .name) (λ b h. h) (every-all (λ b. spelledOrNone (b .name)) (f .blocks) (s .blockNames)) in
+      let kept : Every (λ n. T (spelledOrNone n)) ns =
+      every-map (λ b. b .name) (λ b h. h) (every-all (λ b. spelledOrNone (b .name)) (f .blocks) (s .blockNames)) in
       subst⁻¹ (Every (λ n. T (spelledOrNone n))) (blocks-are f)
       (every-filled blockPrefix (Nameless e ns) ns (blockTitles e ns) (titles-count e ns) (blocks-titled e ns) (λ n. T (spelledOrNone n))
       (rw length-map (omega (arith, s .blocks))) (λ n l. spelled-or (madeName blockPrefix n) (made-spelled Prefix.blocks n l))
@@ -317,15 +325,12 @@ module _ (f : Func) (s : Sound f) where
       sym (List·getD-map (λ b. b .name) (g .blocks) e noBlock)
       ∙ blocks-named f .stays e (rw length-map (s .entry)) (λ u. u .1 refl)
       ∙ List·getD-map (λ b. b .name) (f .blocks) e noBlock
-      ∙ none (blockAt f e .name) (s .unnamed)
-    where
-      none : (n : List ℕ) → T (empty n) → n ≡ []
-      none [] h = refl
-      none (x ∷ n) h = absurd h
+      ∙ no-bytes-none (blockAt f e .name) (s .unnamed)
 
   types-known : T (all (λ r. ltb (r .type) typeCount) (g .registers))
   types-known =
-      let kept : Every (λ t. T (ltb t typeCount)) (map (λ r. r .type) (f .registers)) = every-map (λ r. r .type) (λ r h. h) (every-all (λ r. ltb (r .type) typeCount) (f .registers) (s .types)) in
+      let kept : Every (λ t. T (ltb t typeCount)) (map (λ r. r .type) (f .registers)) =
+      every-map (λ r. r .type) (λ r h. h) (every-all (λ r. ltb (r .type) typeCount) (f .registers) (s .types)) in
       all-every (λ r. ltb (r .type) typeCount) (every-unmap (λ r. r .type) (g .registers) (subst⁻¹ (Every (λ t. T (ltb t typeCount))) (alike .types) kept))
 
   sound-named : Sound g
@@ -350,7 +355,9 @@ module _ (f : Func) (s : Sound f) where
         entry = rw blocks (s .entry);
         unnamed = rw entry-unnamed tt;
         name = s .name;
-        registerNames = all-every (λ r. spelledOrNone (r .name)) (every-imp (λ r h. spelled-or (r .name) h) (every-unmap (λ r. r .name) (g .registers) registers-spelled));
+        registerNames =
+            all-every (λ r. spelledOrNone (r .name))
+            (every-imp (λ r h. spelled-or (r .name) h) (every-unmap (λ r. r .name) (g .registers) registers-spelled));
         blockNames = all-every (λ b. spelledOrNone (b .name)) (every-unmap (λ b. b .name) (g .blocks) blocks-spelled);
         registersDistinct = at-distinct (registersOf g) registers-apart;
         blocksDistinct = at-distinct (blocksOf g) blocks-apart;
@@ -362,7 +369,10 @@ rules-named names f h =
       head = parts-sound-among names g (sound-named f (sound-parts names f (h .head))) own;
       filled = λ b l. subst⁻¹ (λ (rs : List Row). 0 < length rs) (rows b) (h .filled b (omega (arith, blocks-alike f g alike)));
       rows = λ b j l. breaks-alike f g alike (spotAt g b j) ∙ ap (breaksRow f) (spot b j) ∙ h .rows b j (inside b j l);
-      paths = λ b j l m x. h .paths b j (inside b j l) (subst (λ (n : ℕ). T (eqb n 1)) (alike .ssa) m) (subst (Missing f) (spot b j) (missing-alike f g alike (spotAt g b j) x));
+      paths =
+          λ b j l m x.
+          h .paths b j (inside b j l) (subst (λ (n : ℕ). T (eqb n 1)) (alike .ssa) m)
+          (subst (Missing f) (spot b j) (missing-alike f g alike (spotAt g b j) x));
     }
   where
     g : Func

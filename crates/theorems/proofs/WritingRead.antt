@@ -16,7 +16,7 @@ use Rattle.language.specs.Bytes.{Class, classOf, leftParen, rightParen, leftBra
 use Rattle.language.specs.Instructions.{void, loadType}
 use Rattle.language.specs.Arithmetic.{meaning}
 use Rattle.language.specs.Names.{spelled}
-use Rattle.language.specs.Programs.{Row, Block, Func, Program, noRegister, noBlock, blockAt, isSsa, targetsOf, namedBy, maxText, maxFunctions, maxRegisters}
+use Rattle.language.specs.Programs.{Row, Register, Block, Func, Program, noRegister, noBlock, blockAt, isSsa, targetsOf, namedBy, maxText, maxFunctions, maxRegisters}
 use Rattle.language.specs.Checking.{spelledOrNone}
 use Rattle.language.specs.Tokens.{Token, tokensOf}
 use Rattle.language.specs.Grammar.{Stage, gram}
@@ -25,7 +25,7 @@ use Rattle.language.proofs.ReadingLaws.{read-by-tokens}
 use Rattle.language.specs.Writing.{parted, inParens, registerToken, blockToken, typeToken, resultToken, meantToken, numberToken, targetPart, operandPart, ssaPart, parameterPart, registerLine, rowLine, blockLines, headLine, functionLines, linesOf, tokens, textOf, closing}
 use Rattle.theorems.specs.RoundTrip.{Finds}
 use Rattle.theorems.proofs.WritingTokens.{Spellable, lexes}
-use Rattle.theorems.proofs.WritingStates.{At, Takes, nothing, after, passes}
+use Rattle.theorems.proofs.WritingStates.{State, At, Takes, nothing, after, passes}
 use Rattle.theorems.proofs.WritingDeclared.{New, Apart}
 use Rattle.theorems.proofs.WritingHeads.{nameOf, functionName, between, headed, titled, list-read, registers-read}
 use Rattle.theorems.proofs.WritingRows.{RowReady}
@@ -61,35 +61,48 @@ module _ {A : Type 0} (name : A → List ℕ) where
   apart-right before [] ys h = rw append-nil h
   apart-right before (x ∷ xs) ys h = rw append-assoc at (apart-right (before ++ (x ∷ [])) xs ys (h .1))
 
+abbrev flat : List (List Token) → List Token
+flat ls = gather (λ l. l) ls
+
 module _ (fs : List Func) (f : Func) (k : FunctionReady f) (new : New functionName (f .name) fs) (room : length fs < maxFunctions) where
-  function-read : Takes (between fs) (gather (λ l. l) (functionLines f)) (between (fs ++ (f ∷ [])))
+  -- The declarations, the first n of these registers being parameters.
+  abbrev declaring : ℕ → List Register → State
+  declaring n rs = headed fs (f .name) (f .ssa) (f .result) Stage.declarations n rs
+
+  -- The blocks are read, as drafts.
+  abbrev read-blocks : State
+  read-blocks = atBlock fs f (k .registers) Stage.blocks (draftedBlocks 0 (f .blocks)) (mentions f (rowsIn (f .blocks)))
+
+  closing-facts : Closing fs f (k .registers)
+  closing-facts = record { placed = k .placed; names = k .rooms .names; entry = k .entry; unnamed = k .unnamed; named = k .named; room = room }
+
+  function-read : Takes (between fs) (flat (functionLines f)) (between (fs ++ (f ∷ [])))
   unfolding functionLines headLine
   function-read =
       let ps = takeN (f .params) (f .registers) in
       let rest = drop (f .params) (f .registers) in
+      let body = gather (blockLines f) (f .blocks) in
       let joined : ps ++ rest ≡ f .registers = take-append-drop (f .params) (f .registers) in
       let count : length ps ≡ f .params = length-take-le (f .params) (f .registers) (k .params) in
       let counts : length (f .registers) ≡ length ps + length rest = ap length (sym joined) ∙ length-append ps rest in
       let types : Every (λ r. r .type < 10) (ps ++ rest) = rw joined (k .types) in
       let names : Apart nameOf [] (ps ++ rest) = rw joined (k .registers) in
-      let head : Takes (between fs) (headLine f) (headed fs (f .name) (f .ssa) (f .result) Stage.declarations (length ps) ps) =
+      let head : Takes (between fs) (headLine f) (declaring (length ps) ps) =
       titled fs (f .name) (f .ssa) (f .result) room (k .ssa) (k .result) new _ _
       (list-read fs (f .name) (f .ssa) (f .result) ps (omega (arith, k .registerCount)) (every-left ps rest types) (apart-left nameOf [] ps rest names)) in
-      let registers : Takes (headed fs (f .name) (f .ssa) (f .result) Stage.declarations (length ps) ps) (gather (λ l. l) (map registerLine rest)) (headed fs (f .name) (f .ssa) (f .result) Stage.declarations (length ps) (ps ++ rest)) =
-      registers-read fs (f .name) (f .ssa) (f .result) (length ps) ps rest (omega (arith, k .registerCount)) (every-right ps rest types) (apart-right nameOf [] ps rest names) in
-      let declared : Takes (headed fs (f .name) (f .ssa) (f .result) Stage.declarations (length ps) ps) (gather (λ l. l) (map registerLine rest)) (headed fs (f .name) (f .ssa) (f .result) Stage.declarations (f .params) (f .registers)) =
-      subst (λ (n : ℕ). Takes (headed fs (f .name) (f .ssa) (f .result) Stage.declarations (length ps) ps) (gather (λ l. l) (map registerLine rest)) (headed fs (f .name) (f .ssa) (f .result) Stage.declarations n (f .registers))) count
-      (rw joined at registers) in
-      let closing-facts : Closing fs f (k .registers) =
-      record { placed = k .placed; names = k .rooms .names; entry = k .entry; unnamed = k .unnamed; named = k .named; room = room } in
+      let registers : Takes (declaring (length ps) ps) (flat (map registerLine rest)) (declaring (length ps) (ps ++ rest)) =
+      registers-read fs (f .name) (f .ssa) (f .result) (length ps) ps rest (omega (arith, k .registerCount)) (every-right ps rest types)
+      (apart-right nameOf [] ps rest names) in
+      let declared : Takes (declaring (length ps) ps) (flat (map registerLine rest)) (declaring (f .params) (f .registers)) =
+      subst (λ (n : ℕ). Takes (declaring (length ps) ps) (flat (map registerLine rest)) (declaring n (f .registers))) count (rw joined at registers) in
       let some : 0 < length (f .blocks) = omega (arith, k .entry) in
-      let split : gather (λ l. l) (map registerLine rest ++ (gather (blockLines f) (f .blocks) ++ (closing ∷ []))) ≡ gather (λ l. l) (map registerLine rest) ++ (gather (λ l. l) (gather (blockLines f) (f .blocks)) ++ closing) =
-      gather-append (λ l. l) (map registerLine rest) (gather (blockLines f) (f .blocks) ++ (closing ∷ []))
-      ∙ ap (λ (t : List Token). gather (λ l. l) (map registerLine rest) ++ t) (gather-append (λ l. l) (gather (blockLines f) (f .blocks)) (closing ∷ [])) in
+      let split : flat (map registerLine rest ++ (body ++ (closing ∷ []))) ≡ flat (map registerLine rest) ++ (flat body ++ closing) =
+      gather-append (λ l. l) (map registerLine rest) (body ++ (closing ∷ []))
+      ∙ ap (λ (t : List Token). flat (map registerLine rest) ++ t) (gather-append (λ l. l) body (closing ∷ [])) in
       after (headLine f) _ _ _ _ head
       (rw split
-      (after (gather (λ l. l) (map registerLine rest)) _ _ _ _ declared
-      (after (gather (λ l. l) (gather (blockLines f) (f .blocks))) closing _ (atBlock fs f (k .registers) Stage.blocks (draftedBlocks 0 (f .blocks)) (mentions f (rowsIn (f .blocks)))) _
+      (after (flat (map registerLine rest)) _ _ _ _ declared
+      (after (flat body) closing _ read-blocks _
       (all-blocks fs f (k .registers) (f .blocks) some (k .blocks) (k .rooms)) (closed fs f (k .registers) closing-facts))))
 
 functions-read :
@@ -97,14 +110,14 @@ functions-read :
     → Every FunctionReady rest
     → Apart functionName fs rest
     → length fs + length rest ≤ maxFunctions
-    → Takes (between fs) (gather (λ l. l) (gather functionLines rest)) (between (fs ++ rest))
+    → Takes (between fs) (flat (gather functionLines rest)) (between (fs ++ rest))
 functions-read [] fs h new room = rw append-nil (nothing (between fs))
 functions-read (f ∷ rest) fs (every-cons k h) new room =
     let count : length (fs ++ (f ∷ [])) ≡ length fs + 1 = length-append fs (f ∷ []) in
-    let later : Takes (between (fs ++ (f ∷ []))) (gather (λ l. l) (gather functionLines rest)) (between (fs ++ (f ∷ []) ++ rest)) =
+    let later : Takes (between (fs ++ (f ∷ []))) (flat (gather functionLines rest)) (between (fs ++ (f ∷ []) ++ rest)) =
     functions-read rest (fs ++ (f ∷ [])) h (new .1) (omega (arith, count)) in
     rw (gather-append (λ l. l) (functionLines f) (gather functionLines rest))
-    (after (gather (λ l. l) (functionLines f)) _ _ _ _ (function-read fs f k (new .0) (omega arith)) (rw append-assoc at later))
+    (after (flat (functionLines f)) _ _ _ _ (function-read fs f k (new .0) (omega arith)) (rw append-assoc at later))
 
 pub record ProgramReady (p : Program) : Type 0 where
   pub functions : Every FunctionReady p
@@ -113,7 +126,14 @@ pub record ProgramReady (p : Program) : Type 0 where
 
 -- ---- spelling
 
-marks-classed : (classOf leftParen ≡ Class.mark) × (classOf rightParen ≡ Class.mark) × (classOf leftBrace ≡ Class.mark) × (classOf rightBrace ≡ Class.mark) × (classOf comma ≡ Class.mark) × (classOf semicolon ≡ Class.mark) × (classOf equals ≡ Class.mark)
+marks-classed :
+    (classOf leftParen ≡ Class.mark)
+    × (classOf rightParen ≡ Class.mark)
+    × (classOf leftBrace ≡ Class.mark)
+    × (classOf rightBrace ≡ Class.mark)
+    × (classOf comma ≡ Class.mark)
+    × (classOf semicolon ≡ Class.mark)
+    × (classOf equals ≡ Class.mark)
 unfolding classOf
 marks-classed = (refl, refl, refl, refl, refl, refl, refl)
 
@@ -196,7 +216,8 @@ module _ (f : Func) (k : FunctionReady f) where
       → Every (λ b. b < length (f .blocks)) (gather namedBy rs)
       → Every (Every Spellable) (map (rowLine f) rs)
   rows-spelled [] h n = every-nil
-  rows-spelled (r ∷ rs) (every-cons l h) n = every-cons (row-spelled r l (every-left (namedBy r) (gather namedBy rs) n)) (rows-spelled rs h (every-right (namedBy r) (gather namedBy rs) n))
+  rows-spelled (r ∷ rs) (every-cons l h) n =
+      every-cons (row-spelled r l (every-left (namedBy r) (gather namedBy rs) n)) (rows-spelled rs h (every-right (namedBy r) (gather namedBy rs) n))
 
   closing-spelled : Every Spellable closing
   closing-spelled = one (marks-classed .3)
@@ -222,7 +243,8 @@ module _ (f : Func) (k : FunctionReady f) where
   function-spelled =
       let ps = takeN (f .params) (f .registers) in
       let rest = drop (f .params) (f .registers) in
-      let facts : Every (λ r. (r .type < 10) × T (spelled (r .name))) (ps ++ rest) = rw (take-append-drop (f .params) (f .registers)) (every-both (k .types) (k .registerNames)) in
+      let facts : Every (λ r. (r .type < 10) × T (spelled (r .name))) (ps ++ rest) =
+      rw (take-append-drop (f .params) (f .registers)) (every-both (k .types) (k .registerNames)) in
       every-cons
       (every-cons (lit< tt)
       (every-append (ssa-spelled f)
@@ -249,7 +271,8 @@ pub program-read : (p : Program) → ProgramReady p → length (textOf p) ≤ ma
 unfolding tokens linesOf Takes take gram perform
 program-read p k h =
     let whole : Takes (between []) (tokens p ++ (Token.end ∷ [])) (between p) =
-    after (tokens p) (Token.end ∷ []) _ (between p) _ (functions-read p [] (k .functions) (k .names) (omega (arith, k .count))) (passes (between p) Stage.top Token.end refl) in
+    after (tokens p) (Token.end ∷ []) _ (between p) _ (functions-read p [] (k .functions) (k .names) (omega (arith, k .count)))
+    (passes (between p) Stage.top Token.end refl) in
     let at : At (between p) (foldl take parse₀ (tokensOf (textOf p))) =
     whole parse₀ (record { mentions = []; names = refl; reads = refl }) (tokensOf (textOf p)) (program-found p k) in
     read-by-tokens (textOf p) h ∙ ap finish (at .reads)

@@ -63,8 +63,10 @@ resolve-blocks bs pre post (k ∷ ks) e =
     let now = gather namedBy (k .rows) in
     let later = gather namedBy (rowsIn ks) in
     let split : gather namedBy (k .rows ++ rowsIn ks) ≡ now ++ later = gather-append namedBy (k .rows) (rowsIn ks) in
-    let here : bs ≡ pre ++ (now ++ (later ++ post)) = e ∙ ap (λ (l : List ℕ). pre ++ (l ++ post)) split ∙ ap (λ (l : List ℕ). pre ++ l) (append-assoc now later post) in
-    let on : map (resolveBlock bs) (draftedBlocks (length (pre ++ now)) ks) ≡ ks = resolve-blocks bs (pre ++ now) post ks (here ∙ sym (append-assoc pre now (later ++ post))) in
+    let here : bs ≡ pre ++ (now ++ (later ++ post)) =
+    e ∙ ap (λ (l : List ℕ). pre ++ (l ++ post)) split ∙ ap (λ (l : List ℕ). pre ++ l) (append-assoc now later post) in
+    let on : map (resolveBlock bs) (draftedBlocks (length (pre ++ now)) ks) ≡ ks =
+    resolve-blocks bs (pre ++ now) post ks (here ∙ sym (append-assoc pre now (later ++ post))) in
     let rows : map (resolveRow bs) (draftedRows (length pre) (k .rows)) ≡ k .rows = resolve-rows bs pre (later ++ post) (k .rows) here in
     let rest : map (resolveBlock bs) (draftedBlocks (length pre + length now) ks) ≡ ks = rw length-append at on in
     λ i. record { name = k .name; rows = rows i } ∷ rest i
@@ -117,7 +119,8 @@ module _ (fs : List Func) (F : Func) (registers : Apart nameOf [] (F .registers)
     module _ (ms : List Mention) (e : namesOf ms ≡ mentions F (rowsIn (F .blocks))) where
       known : map (λ m. blockNumber f (m .name)) ms ≡ gather namedBy (rowsIn (F .blocks))
       known =
-          sym (map-map (blockNumber f) (λ m. m .name) ms) ∙ ap (map (blockNumber f)) (e ∙ sym (map-gather (λ b. blockAt F b .name) namedBy (rowsIn (F .blocks))))
+          sym (map-map (blockNumber f) (λ m. m .name) ms)
+          ∙ ap (map (blockNumber f)) (e ∙ sym (map-gather (λ b. blockAt F b .name) namedBy (rowsIn (F .blocks))))
           ∙ map-map (blockNumber f) (λ b. blockAt F b .name) (gather namedBy (rowsIn (F .blocks)))
           ∙ map-fixed (λ b. blockNumber f (blockAt F b .name)) (every-imp number (c .named))
 

@@ -68,7 +68,8 @@ forms-known = tt
 
 no-unknown : (op : ℕ) → op < 36 → formOf op ≡ Form.unknown → ⊥
 unfolding unknown-form
-no-unknown op h e = subst (λ (f : Form). T (not (unknown-form f))) e (every-below-at 36 (every-all (λ n. not (unknown-form (formOf n))) (below 36) forms-known) op h)
+no-unknown op h e =
+    subst (λ (f : Form). T (not (unknown-form f))) e (every-below-at 36 (every-all (λ n. not (unknown-form (formOf n))) (below 36) forms-known) op h)
 
 first : {P : ℕ → Type 0} {x : ℕ} {xs : List ℕ} → Every P (x ∷ xs) → P x
 first (every-cons p h) = p
@@ -96,7 +97,8 @@ module _ (fs : List Func) (F : Func) (apart : Apart nameOf [] (F .registers)) wh
 
   module _ (bs : List Block) (nm : List ℕ) (rows : List Row) where
     open-rows : gather (λ (b : Block). b .rows) (bs ++ (record { name = nm; rows = rows } ∷ [])) ≡ gather (λ (b : Block). b .rows) bs ++ rows
-    open-rows = gather-append (λ (b : Block). b .rows) bs (record { name = nm; rows = rows } ∷ []) ∙ ap (λ (r : List Row). gather (λ (b : Block). b .rows) bs ++ r) (append-nil rows)
+    open-rows =
+        gather-append (λ (b : Block). b .rows) bs (record { name = nm; rows = rows } ∷ []) ∙ ap (λ (r : List Row). gather (λ (b : Block). b .rows) bs ++ r) (append-nil rows)
 
     rows-now :
         (s : Stage) (ns : List (List ℕ)) (x : Parts) (ms : List Mention)
@@ -233,7 +235,8 @@ module _ (fs : List Func) (F : Func) (apart : Apart nameOf [] (F .registers)) wh
         unfolding gram
         some-entries es e [] room (every-cons h hs) = entry-read es e (omega arith) h
         some-entries es e (u ∷ rest) room (every-cons h hs) =
-            let fits : entriesIn (gather (λ b. b .rows) bs ++ rows) + (length (es ++ (e ∷ [])) + suc (length rest)) ≤ maxEntries = simp length-append (omega arith) in
+            let fits : entriesIn (gather (λ b. b .rows) bs ++ rows) + (length (es ++ (e ∷ [])) + suc (length rest)) ≤ maxEntries =
+            simp length-append (omega arith) in
             let later : Takes (on Stage.entry (listing (es ++ (e ∷ [])))) (registersPart F (u ∷ rest)) (on Stage.entryEnd (listing (es ++ (e ∷ []) ++ (u ∷ rest)))) =
             some-entries (es ++ (e ∷ [])) u rest fits hs in
             then _ (on Stage.entryEnd (listing (es ++ (e ∷ [])))) _ _ _ (entry-read es e (omega arith) h)

@@ -74,7 +74,8 @@ module _ (c : ℕ) (space : classOf c ≡ Class.space) where
 
   space-on : {us : List Token} (x : Lexed) → Between us x → Between us (lexMore x c)
   space-on {us} x k =
-      let e : lexMore x c ≡ also x (quiet (begun Mode.between (x .lexer .next))) = more-is x c Mode.between (k .mode) ∙ ap (also x) (begin-space (x .lexer .next)) in
+      let e : lexMore x c ≡ also x (quiet (begun Mode.between (x .lexer .next))) =
+      more-is x c Mode.between (k .mode) ∙ ap (also x) (begin-space (x .lexer .next)) in
       record { mode = ap (λ (y : Lexed). y .lexer .mode) e; found = subst⁻¹ (λ (y : Lexed). Finds us (y .found)) e (still (x .found) (k .found)) }
 
   -- what is open ends
@@ -103,7 +104,8 @@ module _ (c : ℕ) (space : classOf c ≡ Class.space) where
   digit-no = rw space
 
   x-no : eqb c letterX ≡ false
-  x-no = ne-eqb c letterX (λ e. absurd (let z : _≡_ {A = Class} Class.space Class.letter = sym space ∙ ap classOf e ∙ x-letter in let y : _≡_ {A = ℕ} 0 1 = cc in omega arith))
+  x-no =
+      ne-eqb c letterX (λ e. absurd (let z : _≡_ {A = Class} Class.space Class.letter = sym space ∙ ap classOf e ∙ x-letter in let y : _≡_ {A = ℕ} 0 1 = cc in omega arith))
 
   number-ends : {s : Bool} {v : ℕ} {us : List Token} (x : Lexed) → Counting s v us x → Between (us ++ (Token.number s v ∷ [])) (lexMore x c)
   unfolding endsNumber
@@ -282,7 +284,11 @@ first-on b us x k r = by (classOf b) refl r
     by Class.other e r = absurd r
 
 spells-all :
-    (n : List ℕ) (us : List Token) (x : Lexed) → Between us x → length n ≤ maxName → T (right (foldl spell Spelling.none n)) → (foldl spell Spelling.none n ≡ Spelling.none → ⊥)
+    (n : List ℕ) (us : List Token) (x : Lexed)
+    → Between us x
+    → length n ≤ maxName
+    → T (right (foldl spell Spelling.none n))
+    → (foldl spell Spelling.none n ≡ Spelling.none → ⊥)
     → Stands (foldl spell Spelling.none n) n us (foldl lexMore x n)
 spells-all [] us x k h r ne = absurd (ne refl)
 spells-all (b ∷ bs) us x k h r ne = by (ltb b 256) r
@@ -387,7 +393,8 @@ module _ (c : ℕ) (space : classOf c ≡ Class.space) (us : List Token) (x : Le
 
   mark-then : (b : ℕ) → classOf b ≡ Class.mark → Between (us ++ (Token.mark b ∷ [])) (lexMore (lexMore x b) c)
   mark-then b h =
-      let e : lexMore x b ≡ also x (finds (token (x .lexer .next) (Token.mark b)) (begun Mode.between (x .lexer .next))) = begin-is x b (k .mode) Class.mark h in
+      let e : lexMore x b ≡ also x (finds (token (x .lexer .next) (Token.mark b)) (begun Mode.between (x .lexer .next))) =
+      begin-is x b (k .mode) Class.mark h in
       space-on c space (lexMore x b)
       (record {
         mode = ap (λ (y : Lexed). y .lexer .mode) e;
@@ -548,7 +555,8 @@ line-on (t ∷ []) us x (every-cons p h) k = token-then lineFeed feed-class us x
 line-on (t ∷ (u ∷ ts)) us x (every-cons p h) k =
     let y = foldl lexMore x (bytesFor t ++ (spaceByte ∷ [])) in
     let g : Between (us ++ (t ∷ [])) y = token-then spaceByte space-class us x k t p in
-    let joined : bytesFor t ++ (spaceByte ∷ []) ++ lineBytes (u ∷ ts) ≡ bytesFor t ++ (spaceByte ∷ lineBytes (u ∷ ts)) = append-assoc (bytesFor t) (spaceByte ∷ []) (lineBytes (u ∷ ts)) in
+    let joined : bytesFor t ++ (spaceByte ∷ []) ++ lineBytes (u ∷ ts) ≡ bytesFor t ++ (spaceByte ∷ lineBytes (u ∷ ts)) =
+    append-assoc (bytesFor t) (spaceByte ∷ []) (lineBytes (u ∷ ts)) in
     let r : Between (us ++ (t ∷ []) ++ (u ∷ ts)) (foldl lexMore y (lineBytes (u ∷ ts))) = line-on (u ∷ ts) (us ++ (t ∷ [])) y h g in
     rw (← joined, foldl-append) (rw append-assoc at r)
 

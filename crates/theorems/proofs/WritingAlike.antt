@@ -5,7 +5,7 @@ use mathlib.Core.List.{List, [], _∷_, _++_, map}
 use mathlib.Core.Path.{_≡_, refl, sym, _∙_, ap, subst}
 use Prim.Native.Nat.{ℕ, zero, suc, _+_, _-_, _^_}
 use lib.Dec.{T, eqb, ltb}
-use lib.ListN.{length, getD, take, drop, replicate, length-map, List·getD-map}
+use lib.ListN.{length, getD, set, take, drop, replicate, length-map, List·getD-map}
 use Rattle.laws.specs.Lists.{any, all, keep, position, empty, gather, sum, below, member, together}
 use Rattle.language.specs.Instructions.{width, loadType, uint, void}
 use Rattle.language.specs.Arithmetic.{unaryOf, binaryOf}
@@ -179,7 +179,7 @@ module _ (f g : Func) (h : AlikeButNames f g) where
   unfolding perform
   perform-alike p v Row.nop = refl
   perform-alike p v (Row.load op t n) = refl
-  perform-alike p v (Row.unary op t s) = λ i. onward p (lib.ListN.set v t (unaryOf op (type-alike s i) (type-alike t i) (valueAt v s)))
+  perform-alike p v (Row.unary op t s) = λ i. onward p (set v t (unaryOf op (type-alike s i) (type-alike t i) (valueAt v s)))
   perform-alike p v (Row.binary op t l r) = λ i. assign p v t (binaryOf op (type-alike l i) (valueAt v l) (valueAt v r))
   perform-alike p v (Row.phi t es) = phi-alike p v
   perform-alike p v (Row.jump b) = refl
@@ -197,7 +197,8 @@ module _ (f g : Func) (h : AlikeButNames f g) where
 
   step-alike : (p : Place) (v : List ℕ) → step g p v ≡ step f p v
   unfolding step
-  step-alike p v = perform-at-alike p v (drop (p .row) (rowsAt g (p .block))) ∙ ap (λ (rs : List Row). performAt f p v (drop (p .row) rs)) (rows-alike (p .block))
+  step-alike p v =
+      perform-at-alike p v (drop (p .row) (rowsAt g (p .block))) ∙ ap (λ (rs : List Row). performAt f p v (drop (p .row) rs)) (rows-alike (p .block))
 
   after-alike : (n : ℕ) (p : Place) (v : List ℕ) → after n g p v ≡ after n f p v
   unfolding after
@@ -209,7 +210,8 @@ module _ (f g : Func) (h : AlikeButNames f g) where
       by :
           (x : Next)
           → ((q : Place) (w : List ℕ) → after n g q w ≡ after n f q w)
-          → _≡_ {A = Run} (elim x [ Next.go q w ↦ after n g q w | Next.end o ↦ Run.ended o (counted p) v ]) (elim x [ Next.go q w ↦ after n f q w | Next.end o ↦ Run.ended o (counted p) v ])
+          → _≡_ {A = Run} (elim x [ Next.go q w ↦ after n g q w | Next.end o ↦ Run.ended o (counted p) v ])
+          (elim x [ Next.go q w ↦ after n f q w | Next.end o ↦ Run.ended o (counted p) v ])
       by (Next.go q w) ih = ih q w
       by (Next.end o) ih = refl
 
