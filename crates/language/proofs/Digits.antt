@@ -12,7 +12,7 @@ use Rattle.language.specs.Bytes.{digitZero}
 use Rattle.language.specs.Listing.{digits, digitsWithin}
 
 -- The number that digits stand for.
-abbrev value : List ℕ → ℕ
+abbrev pub value : List ℕ → ℕ
 value ds = foldl (λ v b. 10 * v + (b - digitZero)) 0 ds
 
 -- What holds of the digits of a tenth and of one digit more holds of all digits.
@@ -36,7 +36,7 @@ module _ (P : ℕ → List ℕ → Type 0) (one : (n : ℕ) → n < 10 → P n (
   unfolding digits
   digits-by n = within n n (omega arith)
 
-value-digits : (n : ℕ) → value (digits n) ≡ n
+pub value-digits : (n : ℕ) → value (digits n) ≡ n
 value-digits =
     digits-by (λ n ds. value ds ≡ n) (λ n h. omega arith)
     (λ n ds h e. foldl-append (λ v b. 10 * v + (b - digitZero)) 0 ds ((digitZero + n % 10) ∷ []) ∙ omega (arith, e, div-add-mod n 10))

@@ -1,18 +1,64 @@
--- A load's number, written by meaning, is read as itself. Assumes nothing.
+-- Numbers in the text: shortest decimals; and a load's number, written by meaning, is read as itself. Assumes nothing.
 use mathlib.Core.Bool.{Bool, true, false, cond}
-use mathlib.Core.Path.{_≡_, refl}
-use Prim.Native.Nat.{ℕ, zero, suc, _-_, _*_, _%_, _^_, _≤_, _<_}
-use native.Mathlib.Nat.{mod-eq-of-lt}
+use mathlib.Core.List.{List, [], _∷_, foldl}
+use mathlib.Core.Path.{_≡_, refl, subst}
+use Prim.Native.Nat.{ℕ, zero, suc, _+_, _-_, _*_, _%_, _^_, _≤_, _<_}
+use native.Mathlib.Nat.{not-suc-le-zero, mod-eq-of-lt, mod-lt, zero-add, add-zero}
 use native.Mathlib.Omega.{arith}
-use lib.Dec.{ltb, leb}
+use lib.Dec.{T, ltb, leb, le→leb, lt→ltb, ltb→lt, lit<}
+use lib.Ieee.Fits.{and-l, and-r, and-i}
+use lib.ListN.{length}
 use lib.IntN.{pos, negℤ}
 use lib.Pow.{pow-pos}
 use borrow.Author.Tests.{lt-ltb, le-leb, leb-true, leb-false}
+use Rattle.laws.specs.Lists.{all}
+use Rattle.laws.proofs.Appending.{all-snoc}
+use Rattle.language.specs.Bytes.{digitZero}
 use Rattle.language.specs.Instructions.{width, signed}
 use Rattle.language.specs.Arithmetic.{meaning}
 use Rattle.language.specs.Tokens.{Token}
 use Rattle.language.specs.Reading.{inRange, bitsOf}
+use Rattle.language.specs.Listing.{digits}
 use Rattle.language.specs.Writing.{meantToken, numberToken}
+use Rattle.language.proofs.Digits.{digits-by, value-digits, digits-short}
+use Rattle.theorems.specs.RoundTrip.{isDecimal, worth, ShortestNumbers}
+
+-- ---- shortest decimals
+
+-- digits stand for a number below the power of ten of their count
+worth-below : (ds : List ℕ) → T (all isDecimal ds) → (v m : ℕ) → v < 10 ^ m → foldl (λ v b. 10 * v + (b - digitZero)) v ds < 10 ^ (m + length ds)
+worth-below [] h v m l = rw add-zero l
+worth-below (b ∷ ds) h v m l =
+    let d : b - digitZero < 10 =
+    omega (arith, ltb→lt b (digitZero + 10) (and-r (leb digitZero b) (ltb b (digitZero + 10)) (and-l (isDecimal b) (all isDecimal ds) h))) in
+    let later : foldl (λ v b. 10 * v + (b - digitZero)) (10 * v + (b - digitZero)) ds < 10 ^ (suc m + length ds) =
+    worth-below ds (and-r (isDecimal b) (all isDecimal ds) h) (10 * v + (b - digitZero)) (suc m) (omega arith) in
+    let count : suc m + length ds ≡ m + suc (length ds) = omega arith in
+    rw count at later
+
+one-decimal : (d : ℕ) → d < 10 → T (isDecimal (digitZero + d))
+one-decimal d h =
+    and-i (leb digitZero (digitZero + d)) (ltb (digitZero + d) (digitZero + 10)) (le→leb digitZero (digitZero + d) (omega arith)) (lt→ltb (digitZero + d) (digitZero + 10) (omega arith))
+
+pub shortest-numbers : ShortestNumbers
+shortest-numbers n =
+    record {
+      decimal =
+          digits-by (λ n ds. T (all isDecimal ds)) (λ d h. and-i (isDecimal (digitZero + d)) true (one-decimal d h) tt)
+          (λ n ds big h. all-snoc isDecimal ds (digitZero + n % 10) h (one-decimal (n % 10) (mod-lt n (lit< tt))))
+          n;
+      stands = value-digits n;
+      fewest = fewest;
+    }
+  where
+    fewest : (ds : List ℕ) → 0 < length ds → T (all isDecimal ds) → worth ds ≡ n → length (digits n) ≤ length ds
+    fewest [] l h e = absurd (not-suc-le-zero l)
+    fewest (d ∷ ds) l h e =
+        let below : worth (d ∷ ds) < 10 ^ suc (length ds) =
+        subst (λ (k : ℕ). worth (d ∷ ds) < 10 ^ k) (zero-add (suc (length ds))) (worth-below (d ∷ ds) h 0 0 (omega arith)) in
+        digits-short (length ds) n (subst (λ (v : ℕ). v < 10 ^ suc (length ds)) e below)
+
+-- ---- loads
 
 -- the sign and the magnitude that stand for it
 pub record Meant (t n : ℕ) : Type 0 where

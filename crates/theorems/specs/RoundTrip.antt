@@ -2,13 +2,14 @@
 -- here; over tables and lent buffers, and of a translation, further down.
 -- Assumes nothing.
 use mathlib.Core.Path.{_≡_}
-use mathlib.Core.Bool.{not}
+use mathlib.Core.Bool.{Bool, not, _&&_}
 use mathlib.Core.Logic.{_⊎_, _↔_}
-use mathlib.Core.List.{List, [], _∷_, _++_, map}
-use Prim.Native.Nat.{ℕ, _-_, _≤_, _<_}
-use lib.Dec.{T}
+use mathlib.Core.List.{List, [], _∷_, _++_, map, foldl}
+use Prim.Native.Nat.{ℕ, _+_, _-_, _*_, _≤_, _<_}
+use lib.Dec.{T, leb, ltb}
 use lib.ListN.{length, getD, take, drop}
-use Rattle.laws.specs.Lists.{any}
+use Rattle.laws.specs.Lists.{any, all}
+use Rattle.language.specs.Bytes.{digitZero}
 use Rattle.language.specs.Programs.{Func, Program, functionIn, isPhi, rowsOf, maxText}
 use Rattle.language.specs.Tokens.{Token, Found, token, tokensOf}
 use Rattle.language.specs.Reading.{Reading, read}
@@ -16,12 +17,31 @@ use Rattle.language.specs.Checking.{Verdict, check}
 use Rattle.language.specs.Running.{runOf, argumentsFit}
 use Rattle.language.specs.Table.{tableLength, cells, decode}
 use Rattle.language.specs.Translating.{translation}
+use Rattle.language.specs.Listing.{digits}
 use Rattle.language.specs.Writing.{tokens}
 use Rattle.language.specs.MadeNames.{registerPrefix, blockPrefix, madeName, namedFunction, named, written}
 use Rattle.language.specs.Answers.{Wrote, Shown, zeros, fill, wroteNumbers, checkAnswer, readAnswer, runAnswer, translateAnswer, writeAnswer}
 use Rattle.theorems.specs.TableNeeds.{Needed}
 use Rattle.theorems.specs.Demand3.{RunsAlike}
 use Rattle.theorems.specs.OverTables.{functionInTable, TranslatableIn, RunsAgree}
+
+-- ---- numbers in the text
+
+-- A decimal digit, and the number that digits stand for.
+abbrev pub isDecimal : ℕ → Bool
+isDecimal b = leb digitZero b && ltb b (digitZero + 10)
+
+abbrev pub worth : List ℕ → ℕ
+worth ds = foldl (λ v b. 10 * v + (b - digitZero)) 0 ds
+
+-- "shortest decimal numbers": the digits written stand for the number, and no digits that do are fewer.
+pub record Shortest (n : ℕ) (written : List ℕ) : Type 0 where
+  pub decimal : T (all isDecimal written)
+  pub stands : worth written ≡ n
+  pub fewest : (ds : List ℕ) → 0 < length ds → T (all isDecimal ds) → worth ds ≡ n → length written ≤ length ds
+
+abbrev pub ShortestNumbers : Type 0
+ShortestNumbers = (n : ℕ) → Shortest n (digits n)
 
 -- ---- the text of an accepted program
 
