@@ -1,5 +1,5 @@
--- The round trip (document 02, A1): "Read back, the text gives the same table, cells not needed 0, with the made names filled in." Over programs
--- here; over tables and lent buffers, and of a translation, further down.
+-- The round trip (document 02, A1): "Read back, the text gives the same table, cells not needed 0, with the made names filled in." First over
+-- programs, then over tables and lent buffers, then of a translation.
 -- Assumes nothing.
 use mathlib.Core.Path.{_≡_}
 use mathlib.Core.Bool.{Bool, not, _&&_}
