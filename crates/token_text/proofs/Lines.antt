@@ -8,14 +8,18 @@ use Rattle.language.specs.Tokens.{Token}
 use Rattle.language.specs.Writing.{spaceByte, bytesFor, lineBytes}
 use Rattle.token_text.specs.Spaced.{spaced}
 
+one-more : (u : Token) (ts : List Token) (t : Token) → lineBytes (u ∷ (ts ++ (t ∷ []))) ≡ bytesFor u ++ (spaceByte ∷ lineBytes (ts ++ (t ∷ [])))
+one-more u [] t = refl
+one-more u (v ∷ ts) t = refl
+
 -- the tokens before the last, and the last
 pub line-ends : (ts : List Token) (t : Token) → lineBytes (ts ++ (t ∷ [])) ≡ spaced ts ++ (bytesFor t ++ (lineFeed ∷ []))
 line-ends [] t = refl
-line-ends (u ∷ []) t = sym (append-assoc (bytesFor u) (spaceByte ∷ []) (bytesFor t ++ (lineFeed ∷ [])))
-line-ends (u ∷ (v ∷ ts)) t =
-    ap (λ (l : List ℕ). bytesFor u ++ (spaceByte ∷ l)) (line-ends (v ∷ ts) t)
-    ∙ sym (append-assoc (bytesFor u) (spaceByte ∷ []) _)
-    ∙ sym (append-assoc (bytesFor u ++ (spaceByte ∷ [])) (spaced (v ∷ ts)) _)
+line-ends (u ∷ ts) t =
+    one-more u ts t
+    ∙ ap (λ (l : List ℕ). bytesFor u ++ (spaceByte ∷ l)) (line-ends ts t)
+    ∙ sym (append-assoc (bytesFor u) (spaceByte ∷ []) (spaced ts ++ (bytesFor t ++ (lineFeed ∷ []))))
+    ∙ sym (append-assoc (bytesFor u ++ (spaceByte ∷ [])) (spaced ts) (bytesFor t ++ (lineFeed ∷ [])))
 
 pub spaced-append : (ts us : List Token) → spaced (ts ++ us) ≡ spaced ts ++ spaced us
 spaced-append ts us = gather-append _ ts us
