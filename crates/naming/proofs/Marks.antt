@@ -88,7 +88,7 @@ module _ (prefix t : List ℕ) (at stride : ℕ) where
         position-from (λ j. not (inUse prefix names j)) k (length names) (r - k)
         (omega (arith, n, f .room, m .few, sum-drop-le k marks))
         (λ i h. taken (k + i) (omega (arith, f .within)) (f .before (k + i) (omega arith) (omega arith)))
-        (λ h. open′ (k + (r - k)) (omega (arith, f .from-k)) (f .within) (f .free)) in
+        (λ h. untaken (k + (r - k)) (omega (arith, f .from-k)) (f .within) (f .free)) in
         omega (arith, e, f .from-k)
       where
         taken : (j : ℕ) → j < 512 → (getD marks j 0 ≡ 0 → ⊥) → not (inUse prefix names j) ≡ false
@@ -98,8 +98,8 @@ module _ (prefix t : List ℕ) (at stride : ℕ) where
             by true e = refl
             by false e = absurd (z e)
 
-        open′ : (j : ℕ) → j ≡ r → r < 512 → getD marks r 0 ≡ 0 → not (inUse prefix names j) ≡ true
-        open′ j p h z = rw p (by (inUse prefix names r) (marked-is m r h))
+        untaken : (j : ℕ) → j ≡ r → r < 512 → getD marks r 0 ≡ 0 → not (inUse prefix names j) ≡ true
+        untaken j p h z = rw p (by (inUse prefix names r) (marked-is m r h))
           where
             by : (b : Bool) → getD marks r 0 ≡ cond b 1 0 → not b ≡ true
             by true e = absurd (let q : _≡_ {A = ℕ} 0 1 = sym z ∙ e in omega arith)

@@ -15,6 +15,15 @@ use table::function_entry;
 use table::name_at;
 use table::register_count;
 
+// In a function's cells: the length of its first register's name and of its first block's, and how far the next one is.
+const REGISTER_NAMES: usize = 74;
+
+const REGISTER_CELLS: usize = 66;
+
+const BLOCK_NAMES: usize = 16973;
+
+const BLOCK_CELLS: usize = 69;
+
 // The first byte of `p.` and of `e.`.
 const REGISTER_PREFIX: u8 = 112;
 
@@ -93,7 +102,15 @@ pub fn number_registers(t: &[u8], a: usize, made: &mut [u16])
     ensures { λ r. ⌜ RegistersNumbered (decodeFunction (now (t .entry)) a) (now (made .exit)) ⌝ }
 {
     let count = register_count(t, a);
-    number_names(t, a + 74, 66, count, REGISTER_PREFIX, NO_REGISTER, made);
+    number_names(
+        t,
+        a + REGISTER_NAMES,
+        REGISTER_CELLS,
+        count,
+        REGISTER_PREFIX,
+        NO_REGISTER,
+        made,
+    );
 }
 
 pub fn number_blocks(t: &[u8], a: usize, made: &mut [u16])
@@ -102,5 +119,13 @@ pub fn number_blocks(t: &[u8], a: usize, made: &mut [u16])
 {
     let count = block_count(t, a);
     let entry = function_entry(t, a);
-    number_names(t, a + 16973, 69, count, BLOCK_PREFIX, entry, made);
+    number_names(
+        t,
+        a + BLOCK_NAMES,
+        BLOCK_CELLS,
+        count,
+        BLOCK_PREFIX,
+        entry,
+        made,
+    );
 }

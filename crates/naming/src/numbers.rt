@@ -4,7 +4,7 @@ ghost use Prim.Native.Nat.{_≤_};
 ghost use Rattle.naming.specs.Numbers.{digitFrom, bounded as boundedOf, prefixOf, Numbers};
 use table::wide;
 
-// 256 names use no larger number that matters: 512 stands for every other name.
+// With 256 names at most, no made number reaches 512: it stands for every name that is no made one with a smaller number.
 const OTHER: usize = 512;
 
 const DOT: u8 = 46;
@@ -15,7 +15,7 @@ const ONE: u8 = 49;
 
 const NINE: u8 = 57;
 
-// The number of a digit that is `least` or more.
+// The number of a digit from `least` on.
 fn digit(b: u8, least: u8) -> usize
     requires { ⌜ 48 ≤ least ⌝ }
     ensures { λ r. ⌜ (r ≡ digitFrom least b) × (r ≤ 512) ⌝ }
@@ -29,6 +29,7 @@ fn digit(b: u8, least: u8) -> usize
     wide(b - ZERO)
 }
 
+// No number past OTHER.
 fn bounded(n: usize) -> usize
     ensures { λ r. ⌜ r ≡ boundedOf n ⌝ }
 {
