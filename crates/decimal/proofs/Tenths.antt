@@ -2,13 +2,14 @@
 use mathlib.Core.Bool.{Bool, true, false}
 use mathlib.Core.List.{List, [], _∷_, _++_}
 use mathlib.Core.Path.{_≡_, refl, sym, ap, _∙_}
-use Prim.Native.Nat.{ℕ, zero, suc, _+_, _*_, _/_, _%_, _^_, _≤_, _<_}
+use Prim.Native.Nat.{ℕ, zero, suc, _+_, _/_, _%_, _^_, _≤_, _<_}
 use native.Mathlib.Omega.{arith}
-use lib.Dec.{ltb, lit<}
+use lib.Dec.{ltb}
 use lib.ListN.{length, length-append}
-use borrow.Author.Tests.{lt-ltb, le-ltb, ltb-true, ltb-false}
+use borrow.Author.Tests.{lt-ltb, le-ltb, ltb-false}
 use Rattle.language.specs.Bytes.{digitZero}
 use Rattle.language.specs.Listing.{digits, digitsWithin}
+use Rattle.language.proofs.Digits.{digits-short}
 
 -- one step of the definition, by whether one digit is left
 abbrev step : Bool → ℕ → List ℕ → List ℕ
@@ -47,20 +48,9 @@ digits-more (suc n) h =
     ∙ ap (λ (t : Bool). step t (suc n) (digitsWithin n (suc n / 10))) (le-ltb (suc n) 10 h)
     ∙ ap (step false (suc n)) (within n (suc n / 10) (suc n / 10) (omega arith) (omega arith))
 
--- a number below 10^(k + 1) has at most k + 1 digits
-pub digits-within : (k n : ℕ) → n < 10 ^ suc k → length (digits n) ≤ suc k
-digits-within zero n h = rw (digits-one n h) (omega arith)
-digits-within (suc k) n h = by (ltb n 10) refl (λ l. digits-within k (n / 10) (omega arith))
-  where
-    by : (t : Bool) → ltb n 10 ≡ t → (10 ≤ n → length (digits (n / 10)) ≤ suc k) → length (digits n) ≤ suc (suc k)
-    by true e r = rw (digits-one n (ltb-true n 10 e)) (omega arith)
-    by false e r =
-        let l = r (ltb-false n 10 e) in
-        rw (digits-more n (ltb-false n 10 e)) (simp length-append (omega arith))
-
 -- a number of 64 bits has at most 20
 pub digits-twenty : (n : ℕ) → n < 2 ^ 64 → length (digits n) ≤ 20
-digits-twenty n h = digits-within 19 n (omega arith)
+digits-twenty n h = digits-short 19 n (omega arith)
 
 -- how many they are, step by step
 pub count-one : (n : ℕ) → n < 10 → length (digits n) ≡ 1

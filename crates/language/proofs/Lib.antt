@@ -1,3 +1,4 @@
+pub mod Digits
 pub mod Computing
 pub mod Widths
 pub mod Fitting

@@ -20,7 +20,7 @@ unfolding lexing read readEnd readByte take perform beginFunction markSsa setRes
 reads = tt
 
 -- A text by its lines.
-abbrev lines : List String → List ℕ
+abbrev pub lines : List String → List ℕ
 lines ls = gather (λ l. bytesOf l ++ (10 ∷ [])) ls
 
 -- Document 01's whole function.

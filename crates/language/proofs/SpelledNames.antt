@@ -43,7 +43,8 @@ Sized Spelling.escaping k = 2 ≤ k
 Sized Spelling.closed k = 3 ≤ k
 Sized Spelling.wrong k = Unit {0}
 
-abbrev right : Spelling → Bool
+-- It can still be a name.
+abbrev pub right : Spelling → Bool
 right Spelling.none = true
 right Spelling.plain = true
 right Spelling.opened = true
@@ -126,7 +127,7 @@ module _ (n : List ℕ) (b : ℕ) (f : length n < maxName) where
   on Spelling.closed z r = absurd r
   on Spelling.wrong z r = absurd r
 
-wrong-stays : (bs : List ℕ) → T (right (foldl spell Spelling.wrong bs)) → ⊥
+pub wrong-stays : (bs : List ℕ) → T (right (foldl spell Spelling.wrong bs)) → ⊥
 wrong-stays [] r = r
 wrong-stays (b ∷ bs) r = by (ltb b 256) r (wrong-stays bs)
   where
@@ -135,7 +136,7 @@ wrong-stays (b ∷ bs) r = by (ltb b 256) r (wrong-stays bs)
     by false r h = h r
 
 -- bytes that spell on have done so from the start
-right-before : (s : Spelling) (bs : List ℕ) → T (right (foldl spell s bs)) → T (right s)
+pub right-before : (s : Spelling) (bs : List ℕ) → T (right (foldl spell s bs)) → T (right s)
 right-before Spelling.none bs r = tt
 right-before Spelling.plain bs r = tt
 right-before Spelling.opened bs r = tt

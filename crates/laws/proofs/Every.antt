@@ -59,6 +59,11 @@ module _ {A : Type 0} {P : A → Type 0} where
   every-map f g none = none
   every-map f g (more {x = x} p h) = more (g x p) (every-map f g h)
 
+  -- of elements, from their images
+  pub every-unmap : {B : Type 0} (f : B → A) (xs : List B) → Every P (map f xs) → Every (λ x. P (f x)) xs
+  every-unmap f [] h = none
+  every-unmap f (x ∷ xs) (more p h) = more p (every-unmap f xs h)
+
   -- of the elements that pass a test
   pub every-keep :
       {Q : A → Type 0} (t : A → Bool)
@@ -206,3 +211,8 @@ module _ {A B : Type 0} (g : B → List A) where
   pub empty-every : {ys : List B} → Every (λ y. g y ≡ []) ys → gather g ys ≡ []
   empty-every none = refl
   empty-every (more {xs = ys} p h) = ap (λ (xs : List A). xs ++ gather g ys) p ∙ empty-every h
+
+-- a function that changes none of the elements
+pub map-fixed : {A : Type 0} (f : A → A) {xs : List A} → Every (λ x. f x ≡ x) xs → map f xs ≡ xs
+map-fixed f none = refl
+map-fixed f (more p h) = λ i. p i ∷ map-fixed f h i

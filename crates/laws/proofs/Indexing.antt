@@ -4,7 +4,7 @@ use mathlib.Core.Path.{_≡_, refl, sym, ap, _∙_}
 use mathlib.Core.Bool.{Bool, true, false, cond, _||_, true≢false, false≢true, or-true}
 use mathlib.Core.List.{List, [], _∷_, _++_, map, append-assoc}
 use Prim.Native.Nat.{ℕ, zero, suc, _+_, _≤_, _<_, suc-le-suc}
-use native.Mathlib.Nat.{le-refl, not-suc-le-zero, le-of-suc-le-suc, zero-lt-suc, zero-add, add-zero, add-suc, suc-add}
+use native.Mathlib.Nat.{le-refl, not-suc-le-zero, le-of-suc-le-suc, zero-lt-suc, zero-add, add-zero, add-suc, suc-add, suc-inj}
 use native.Mathlib.Numerals.{add-one}
 use native.Mathlib.Omega.{arith}
 use lib.Dec.{T, ltb, ltb→lt}
@@ -77,6 +77,26 @@ module _ {A B C : Type 0} (g : A → B → C) where
   getD-together d e z [] (y ∷ ys) i l h = absurd (not-suc-le-zero l)
   getD-together d e z (x ∷ xs) (y ∷ ys) zero l h = refl
   getD-together d e z (x ∷ xs) (y ∷ ys) (suc i) l h = getD-together d e z xs ys i (le-of-suc-le-suc l) (le-of-suc-le-suc h)
+
+-- ---- what goes by one of the two lists alone
+
+module _ {A B C : Type 0} (g : A → B → C) where
+  pub map-together-first :
+      {D : Type 0} (f : A → D) (h : C → D)
+      → ((x : A) (y : B) → h (g x y) ≡ f x)
+      → (xs : List A) (ys : List B)
+      → length xs ≡ length ys
+      → map h (together g xs ys) ≡ map f xs
+  map-together-first f h k [] ys e = refl
+  map-together-first f h k (x ∷ xs) [] e = absurd (omega arith)
+  map-together-first f h k (x ∷ xs) (y ∷ ys) e = λ i. k x y i ∷ map-together-first f h k xs ys (suc-inj e) i
+
+  pub map-together-second :
+      (h : C → B) → ((x : A) (y : B) → h (g x y) ≡ y) → (xs : List A) (ys : List B) → length xs ≡ length ys → map h (together g xs ys) ≡ ys
+  map-together-second h k [] [] e = refl
+  map-together-second h k [] (y ∷ ys) e = absurd (omega arith)
+  map-together-second h k (x ∷ xs) [] e = absurd (omega arith)
+  map-together-second h k (x ∷ xs) (y ∷ ys) e = λ i. k x y i ∷ map-together-second h k xs ys (suc-inj e) i
 
 -- ---- a store past the seam
 

@@ -83,7 +83,7 @@ demand3-over-tables t i h = rw (answered t i h) (translated t i h)
 -- ---- runs
 
 -- The answer of a run that is not refused.
-run-answer :
+pub run-answer :
     (t : List ℕ) (i : ℕ) (args : List ℕ) (b c : ℕ)
     → checkAnswer t ≡ Verdict.accepted
     → i < length (decode t)
@@ -113,7 +113,7 @@ together-prefix f (x ∷ xs) ys [] l = refl
 together-prefix f (x ∷ xs) ys (z ∷ zs) l = ap (λ r. f x z ∷ r) (together-prefix f xs ys zs (le-of-suc-le-suc l))
 
 -- Arguments that fit the source fit its translation.
-fits-translation : (f : Func) (args : List ℕ) → f .params ≤ length (f .registers) → T (argumentsFit f args) → T (argumentsFit (translation f) args)
+pub fits-translation : (f : Func) (args : List ℕ) → f .params ≤ length (f .registers) → T (argumentsFit f args) → T (argumentsFit (translation f) args)
 unfolding argumentsFit firstUnfit translation
 fits-translation f args l a =
     let n = eqb→eq (length args) (f .params) (and-l (eqb (length args) (f .params)) (eqb (firstUnfit f args) (length args)) a) in
@@ -155,7 +155,7 @@ module _ (f g : Func) (args : List ℕ) (h : RunsAlike f g args) (i j b b′ : �
       (budget-agrees j g args b′ .ended m u k d)
   compare (Stands.going l) (Stands.going k) = Compared.unended l k (budget-agrees i f args b .going l) (budget-agrees j g args b′ .going k)
 
-  agree : RunsAgree (λ r. r) f g args b b′ x y
+  pub agree : RunsAgree (λ r. r) f g args b b′ x y
   unfolding ranNumbers
   agree =
       record {

@@ -83,7 +83,7 @@ form-back Form.return = refl
 form-back Form.leave = refl
 form-back Form.unknown = refl
 
-same-form : (x y : Form) → formNumber x ≡ formNumber y → x ≡ y
+pub same-form : (x y : Form) → formNumber x ≡ formNumber y → x ≡ y
 same-form x y e = sym (form-back x) ∙ ap formBy e ∙ form-back y
 
 bytes-under : {n : ℕ} {xs : List ℕ} → n ≤ 256 → Every (λ x. x < n) xs → Bytes xs
@@ -131,7 +131,7 @@ row-fits f r s h =
 
 -- ---- functions and programs
 
-true-of : (b : Bool) → T b → b ≡ true
+pub true-of : (b : Bool) → T b → b ≡ true
 true-of true t = refl
 true-of false t = absurd t
 

@@ -6,3 +6,4 @@ pub mod OverTables
 pub mod Clean
 pub mod Accepted
 pub mod Values
+pub mod RoundTrip

@@ -1,0 +1,102 @@
+-- Reading tokens whose places are not told: from one state of the reading to another. Assumes nothing.
+use mathlib.Core.List.{List, [], _∷_, _++_, map, foldl, foldl-append}
+use mathlib.Core.Path.{_≡_, refl, _∙_, ap, subst, subst⁻¹}
+use Prim.Native.Nat.{ℕ, _+_, _-_, _<_}
+use native.Mathlib.Omega.{arith}
+use borrow.Author.Tests.{lt-ltb, le-leb}
+use Rattle.language.specs.Words.{firstType, firstInstruction}
+use Rattle.language.specs.Programs.{Block, Func}
+use Rattle.language.specs.Tokens.{Token, Found, token}
+use Rattle.language.specs.Grammar.{Stage, Act, Move, to, aType, gram}
+use Rattle.language.specs.Reading.{Parts, Mention, Draft, proceed, Parse, draftOf, perform, onward, take}
+use Rattle.theorems.specs.RoundTrip.{Finds, none, more}
+
+-- What is read so far, without the places of the blocks mentioned.
+pub record State : Type 0 where
+  pub stage : Stage
+  pub functions : List Func
+  pub function : Func
+  pub names : List (List ℕ)
+  pub block : Block
+  pub parts : Parts
+
+abbrev pub namesOf : List Mention → List (List ℕ)
+namesOf ms = map (λ m. m .name) ms
+
+abbrev pub draft : State → List Mention → Draft
+draft σ ms = draftOf (σ .functions) (σ .function) ms (σ .block) (σ .parts)
+
+pub record At (σ : State) (x : Parse) : Type 0 where
+  pub mentions : List Mention
+  pub names : namesOf mentions ≡ σ .names
+  pub reads : x ≡ Parse.reading (σ .stage) (draft σ mentions)
+
+-- These tokens lead from one state to the other.
+unfoldable pub Takes : State → List Token → State → Type 0
+Takes σ ts τ = (x : Parse) → At σ x → (fs : List Found) → Finds ts fs → At τ (foldl take x fs)
+
+pub nothing : (σ : State) → Takes σ [] σ
+unfolding Takes
+nothing σ x k fs none = k
+
+-- one token after the other
+pub then : (σ τ υ : State) (t : Token) (ts : List Token) → Takes σ (t ∷ []) τ → Takes τ ts υ → Takes σ (t ∷ ts) υ
+unfolding Takes
+then σ τ υ t ts f g x k fs (more {fs = gs} p h) = g (take x (token p t)) (f x k (token p t ∷ []) (more p none)) gs h
+
+record Split (ts us : List Token) (fs : List Found) : Type 0 where
+  left : List Found
+  right : List Found
+  first : Finds ts left
+  second : Finds us right
+  joined : left ++ right ≡ fs
+
+split : (ts us : List Token) (fs : List Found) → Finds (ts ++ us) fs → Split ts us fs
+split [] us fs h = record { left = []; right = fs; first = none; second = h; joined = refl }
+split (t ∷ ts) us fs (more {fs = gs} p h) =
+    let r = split ts us gs h in
+    record { left = token p t ∷ r .left; right = r .right; first = more p (r .first); second = r .second; joined = ap (λ (l : List Found). token p t ∷ l) (r .joined) }
+
+pub after : (ts us : List Token) (σ τ υ : State) → Takes σ ts τ → Takes τ us υ → Takes σ (ts ++ us) υ
+unfolding Takes
+after ts us σ τ υ f g x k fs h =
+    let r = split ts us fs h in
+    subst (λ (fs : List Found). At υ (foldl take x fs)) (r .joined)
+    (subst⁻¹ (At υ) (foldl-append take x (r .left) (r .right)) (g (foldl take x (r .left)) (f x k (r .left) (r .first)) (r .right) (r .second)))
+
+-- a token whose act changes no mention
+pub step :
+    (σ τ : State) (t : Token) (a : Act)
+    → gram (σ .stage) t ≡ to (τ .stage) a
+    → ((p : ℕ) (ms : List Mention) → namesOf ms ≡ σ .names → perform a p (draft σ ms) ≡ proceed (draft τ ms))
+    → σ .names ≡ τ .names
+    → Takes σ (t ∷ []) τ
+unfolding Takes take
+step σ τ t a e f d x k fs (more p none) =
+    record {
+      mentions = k .mentions;
+      names = k .names ∙ d;
+      reads =
+          ap (λ (x : Parse). take x (token p t)) (k .reads)
+          ∙ ap (λ (m : Move). onward (m .stage) (perform (m .act) p (draft σ (k .mentions)))) e
+          ∙ ap (onward (τ .stage)) (f p (k .mentions) (k .names));
+    }
+
+-- a token that only leads to another stage
+abbrev pub stage-to : State → Stage → State
+stage-to σ s = record { stage = s; functions = σ .functions; function = σ .function; names = σ .names; block = σ .block; parts = σ .parts }
+
+pub passes : (σ : State) (s : Stage) (t : Token) → gram (σ .stage) t ≡ to s Act.pass → Takes σ (t ∷ []) (stage-to σ s)
+unfolding perform
+passes σ s t e = step σ (stage-to σ s) t Act.pass e (λ p ms h. refl) refl
+
+-- such a token, then the others
+pub pass-then :
+    (σ : State) (s : Stage) (υ : State) (t : Token) (ts : List Token) → gram (σ .stage) t ≡ to s Act.pass → Takes (stage-to σ s) ts υ → Takes σ (t ∷ ts) υ
+pass-then σ s υ t ts e f = then σ (stage-to σ s) υ t ts (passes σ s t e) f
+
+-- a type's word
+pub type-word : (k : ℕ → Move) (t : ℕ) → t < 10 → aType k (firstType + t) ≡ k t
+type-word k t h =
+    let back : firstType + t - firstType ≡ t = omega arith in
+    rw (le-leb firstType (firstType + t) (omega arith), lt-ltb (firstType + t) firstInstruction (omega arith), back)

@@ -1,0 +1,579 @@
+-- A text made of spelled tokens, each followed by a space or LF, is lexed to these tokens. Nothing is said of their places.
+-- Assumes nothing.
+use mathlib.Core.Bool.{Bool, true, false, cond, _&&_}
+use mathlib.Core.List.{List, [], _∷_, _++_, foldl, foldl-append, append-assoc, append-nil}
+use mathlib.Core.Logic.{_⊎_, inl, inr, ⊎-elim}
+use mathlib.Core.Path.{_≡_, refl, sym, _∙_, ap, subst, subst⁻¹}
+use Prim.Native.Nat.{ℕ, zero, suc, _+_, _-_, _*_, _/_, _%_, _≤_, _<_}
+use native.Mathlib.Nat.{div-add-mod, mod-lt}
+use native.Mathlib.Omega.{arith}
+use lib.Dec.{T, eqb, ltb, leb, leb→le, eqb→eq, lit<}
+use lib.ListN.{length, getD, length-append}
+use mir.Facts.{and-yes}
+use borrow.Author.Tests.{lt-ltb, eq-eqb, ne-eqb}
+use Rattle.laws.specs.Lists.{all, below, gather}
+use Rattle.laws.proofs.Every.{Every, more as every-cons, every-all, every-below-at}
+use Rattle.language.specs.Bytes.{Class, classOf, nameByte, digitByte, quoteByte, backslash, letterX, digitZero, lineFeed, minus}
+use Rattle.language.specs.Words.{words, wordOf, wordCount}
+use Rattle.language.specs.Names.{Spelling, spell, nextSpelled, firstSpelled, insideQuotes, whole, spelled}
+use Rattle.language.specs.Programs.{maxName}
+use Rattle.language.specs.Listing.{digits}
+use Rattle.language.specs.Tokens.{Token, Found, token, Mode, Lexer, Lexed, lexer₀, quiet, finds, begun, begunName, longerName, longerNumber, begunNumber, digitMode, begin, beginAs, nameOrWord, ended, endedAs, ends, extends, quotes, closes, endsNumber, decimalDigit, stepAs, lexStep, lexEnd, lexMore, tokensOf}
+use Rattle.language.proofs.Digits.{digits-by}
+use Rattle.language.proofs.SpelledNames.{right, wrong-stays, right-before}
+use Rattle.theorems.specs.RoundTrip.{Finds, none, more}
+use Rattle.language.specs.Writing.{bytesFor, lineBytes, spaceByte}
+
+pub finds-append : {ts us : List Token} {fs gs : List Found} → Finds ts fs → Finds us gs → Finds (ts ++ us) (fs ++ gs)
+finds-append none k = k
+finds-append (more p h) k = more p (finds-append h k)
+
+-- ---- states of the lexer, without places
+
+-- Nothing is open.
+record Between (us : List Token) (x : Lexed) : Type 0 where
+  mode : x .lexer .mode ≡ Mode.between
+  found : Finds us (x .found)
+
+-- A name so far.
+record Naming (m : Mode) (n : List ℕ) (us : List Token) (x : Lexed) : Type 0 where
+  mode : x .lexer .mode ≡ m
+  bytes : x .lexer .bytes ≡ n
+  found : Finds us (x .found)
+
+-- A number so far.
+record Counting (s : Bool) (v : ℕ) (us : List Token) (x : Lexed) : Type 0 where
+  mode : (x .lexer .mode ≡ Mode.leadingZero) ⊎ (x .lexer .mode ≡ Mode.decimal)
+  negative : x .lexer .negative ≡ s
+  value : x .lexer .value ≡ v
+  found : Finds us (x .found)
+
+abbrev also : Lexed → Lexed → Lexed
+also x y = record { lexer = y .lexer; found = x .found ++ y .found }
+
+more-is : (x : Lexed) (b : ℕ) (m : Mode) → x .lexer .mode ≡ m → lexMore x b ≡ also x (stepAs m (x .lexer) b)
+unfolding lexMore lexStep
+more-is x b m e = ap (λ (k : Mode). also x (stepAs k (x .lexer) b)) e
+
+still : {us : List Token} (fs : List Found) → Finds us fs → Finds us (fs ++ [])
+still fs h = rw append-nil h
+
+-- ---- a space
+
+x-letter : classOf letterX ≡ Class.letter
+unfolding classOf
+x-letter = refl
+
+module _ (c : ℕ) (space : classOf c ≡ Class.space) where
+  no-name-byte : nameByte c ≡ false
+  no-name-byte = rw space
+
+  begin-space : (p : ℕ) → begin p c ≡ quiet (begun Mode.between p)
+  unfolding begin
+  begin-space p = ap (λ (k : Class). beginAs k p c) space
+
+  space-on : {us : List Token} (x : Lexed) → Between us x → Between us (lexMore x c)
+  space-on {us} x k =
+      let e : lexMore x c ≡ also x (quiet (begun Mode.between (x .lexer .next))) =
+      more-is x c Mode.between (k .mode) ∙ ap (also x) (begin-space (x .lexer .next)) in
+      record { mode = ap (λ (y : Lexed). y .lexer .mode) e; found = subst⁻¹ (λ (y : Lexed). Finds us (y .found)) e (still (x .found) (k .found)) }
+
+  -- what is open ends
+  ends-is : (l : Lexer) (m : Mode) → l .mode ≡ m → ends l c ≡ record { lexer = begun Mode.between (l .next); found = endedAs m l ++ [] }
+  unfolding ends ended
+  ends-is l m e = λ i. record { lexer = begin-space (l .next) i .lexer; found = endedAs (e i) l ++ begin-space (l .next) i .found }
+
+  ended-on :
+      {us : List Token} (t : Token) (x : Lexed) (p : ℕ)
+      → Finds us (x .found)
+      → (y : Lexed)
+      → y ≡ also x (record { lexer = begun Mode.between (x .lexer .next); found = token p t ∷ [] ++ [] })
+      → Between (us ++ (t ∷ [])) y
+  ended-on {us} t x p h y e =
+      record { mode = ap (λ (z : Lexed). z .lexer .mode) e; found = subst⁻¹ (λ (z : Lexed). Finds (us ++ (t ∷ [])) (z .found)) e (finds-append h (more p none)) }
+
+  name-ends : {n : List ℕ} {us : List Token} (x : Lexed) → Naming Mode.plain n us x → Between (us ++ (nameOrWord n ∷ [])) (lexMore x c)
+  name-ends {n} {us} x k =
+      let l = x .lexer in
+      ended-on (nameOrWord n) x (l .start) (k .found) (lexMore x c)
+      (more-is x c Mode.plain (k .mode) ∙ ap (λ (t : Bool). also x (cond t (extends Mode.plain l c) (ends l c))) no-name-byte
+      ∙ ap (also x) (ends-is l Mode.plain (k .mode))
+      ∙ ap (λ (n : List ℕ). also x (record { lexer = begun Mode.between (l .next); found = token (l .start) (nameOrWord n) ∷ [] ++ [] })) (k .bytes))
+
+  digit-no : digitByte c ≡ false
+  digit-no = rw space
+
+  x-no : eqb c letterX ≡ false
+  x-no =
+      ne-eqb c letterX (λ e. absurd (let z : _≡_ {A = Class} Class.space Class.letter = sym space ∙ ap classOf e ∙ x-letter in let y : _≡_ {A = ℕ} 0 1 = cc in omega arith))
+
+  number-ends : {s : Bool} {v : ℕ} {us : List Token} (x : Lexed) → Counting s v us x → Between (us ++ (Token.number s v ∷ [])) (lexMore x c)
+  unfolding endsNumber
+  number-ends {s} {v} {us} x k = by (k .mode)
+    where
+      l : Lexer
+      l = x .lexer
+
+      shown : token (l .start) (Token.number (l .negative) (l .value)) ≡ token (l .start) (Token.number s v)
+      shown = λ i. token (l .start) (Token.number (k .negative i) (k .value i))
+
+      last : endsNumber l c ≡ ends l c
+      last = ap (λ (t : Bool). cond t (finds (Found.stray (l .start)) (begun Mode.between (l .next))) (ends l c)) no-name-byte
+
+      by : (l .mode ≡ Mode.leadingZero) ⊎ (l .mode ≡ Mode.decimal) → Between (us ++ (Token.number s v ∷ [])) (lexMore x c)
+      by (inl e) =
+          ended-on (Token.number s v) x (l .start) (k .found) (lexMore x c)
+          (more-is x c Mode.leadingZero e
+          ∙ ap (λ (t : Bool). also x (cond t (quiet (longerNumber Mode.prefix l 0)) (cond (digitByte c) (decimalDigit Mode.decimal l c) (endsNumber l c)))) x-no
+          ∙ ap (λ (t : Bool). also x (cond t (decimalDigit Mode.decimal l c) (endsNumber l c))) digit-no
+          ∙ ap (also x) (last ∙ ends-is l Mode.leadingZero e)
+          ∙ ap (λ (f : Found). also x (record { lexer = begun Mode.between (l .next); found = f ∷ [] ++ [] })) shown)
+      by (inr e) =
+          ended-on (Token.number s v) x (l .start) (k .found) (lexMore x c)
+          (more-is x c Mode.decimal e
+          ∙ ap (λ (t : Bool). also x (cond t (decimalDigit Mode.decimal l c) (endsNumber l c))) digit-no
+          ∙ ap (also x) (last ∙ ends-is l Mode.decimal e)
+          ∙ ap (λ (f : Found). also x (record { lexer = begun Mode.between (l .next); found = f ∷ [] ++ [] })) shown)
+
+-- ---- a name
+
+-- the bytes so far spell a name as far as s
+abbrev Stands : Spelling → List ℕ → List Token → Lexed → Type 0
+Stands Spelling.none n us x = ⊥
+Stands Spelling.plain n us x = Naming Mode.plain n us x
+Stands Spelling.opened n us x = Naming Mode.quoted n us x × (length n ≡ 1)
+Stands Spelling.inside n us x = Naming Mode.quoted n us x × (2 ≤ length n)
+Stands Spelling.escaping n us x = Naming Mode.escaping n us x × (2 ≤ length n)
+Stands Spelling.closed n us x = Between (us ++ (Token.name n ∷ [])) x
+Stands Spelling.wrong n us x = ⊥
+
+module _ (n : List ℕ) (b : ℕ) (us : List Token) (x : Lexed) (f : length n < maxName) where
+  longer : (m m′ : Mode) (y : Lexed) → Naming m n us x → y ≡ also x (extends m′ (x .lexer) b) → Naming m′ (n ++ (b ∷ [])) us y
+  unfolding extends
+  longer m m′ y k e =
+      let d : y ≡ also x (quiet (longerName m′ (x .lexer) b)) =
+      e ∙ ap (λ (t : Bool). also x (cond t (quiet (longerName m′ (x .lexer) b)) (finds (Found.stray (x .lexer .start)) (begun Mode.between (x .lexer .next)))))
+      (ap (λ (n : List ℕ). ltb (length n) maxName) (k .bytes) ∙ lt-ltb (length n) maxName f) in
+      record {
+        mode = ap (λ (y : Lexed). y .lexer .mode) d;
+        bytes = ap (λ (y : Lexed). y .lexer .bytes) d ∙ ap (λ (n : List ℕ). n ++ (b ∷ [])) (k .bytes);
+        found = subst⁻¹ (λ (y : Lexed). Finds us (y .found)) d (still (x .found) (k .found));
+      }
+
+  plain-on :
+      Naming Mode.plain n us x
+      → (t : Bool)
+      → nameByte b ≡ t
+      → T (right (cond t Spelling.plain Spelling.wrong))
+      → Stands (cond t Spelling.plain Spelling.wrong) (n ++ (b ∷ [])) us (lexMore x b)
+  plain-on k true e r =
+      longer Mode.plain Mode.plain (lexMore x b) k
+      (more-is x b Mode.plain (k .mode) ∙ ap (λ (t : Bool). also x (cond t (extends Mode.plain (x .lexer) b) (ends (x .lexer) b))) e)
+  plain-on k false e r = absurd r
+
+  two : 1 ≤ length n → 2 ≤ length (n ++ (b ∷ []))
+  two h = simp length-append (omega arith)
+
+  -- a byte in quotes that closes nothing
+  quotes-on :
+      (m : Mode)
+      → 1 ≤ length n
+      → Naming m n us x
+      → (y : Lexed)
+      → y ≡ also x (quotes (x .lexer) b)
+      → Stands (insideQuotes b) (n ++ (b ∷ [])) us y
+  unfolding quotes
+  quotes-on m h k y e = by (eqb b backslash) e
+    where
+      by :
+          (t : Bool) → y ≡ also x (extends (cond t Mode.escaping Mode.quoted) (x .lexer) b)
+          → Stands (cond t Spelling.escaping Spelling.inside) (n ++ (b ∷ [])) us y
+      by true e = (longer m Mode.escaping y k e, two h)
+      by false e = (longer m Mode.quoted y k e, two h)
+
+  closes-on :
+      2 ≤ length n
+      → Naming Mode.quoted n us x
+      → (y : Lexed)
+      → y ≡ also x (closes (x .lexer) b)
+      → Between (us ++ (Token.name (n ++ (b ∷ [])) ∷ [])) y
+  unfolding closes
+  closes-on h k y e =
+      let l = x .lexer in
+      let no-1 : eqb (length (l .bytes)) 1 ≡ false = ap (λ (n : List ℕ). eqb (length n) 1) (k .bytes) ∙ ne-eqb (length n) 1 (λ e. absurd (omega arith)) in
+      let fits : ltb (length (l .bytes)) maxName ≡ true = ap (λ (n : List ℕ). ltb (length n) maxName) (k .bytes) ∙ lt-ltb (length n) maxName f in
+      let d : y ≡ also x (finds (token (l .start) (Token.name (l .bytes ++ (b ∷ [])))) (begun Mode.between (l .next))) = e ∙ rw (no-1, fits) in
+      record {
+        mode = ap (λ (y : Lexed). y .lexer .mode) d;
+        found =
+            subst⁻¹ (λ (y : Lexed). Finds (us ++ (Token.name (n ++ (b ∷ [])) ∷ [])) (y .found)) d
+            (rw (k .bytes) (finds-append (k .found) (more (l .start) none)));
+      }
+
+  -- any byte with which the bytes so far still spell a name
+  on : (s : Spelling) → Stands s n us x → T (right (nextSpelled s b)) → Stands (nextSpelled s b) (n ++ (b ∷ [])) us (lexMore x b)
+  on Spelling.none k r = absurd k
+  on Spelling.plain k r = plain-on k (nameByte b) refl r
+  on Spelling.opened k r = by (eqb b quoteByte) refl r
+    where
+      by :
+          (t : Bool) → eqb b quoteByte ≡ t → T (right (cond t Spelling.wrong (insideQuotes b)))
+          → Stands (cond t Spelling.wrong (insideQuotes b)) (n ++ (b ∷ [])) us (lexMore x b)
+      by true e r = absurd r
+      by false e r =
+          quotes-on Mode.quoted (omega arith) (k .0) (lexMore x b)
+          (more-is x b Mode.quoted (k .0 .mode) ∙ ap (λ (t : Bool). also x (cond t (closes (x .lexer) b) (quotes (x .lexer) b))) e)
+  on Spelling.inside k r = by (eqb b quoteByte) refl r
+    where
+      by :
+          (t : Bool) → eqb b quoteByte ≡ t → T (right (cond t Spelling.closed (insideQuotes b)))
+          → Stands (cond t Spelling.closed (insideQuotes b)) (n ++ (b ∷ [])) us (lexMore x b)
+      by true e r =
+          closes-on (k .1) (k .0) (lexMore x b)
+          (more-is x b Mode.quoted (k .0 .mode) ∙ ap (λ (t : Bool). also x (cond t (closes (x .lexer) b) (quotes (x .lexer) b))) e)
+      by false e r =
+          quotes-on Mode.quoted (omega arith) (k .0) (lexMore x b)
+          (more-is x b Mode.quoted (k .0 .mode) ∙ ap (λ (t : Bool). also x (cond t (closes (x .lexer) b) (quotes (x .lexer) b))) e)
+  on Spelling.escaping k r = quotes-on Mode.escaping (omega arith) (k .0) (lexMore x b) (more-is x b Mode.escaping (k .0 .mode))
+  on Spelling.closed k r = absurd r
+  on Spelling.wrong k r = absurd r
+
+spells-on :
+    (bs n : List ℕ) (s : Spelling) (us : List Token) (x : Lexed) → Stands s n us x → length n + length bs ≤ maxName → T (right (foldl spell s bs))
+    → Stands (foldl spell s bs) (n ++ bs) us (foldl lexMore x bs)
+spells-on [] n s us x z h r = rw append-nil z
+spells-on (b ∷ bs) n s us x z h r = by (ltb b 256) r (spells-on bs)
+  where
+    by :
+        (t : Bool) → T (right (foldl spell (cond t (nextSpelled s b) Spelling.wrong) bs))
+        → ((n : List ℕ) (s : Spelling) (us : List Token) (x : Lexed) → Stands s n us x → length n + length bs ≤ maxName → T (right (foldl spell s bs))
+        → Stands (foldl spell s bs) (n ++ bs) us (foldl lexMore x bs))
+        → Stands (foldl spell (cond t (nextSpelled s b) Spelling.wrong) bs) (n ++ (b ∷ bs)) us (foldl lexMore (lexMore x b) bs)
+    by true r ih =
+        subst (λ (m : List ℕ). Stands (foldl spell (nextSpelled s b) bs) m us (foldl lexMore (lexMore x b) bs)) (append-assoc n (b ∷ []) bs)
+        (ih (n ++ (b ∷ [])) (nextSpelled s b) us (lexMore x b) (on n b us x (omega arith) s z (right-before (nextSpelled s b) bs r)) (simp length-append (omega arith)) r)
+    by false r ih = absurd (wrong-stays bs r)
+
+begin-is : (x : Lexed) (b : ℕ) → x .lexer .mode ≡ Mode.between → (c : Class) → classOf b ≡ c → lexMore x b ≡ also x (beginAs c (x .lexer .next) b)
+unfolding begin
+begin-is x b e c d = more-is x b Mode.between e ∙ ap (λ (k : Class). also x (beginAs k (x .lexer .next) b)) d
+
+first-on :
+    (b : ℕ) (us : List Token) (x : Lexed)
+    → Between us x
+    → T (right (firstSpelled (classOf b)))
+    → Stands (firstSpelled (classOf b)) (b ∷ []) us (lexMore x b)
+first-on b us x k r = by (classOf b) refl r
+  where
+    opens : (m : Mode) → lexMore x b ≡ also x (quiet (begunName m (x .lexer .next) b)) → Naming m (b ∷ []) us (lexMore x b)
+    opens m e =
+        record {
+          mode = ap (λ (y : Lexed). y .lexer .mode) e;
+          bytes = ap (λ (y : Lexed). y .lexer .bytes) e;
+          found = subst⁻¹ (λ (y : Lexed). Finds us (y .found)) e (still (x .found) (k .found));
+        }
+
+    by : (c : Class) → classOf b ≡ c → T (right (firstSpelled c)) → Stands (firstSpelled c) (b ∷ []) us (lexMore x b)
+    by Class.letter e r = opens Mode.plain (begin-is x b (k .mode) Class.letter e)
+    by Class.digit e r = absurd r
+    by Class.space e r = absurd r
+    by Class.quote e r = (opens Mode.quoted (begin-is x b (k .mode) Class.quote e), refl)
+    by Class.sign e r = absurd r
+    by Class.slash e r = absurd r
+    by Class.mark e r = absurd r
+    by Class.other e r = absurd r
+
+spells-all :
+    (n : List ℕ) (us : List Token) (x : Lexed)
+    → Between us x
+    → length n ≤ maxName
+    → T (right (foldl spell Spelling.none n))
+    → (foldl spell Spelling.none n ≡ Spelling.none → ⊥)
+    → Stands (foldl spell Spelling.none n) n us (foldl lexMore x n)
+spells-all [] us x k h r ne = absurd (ne refl)
+spells-all (b ∷ bs) us x k h r ne = by (ltb b 256) r
+  where
+    by :
+        (t : Bool) → T (right (foldl spell (cond t (firstSpelled (classOf b)) Spelling.wrong) bs))
+        → Stands (foldl spell (cond t (firstSpelled (classOf b)) Spelling.wrong) bs) (b ∷ bs) us (foldl lexMore (lexMore x b) bs)
+    by true r =
+        let s = firstSpelled (classOf b) in
+        spells-on bs (b ∷ []) s us (lexMore x b) (first-on b us x k (right-before s bs r)) (omega arith) r
+    by false r = absurd (wrong-stays bs r)
+
+-- ---- any token, with a space after it
+
+-- Some text spells this token.
+abbrev pub Spellable : Token → Type 0
+Spellable (Token.name n) = T (spelled n)
+Spellable (Token.word w) = w < wordCount
+Spellable (Token.number s v) = Unit {0}
+Spellable (Token.mark b) = classOf b ≡ Class.mark
+Spellable Token.end = ⊥
+
+plainly : Spelling → Bool
+plainly Spelling.none = false
+plainly Spelling.plain = true
+plainly Spelling.opened = false
+plainly Spelling.inside = false
+plainly Spelling.escaping = false
+plainly Spelling.closed = false
+plainly Spelling.wrong = false
+
+plainly-is : (s : Spelling) → T (plainly s) → s ≡ Spelling.plain
+unfolding plainly
+plainly-is Spelling.none h = absurd h
+plainly-is Spelling.plain h = refl
+plainly-is Spelling.opened h = absurd h
+plainly-is Spelling.inside h = absurd h
+plainly-is Spelling.escaping h = absurd h
+plainly-is Spelling.closed h = absurd h
+plainly-is Spelling.wrong h = absurd h
+
+-- every word is spelled like a plain name, and is itself
+word-test : ℕ → Bool
+word-test w = let n = getD words w [] in plainly (foldl spell Spelling.none n) && leb (length n) maxName && eqb (wordOf n) w
+
+words-tested : T (all word-test (below wordCount))
+unfolding word-test plainly words wordOf classOf
+words-tested = tt
+
+plain-is-none : (s : Spelling) → s ≡ Spelling.plain → s ≡ Spelling.none → ⊥
+plain-is-none s p q = let z : _≡_ {A = ℕ} 0 1 = cc in omega arith
+
+module _ (c : ℕ) (space : classOf c ≡ Class.space) (us : List Token) (x : Lexed) (k : Between us x) where
+  plain-then :
+      (n : List ℕ)
+      → foldl spell Spelling.none n ≡ Spelling.plain
+      → length n ≤ maxName
+      → Between (us ++ (nameOrWord n ∷ [])) (lexMore (foldl lexMore x n) c)
+  plain-then n e h =
+      name-ends c space (foldl lexMore x n)
+      (subst (λ (s : Spelling). Stands s n us (foldl lexMore x n)) e (spells-all n us x k h (rw e tt) (plain-is-none _ e)))
+
+  word-then : (w : ℕ) → w < wordCount → Between (us ++ (Token.word w ∷ [])) (lexMore (foldl lexMore x (getD words w [])) c)
+  unfolding word-test nameOrWord
+  word-then w h =
+      let n = getD words w [] in
+      let s = foldl spell Spelling.none n in
+      let t : T (word-test w) = every-below-at wordCount (every-all word-test (below wordCount) words-tested) w h in
+      let p = and-yes (plainly s && leb (length n) maxName) (eqb (wordOf n) w) t in
+      let q = and-yes (plainly s) (leb (length n) maxName) (p .0) in
+      let e : wordOf n ≡ w = eqb→eq (wordOf n) w (p .1) in
+      let known : nameOrWord n ≡ Token.word w = rw (e, ne-eqb w wordCount (λ d. absurd (omega arith))) in
+      subst (λ (t : Token). Between (us ++ (t ∷ [])) (lexMore (foldl lexMore x n) c)) known
+      (plain-then n (plainly-is s (q .0)) (leb→le (length n) maxName (q .1)))
+
+  name-then : (n : List ℕ) → T (spelled n) → Between (us ++ (Token.name n ∷ [])) (lexMore (foldl lexMore x n) c)
+  unfolding spelled nameOrWord
+  name-then n h =
+      let s = foldl spell Spelling.none n in
+      let p = and-yes (whole s && leb (length n) maxName) (eqb (wordOf n) wordCount) h in
+      let q = and-yes (whole s) (leb (length n) maxName) (p .0) in
+      by s refl (q .0) (leb→le (length n) maxName (q .1)) (eqb→eq (wordOf n) wordCount (p .1))
+    where
+      by :
+          (s : Spelling)
+          → foldl spell Spelling.none n ≡ s
+          → T (whole s)
+          → length n ≤ maxName
+          → wordOf n ≡ wordCount
+          → Between (us ++ (Token.name n ∷ [])) (lexMore (foldl lexMore x n) c)
+      by Spelling.none e w f d = absurd w
+      by Spelling.plain e w f d =
+          subst (λ (t : Token). Between (us ++ (t ∷ [])) (lexMore (foldl lexMore x n) c)) (rw (eq-eqb (wordOf n) wordCount d)) (plain-then n e f)
+      by Spelling.opened e w f d = absurd w
+      by Spelling.inside e w f d = absurd w
+      by Spelling.escaping e w f d = absurd w
+      by Spelling.closed e w f d =
+          space-on c space (foldl lexMore x n)
+          (subst (λ (s : Spelling). Stands s n us (foldl lexMore x n)) e
+          (spells-all n us x k f (rw e tt) (λ z. let y : _≡_ {A = ℕ} 0 1 = cc in omega arith)))
+      by Spelling.wrong e w f d = absurd w
+
+  mark-then : (b : ℕ) → classOf b ≡ Class.mark → Between (us ++ (Token.mark b ∷ [])) (lexMore (lexMore x b) c)
+  mark-then b h =
+      let e : lexMore x b ≡ also x (finds (token (x .lexer .next) (Token.mark b)) (begun Mode.between (x .lexer .next))) =
+      begin-is x b (k .mode) Class.mark h in
+      space-on c space (lexMore x b)
+      (record {
+        mode = ap (λ (y : Lexed). y .lexer .mode) e;
+        found = subst⁻¹ (λ (y : Lexed). Finds (us ++ (Token.mark b ∷ [])) (y .found)) e (finds-append (k .found) (more (x .lexer .next) none));
+      })
+
+-- ---- numbers
+
+pub digit-class : (d : ℕ) → d < 10 → classOf (digitZero + d) ≡ Class.digit
+unfolding classOf
+digit-class zero h = refl
+digit-class (suc zero) h = refl
+digit-class (suc (suc zero)) h = refl
+digit-class (suc (suc (suc zero))) h = refl
+digit-class (suc (suc (suc (suc zero)))) h = refl
+digit-class (suc (suc (suc (suc (suc zero))))) h = refl
+digit-class (suc (suc (suc (suc (suc (suc zero)))))) h = refl
+digit-class (suc (suc (suc (suc (suc (suc (suc zero))))))) h = refl
+digit-class (suc (suc (suc (suc (suc (suc (suc (suc zero)))))))) h = refl
+digit-class (suc (suc (suc (suc (suc (suc (suc (suc (suc zero))))))))) h = refl
+digit-class (suc (suc (suc (suc (suc (suc (suc (suc (suc (suc d)))))))))) h = absurd (omega arith)
+
+digit-modes : (t : Bool) → (cond t Mode.leadingZero Mode.decimal ≡ Mode.leadingZero) ⊎ (cond t Mode.leadingZero Mode.decimal ≡ Mode.decimal)
+digit-modes true = inl refl
+digit-modes false = inr refl
+
+module _ (s : Bool) (us : List Token) where
+  -- A sign alone.
+  record Signed (x : Lexed) : Type 0 where
+    mode : x .lexer .mode ≡ Mode.sign
+    negative : x .lexer .negative ≡ s
+    value : x .lexer .value ≡ 0
+    found : Finds us (x .found)
+
+  counts :
+      (x y : Lexed) (m : Mode) (v : ℕ)
+      → Finds us (x .found)
+      → x .lexer .negative ≡ s
+      → (m ≡ Mode.leadingZero) ⊎ (m ≡ Mode.decimal)
+      → y ≡ also x (quiet (longerNumber m (x .lexer) v))
+      → Counting s v us y
+  counts x y m v f g h e =
+      record {
+        mode = ⊎-elim (λ d. inl (ap (λ (y : Lexed). y .lexer .mode) e ∙ d)) (λ d. inr (ap (λ (y : Lexed). y .lexer .mode) e ∙ d)) h;
+        negative = ap (λ (y : Lexed). y .lexer .negative) e ∙ g;
+        value = ap (λ (y : Lexed). y .lexer .value) e;
+        found = subst⁻¹ (λ (y : Lexed). Finds us (y .found)) e (still (x .found) f);
+      }
+
+  -- one digit more
+  digit-on : (v d : ℕ) → d < 10 → (x : Lexed) → Counting s v us x → Counting s (10 * v + d) us (lexMore x (digitZero + d))
+  unfolding decimalDigit
+  digit-on v d h x k = by (k .mode)
+    where
+      b : ℕ
+      b = digitZero + d
+
+      l : Lexer
+      l = x .lexer
+
+      is-digit : digitByte b ≡ true
+      is-digit = rw (digit-class d h)
+
+      worth : 10 * l .value + (b - digitZero) ≡ 10 * v + d
+      worth = omega (arith, k .value)
+
+      by : (l .mode ≡ Mode.leadingZero) ⊎ (l .mode ≡ Mode.decimal) → Counting s (10 * v + d) us (lexMore x b)
+      by (inl e) =
+          counts x (lexMore x b) Mode.decimal (10 * v + d) (k .found) (k .negative) (inr refl)
+          (more-is x b Mode.leadingZero e
+          ∙ ap (λ (t : Bool). also x (cond t (quiet (longerNumber Mode.prefix l 0)) (cond (digitByte b) (decimalDigit Mode.decimal l b) (endsNumber l b)))) (ne-eqb b letterX (λ e. absurd (omega arith)))
+          ∙ ap (λ (t : Bool). also x (cond t (decimalDigit Mode.decimal l b) (endsNumber l b))) is-digit
+          ∙ ap (λ (v : ℕ). also x (quiet (longerNumber Mode.decimal l v))) worth)
+      by (inr e) =
+          counts x (lexMore x b) Mode.decimal (10 * v + d) (k .found) (k .negative) (inr refl)
+          (more-is x b Mode.decimal e ∙ ap (λ (t : Bool). also x (cond t (decimalDigit Mode.decimal l b) (endsNumber l b))) is-digit
+          ∙ ap (λ (v : ℕ). also x (quiet (longerNumber Mode.decimal l v))) worth)
+
+  -- the first digit, after a sign
+  first-signed : (d : ℕ) → d < 10 → (x : Lexed) → Signed x → Counting s d us (lexMore x (digitZero + d))
+  unfolding decimalDigit
+  first-signed d h x k =
+      let b = digitZero + d in
+      let l = x .lexer in
+      let is-digit : digitByte b ≡ true = rw (digit-class d h) in
+      let worth : 10 * l .value + (b - digitZero) ≡ d = omega (arith, k .value) in
+      counts x (lexMore x b) (digitMode b) d (k .found) (k .negative) (digit-modes (eqb b digitZero))
+      (more-is x b Mode.sign (k .mode) ∙ ap (λ (t : Bool). also x (cond t (decimalDigit (digitMode b) l b) (ends l b))) is-digit
+      ∙ ap (λ (v : ℕ). also x (quiet (longerNumber (digitMode b) l v))) worth)
+
+  -- all digits, the first one being taken
+  digits-on : (x : Lexed) → ((d : ℕ) → d < 10 → Counting s d us (lexMore x (digitZero + d))) → (n : ℕ) → Counting s n us (foldl lexMore x (digits n))
+  digits-on x first =
+      digits-by (λ n ds. Counting s n us (foldl lexMore x ds)) first
+      (λ n ds big k.
+      rw foldl-append
+      (subst (λ (v : ℕ). Counting s v us (lexMore (foldl lexMore x ds) (digitZero + n % 10))) (div-add-mod n 10)
+      (digit-on (n / 10) (n % 10) (mod-lt n (lit< tt)) (foldl lexMore x ds) k)))
+
+-- the first digit, with nothing open
+first-digit : (us : List Token) (d : ℕ) → d < 10 → (x : Lexed) → Between us x → Counting false d us (lexMore x (digitZero + d))
+first-digit us d h x k =
+    let b = digitZero + d in
+    let p = x .lexer .next in
+    let worth : b - digitZero ≡ d = omega arith in
+    let e : lexMore x b ≡ also x (quiet (begunNumber (digitMode b) p false d)) =
+    begin-is x b (k .mode) Class.digit (digit-class d h) ∙ ap (λ (v : ℕ). also x (quiet (begunNumber (digitMode b) p false v))) worth in
+    record {
+      mode = ⊎-elim (λ d. inl (ap (λ (y : Lexed). y .lexer .mode) e ∙ d)) (λ d. inr (ap (λ (y : Lexed). y .lexer .mode) e ∙ d)) (digit-modes (eqb b digitZero));
+      negative = ap (λ (y : Lexed). y .lexer .negative) e;
+      value = ap (λ (y : Lexed). y .lexer .value) e;
+      found = subst⁻¹ (λ (y : Lexed). Finds us (y .found)) e (still (x .found) (k .found));
+    }
+
+minus-class : classOf minus ≡ Class.sign
+unfolding classOf
+minus-class = refl
+
+minus-on : (us : List Token) (x : Lexed) → Between us x → Signed true us (lexMore x minus)
+minus-on us x k =
+    let e : lexMore x minus ≡ also x (quiet (begunNumber Mode.sign (x .lexer .next) true 0)) = begin-is x minus (k .mode) Class.sign minus-class in
+    record {
+      mode = ap (λ (y : Lexed). y .lexer .mode) e;
+      negative = ap (λ (y : Lexed). y .lexer .negative) e;
+      value = ap (λ (y : Lexed). y .lexer .value) e;
+      found = subst⁻¹ (λ (y : Lexed). Finds us (y .found)) e (still (x .found) (k .found));
+    }
+
+module _ (c : ℕ) (space : classOf c ≡ Class.space) (us : List Token) (x : Lexed) (k : Between us x) where
+  number-then : (s : Bool) (v : ℕ) → Between (us ++ (Token.number s v ∷ [])) (lexMore (foldl lexMore x (cond s (minus ∷ digits v) (digits v))) c)
+  number-then true v =
+      number-ends c space (foldl lexMore (lexMore x minus) (digits v))
+      (digits-on true us (lexMore x minus) (λ d h. first-signed true us d h (lexMore x minus) (minus-on us x k)) v)
+  number-then false v =
+      number-ends c space (foldl lexMore x (digits v)) (digits-on false us x (λ d h. first-digit us d h x k) v)
+
+  token-then : (t : Token) → Spellable t → Between (us ++ (t ∷ [])) (foldl lexMore x (bytesFor t ++ (c ∷ [])))
+  unfolding bytesFor
+  token-then (Token.name n) h = rw foldl-append (name-then c space us x k n h)
+  token-then (Token.word w) h = rw foldl-append (word-then c space us x k w h)
+  token-then (Token.number s v) h = rw foldl-append (number-then s v)
+  token-then (Token.mark b) h = mark-then c space us x k b h
+  token-then Token.end h = absurd h
+
+-- ---- lines
+
+space-class : classOf spaceByte ≡ Class.space
+unfolding classOf
+space-class = refl
+
+feed-class : classOf lineFeed ≡ Class.space
+unfolding classOf
+feed-class = refl
+
+line-on : (ts us : List Token) (x : Lexed) → Every Spellable ts → Between us x → Between (us ++ ts) (foldl lexMore x (lineBytes ts))
+line-on [] us x h k = rw append-nil k
+line-on (t ∷ []) us x (every-cons p h) k = token-then lineFeed feed-class us x k t p
+line-on (t ∷ (u ∷ ts)) us x (every-cons p h) k =
+    let y = foldl lexMore x (bytesFor t ++ (spaceByte ∷ [])) in
+    let g : Between (us ++ (t ∷ [])) y = token-then spaceByte space-class us x k t p in
+    let joined : bytesFor t ++ (spaceByte ∷ []) ++ lineBytes (u ∷ ts) ≡ bytesFor t ++ (spaceByte ∷ lineBytes (u ∷ ts)) =
+    append-assoc (bytesFor t) (spaceByte ∷ []) (lineBytes (u ∷ ts)) in
+    let r : Between (us ++ (t ∷ []) ++ (u ∷ ts)) (foldl lexMore y (lineBytes (u ∷ ts))) = line-on (u ∷ ts) (us ++ (t ∷ [])) y h g in
+    rw (← joined, foldl-append) (rw append-assoc at r)
+
+lines-on :
+    (ls : List (List Token)) (us : List Token) (x : Lexed)
+    → Every (Every Spellable) ls
+    → Between us x
+    → Between (us ++ gather (λ l. l) ls) (foldl lexMore x (gather lineBytes ls))
+lines-on [] us x h k = rw append-nil k
+lines-on (l ∷ ls) us x (every-cons p h) k =
+    rw foldl-append
+    (rw append-assoc at (lines-on ls (us ++ l) (foldl lexMore x (lineBytes l)) h (line-on l us x p k)))
+
+-- the tokens of a text of lines, whatever their places, and the end
+pub lexes : (ls : List (List Token)) → Every (Every Spellable) ls → Finds (gather (λ l. l) ls ++ (Token.end ∷ [])) (tokensOf (gather lineBytes ls))
+unfolding tokensOf lexEnd ended
+lexes ls h =
+    let x = foldl lexMore (quiet lexer₀) (gather lineBytes ls) in
+    let k : Between (gather (λ l. l) ls) x = lines-on ls [] (quiet lexer₀) h (record { mode = refl; found = none }) in
+    finds-append (k .found) (rw (k .mode) (more (x .lexer .next) none))
