@@ -54,6 +54,11 @@ pub length-together-from :
 length-together-from f k [] = refl
 length-together-from f k (x ∷ xs) = ap suc (length-together-from f (suc k) xs)
 
+-- numbers and their images
+pub together-from : {A B : Type 0} (g : ℕ → A → B) (f : ℕ → A) (k n : ℕ) → together g (from k n) (map f (from k n)) ≡ map (λ i. g i (f i)) (from k n)
+together-from g f k zero = refl
+together-from {B = B} g f k (suc n) = ap (λ (r : List B). g k (f k) ∷ r) (together-from g f (suc k) n)
+
 -- ---- two lists, the first as long or longer
 
 module _ {A B C : Type 0} (g : A → B → C) where

@@ -14,7 +14,7 @@ use Rattle.laws.specs.Lists.{any, from, below, position, same}
 use Rattle.laws.proofs.Tests.{both-ways}
 
 -- the first number from k on that passes is r steps on, or there is none among the n
-position-from : (p : ℕ → Bool) (k n r : ℕ) → r ≤ n → ((i : ℕ) → i < r → p (k + i) ≡ false) → (r < n → p (k + r) ≡ true)
+pub position-from : (p : ℕ → Bool) (k n r : ℕ) → r ≤ n → ((i : ℕ) → i < r → p (k + i) ≡ false) → (r < n → p (k + r) ≡ true)
     → r ≡ position p (from k n)
 position-from p k zero r h b f = omega arith
 position-from p k (suc n) zero h b f = rw (ap p (sym (add-zero k)) ∙ f (zero-lt-suc n))

@@ -6,7 +6,8 @@ use mathlib.Core.List.{List, [], _∷_, _++_, map, append-assoc}
 use Prim.Native.Nat.{ℕ, zero, suc, _≤_, _<_, _+_, _*_}
 use native.Mathlib.Nat.{not-suc-le-zero, le-of-suc-le-suc, zero-add, add-zero, add-assoc, add-suc, add-comm, suc-add, suc-mul, zero-mul}
 use native.Mathlib.Omega.{arith}
-use lib.ListN.{length, getD}
+use lib.ListN.{length, getD, set, drop}
+use lib.Seq.{drop-cons}
 use Rattle.laws.specs.Lists.{keep, gather, together, from, below, sum}
 use Rattle.laws.proofs.Every.{Every, none, more}
 
@@ -104,3 +105,18 @@ pub map-getD : {A B : Type 0} (g : A → B) (d : A) (xs : List A) → map (λ i.
 map-getD g d [] = refl
 map-getD g d (x ∷ xs) =
     ap {B = List _} (λ r. g x ∷ r) (map-from-suc (λ i. g (getD (x ∷ xs) i d)) zero (length xs) ∙ map-getD g d xs)
+
+-- the sum of what is left from a place on
+pub sum-drop : (xs : List ℕ) (k : ℕ) → k < length xs → sum (drop k xs) ≡ getD xs k 0 + sum (drop (suc k) xs)
+sum-drop xs k h = ap sum (drop-cons xs k 0 h)
+
+pub sum-drop-le : (k : ℕ) (xs : List ℕ) → sum (drop k xs) ≤ sum xs
+sum-drop-le zero xs = omega arith
+sum-drop-le (suc k) [] = omega arith
+sum-drop-le (suc k) (x ∷ xs) = omega (arith, sum-drop-le k xs)
+
+-- a store adds its number at most
+pub sum-set-le : (xs : List ℕ) (i v : ℕ) → sum (set xs i v) ≤ sum xs + v
+sum-set-le [] i v = omega arith
+sum-set-le (x ∷ xs) zero v = omega arith
+sum-set-le (x ∷ xs) (suc i) v = omega (arith, sum-set-le xs i v)

@@ -1,0 +1,5 @@
+pub mod Entitling
+pub mod Filled
+pub mod InFunction
+pub mod Marks
+pub mod Spelt

@@ -1,0 +1,131 @@
+// The numbers of made names, for registers and blocks alike. `first` is the first byte of the kind's prefix, and the length cells of the
+// names stand `stride` apart, from cell `at` on.
+ghost use mathlib.Core.Path.{_≡_};
+ghost use mathlib.Core.Bool.{_&&_, not};
+ghost use Prim.Native.Nat.{_+_, _*_, _<_, _≤_};
+ghost use lib.Dec.{eqb};
+ghost use lib.ListN.{length, replicate, drop};
+ghost use Rattle.laws.specs.Lists.{empty, sum};
+ghost use Rattle.language.specs.Table.{nameAt, registerCount, blockCount, decodeFunction};
+ghost use Rattle.naming.specs.Numbers.{prefixOf};
+ghost use Rattle.naming.specs.Numbered.{Marked, Free, Numbered, RegistersNumbered, BlocksNumbered};
+use crate::numbers::number;
+use table::block_count;
+use table::function_entry;
+use table::name_at;
+use table::register_count;
+
+// In a function's cells: the length of its first register's name and of its first block's, and how far the next one is.
+const REGISTER_NAMES: usize = 74;
+
+const REGISTER_CELLS: usize = 66;
+
+const BLOCK_NAMES: usize = 16973;
+
+const BLOCK_CELLS: usize = 69;
+
+// The first byte of `p.` and of `e.`.
+const REGISTER_PREFIX: u8 = 112;
+
+const BLOCK_PREFIX: u8 = 101;
+
+// No register keeps a name of no bytes: there are 256 at most.
+const NO_REGISTER: usize = 256;
+
+// Marks the numbers in use; cell 512 is marked for any other name.
+fn mark(t: &[u8], at: usize, stride: usize, count: usize, first: u8, marks: &mut [u8])
+    requires { ⌜ (at + stride * count + 256 ≤ length (now t) + stride) × (now marks ≡ replicate 513 0) ⌝ }
+    ensures { λ r. ⌜ Marked (prefixOf first) (now (t .entry)) at stride count (now (marks .exit)) ⌝ }
+{
+    let mut i = 0;
+    while i < count {
+        let j = number(name_at(t, at + stride * i), first);
+        marks[j] = 1;
+        i += 1;
+    }
+}
+
+// The first number from k on that is not marked.
+fn free(marks: &[u8], k: usize) -> usize
+    requires { ⌜ (length (now marks) ≡ 513) × (k + sum (drop k (now marks)) < 512) ⌝ }
+    ensures { λ r. ⌜ Free (now (marks .entry)) k r ⌝ }
+{
+    let mut next = k;
+    while marks[next] != 0 {
+        next += 1;
+    }
+    next
+}
+
+// Whether the name whose length is cell c has no bytes and is not the one that stays so.
+fn unnamed(t: &[u8], c: usize, i: usize, kept: usize) -> bool
+    requires { ⌜ c + 256 ≤ length (now t) ⌝ }
+    ensures { λ r. ⌜ r ≡ (empty (nameAt (now (t .entry)) c) && not (eqb i kept)) ⌝ }
+{
+    if t[c] != 0 {
+        return false;
+    }
+    i != kept
+}
+
+// The numbers of the names that are made, in order; name `kept` is not.
+fn number_names(
+    t: &[u8],
+    at: usize,
+    stride: usize,
+    count: usize,
+    first: u8,
+    kept: usize,
+    made: &mut [u16],
+)
+    requires { ⌜ (at + stride * count + 256 ≤ length (now t) + stride) × (count ≤ 256) × (count ≤ length (now made)) ⌝ }
+    ensures { λ r. ⌜ Numbered (prefixOf first) (now (t .entry)) at stride count kept (now (made .exit)) ⌝ }
+{
+    let mut marks = [0u8; 513];
+    mark(t, at, stride, count, first, &mut marks);
+    let mut next = 0;
+    let mut i = 0;
+    while i < count {
+        if !unnamed(t, at + stride * i, i, kept) {
+            i += 1;
+            continue;
+        }
+        let j = free(&marks, next);
+        made[i] = j as u16;
+        next = j + 1;
+        i += 1;
+    }
+}
+
+pub fn number_registers(t: &[u8], a: usize, made: &mut [u16])
+    requires { ⌜ (a + 34697 ≤ length (now t)) × (registerCount (now t) a ≤ 256) × (256 ≤ length (now made)) ⌝ }
+    ensures { λ r. ⌜ RegistersNumbered (decodeFunction (now (t .entry)) a) (now (made .exit)) ⌝ }
+{
+    let count = register_count(t, a);
+    number_names(
+        t,
+        a + REGISTER_NAMES,
+        REGISTER_CELLS,
+        count,
+        REGISTER_PREFIX,
+        NO_REGISTER,
+        made,
+    );
+}
+
+pub fn number_blocks(t: &[u8], a: usize, made: &mut [u16])
+    requires { ⌜ (a + 34697 ≤ length (now t)) × (blockCount (now t) a ≤ 64) × (64 ≤ length (now made)) ⌝ }
+    ensures { λ r. ⌜ BlocksNumbered (decodeFunction (now (t .entry)) a) (now (made .exit)) ⌝ }
+{
+    let count = block_count(t, a);
+    let entry = function_entry(t, a);
+    number_names(
+        t,
+        a + BLOCK_NAMES,
+        BLOCK_CELLS,
+        count,
+        BLOCK_PREFIX,
+        entry,
+        made,
+    );
+}
