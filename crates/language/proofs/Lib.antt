@@ -21,4 +21,5 @@ pub mod CheckFacts
 pub mod RunFacts
 pub mod WrongTurns
 pub mod WholeFunction
+pub mod WritingFacts
 pub mod Marked

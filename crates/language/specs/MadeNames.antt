@@ -1,13 +1,13 @@
 -- Made names (document 02, A1): "Unnamed registers are called `p.` and unnamed blocks but entry `e.`, with the smallest decimal numbers not in
 -- use by that kind in the function, in table order from 0." Assumes nothing.
-use mathlib.Core.Bool.{Bool, true, false, cond, not, _&&_}
+use mathlib.Core.Bool.{Bool, cond, not, _&&_}
 use mathlib.Core.List.{List, [], _∷_, _++_, map}
 use Prim.Native.Nat.{ℕ, suc, _+_}
 use lib.Dec.{eqb}
 use lib.ListN.{length}
 use Rattle.laws.specs.Lists.{any, position, empty, same, from, below, together}
 use Rattle.language.specs.Bytes.{bytesOf}
-use Rattle.language.specs.Programs.{Register, Block, Func, Program}
+use Rattle.language.specs.Programs.{Func, Program}
 use Rattle.language.specs.Listing.{digits}
 use Rattle.language.specs.Writing.{textOf}
 

@@ -1,7 +1,7 @@
 -- The text of a program (document 02, A1): "Each line is a declaration, an instruction, a head with its `{` or a `}`, ended by LF; one space
 -- between tokens, shortest decimal numbers." A program here has names for all its registers, and for all its blocks but entry.
 -- Assumes nothing.
-use mathlib.Core.Bool.{Bool, true, false, cond}
+use mathlib.Core.Bool.{true, false, cond}
 use mathlib.Core.List.{List, [], _∷_, _++_, map}
 use Prim.Native.Nat.{ℕ, suc, _+_}
 use lib.Dec.{eqb}

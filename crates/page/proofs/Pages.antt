@@ -7,7 +7,7 @@ use native.Mathlib.Numerals.{add-one}
 use native.Mathlib.Omega.{arith}
 use borrow.Author.Tests.{le-leb, lt-leb}
 use native.Mathlib.Decide.{decLt}
-use lib.ListN.{length, drop, take, set, replicate, length-append, length-drop, length-set}
+use lib.ListN.{length, drop, set, replicate, length-append, length-drop, length-set}
 use lib.Seq.{sets, sets-eq, take-append-seam}
 use Rattle.page.specs.Page.{Page, page, next, put, puts, closed}
 

@@ -1,8 +1,7 @@
 -- `page::put_each` meets its contract: the bytes so far are written.
 use mathlib.Core.Path.{_≡_, refl, ap, sym, _∙_}
-use mathlib.Core.List.{List, [], _∷_, foldl-append}
+use mathlib.Core.List.{List, foldl-append}
 use Prim.Native.Nat.{ℕ, _≤_, _<_, _-_, _+_}
-use native.Mathlib.Omega.{arith}
 use native.Mathlib.Numerals.{add-one}
 use borrow.Author.Needs.{needs}
 use lib.ListN.{length, take, getD, length-set}

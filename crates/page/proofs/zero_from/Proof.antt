@@ -9,7 +9,7 @@ use Prim.Native.Nat.{ℕ, _≤_, _<_, _-_, _+_}
 use native.Mathlib.Nat.{ne-of-lt, eq-or-lt-of-le}
 use native.Mathlib.Omega.{arith}
 use borrow.Author.Needs.{needs}
-use lib.ListN.{length, take, getD, set, length-set, length-append, length-take, length-replicate, replicate, List·getD-append, List·getD-eq-default, getD-replicate}
+use lib.ListN.{length, take, getD, set, length-set, length-append, length-take, length-replicate, replicate, List·getD-append, getD-replicate}
 use lib.Seq.{ext-getD, getD-set-same, getD-set-other, getD-take, getD-append-add, length-take-le}
 use Rattle.page.specs.Page.{closed}
 use Rattle.page.proofs.zero_from.Statement.{statement}
