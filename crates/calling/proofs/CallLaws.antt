@@ -13,7 +13,7 @@ use Rattle.language.specs.Table.{functionAt, functionCount, functionResult, fun
 use Rattle.language.specs.Checking.{Verdict}
 use Rattle.language.specs.Answers.{Ran as Ranᴸ, Finished, checkAnswer, runFunction, runAnswer}
 use Rattle.theorems.proofs.TableView.{function-count, function-is}
-use Rattle.ial.proofs.Accepted.{accepted-sized, accepted-params}
+use Rattle.rules.proofs.Accepted.{accepted-sized, accepted-params}
 use Rattle.ial.specs.declared.running.Ran.{Ran}
 use Rattle.ial.specs.Runs.{ranOf, finishedOf}
 use Rattle.calling.specs.Words.{functionNumber}

@@ -1,21 +1,22 @@
 -- Calls of document 01's whole function and of smaller words, by computation: what a must-fail edit of these definitions runs into.
 -- Assumes nothing.
 use mathlib.Core.Path.{_≡_, refl, ap, _∙_}
-use mathlib.Core.List.{[], _∷_}
+use mathlib.Core.List.{List, [], _∷_}
 use Prim.Native.Nat.{ℕ}
 use Rattle.language.specs.Bytes.{bytesOf}
 use Rattle.language.specs.Reading.{inRange, bitsOf}
-use Rattle.language.specs.Answers.{Ran, placeOf, refusedRun, runFunction}
+use Rattle.language.specs.Programs.{maxText}
+use Rattle.language.specs.Answers.{Ran, zeros, placeOf, refusedRun, runFunction, show}
 use Rattle.language.specs.Listing.{digits, line, refusedLine}
 use Rattle.language.proofs.Computing.{computing}
 use Rattle.language.proofs.ReadingFacts.{turnText, turn, turn-reads}
-use Rattle.language.proofs.WholeFunction.{turned-listed}
+use Rattle.theorems.proofs.TurnWritten.{turnedText, turned-written}
 use Rattle.decimal.specs.Meanings.{bitsIn}
 use Rattle.decimal.specs.Numbers.{isDigit, decimalFrom, unsigned, numberOf}
 use Rattle.calling.specs.declared.words.Budget.the-variants as budgets
 use Rattle.calling.specs.Words.{functionNamed, functionNumber, budgetOf, keptBits}
 use Rattle.calling.specs.Lines.{valueOf}
-use Rattle.calling.specs.Calls.{Given, givenOf, firstOutside, argumentsOf, callFunction, runLine, translatedLine, translateLine, readLine, runPrinted, translatePrinted}
+use Rattle.calling.specs.Calls.{Given, givenOf, firstOutside, argumentsOf, callFunction, runLine, translatedLine, translateLine, shownLine, textLine, readLine, runPrinted, translatePrinted}
 
 unfoldable calling : Unit {0}
 unfolding computing inRange bitsOf placeOf refusedRun runFunction digits line refusedLine bitsIn isDigit decimalFrom unsigned numberOf functionNamed functionNumber budgetOf keptBits valueOf firstOutside argumentsOf callFunction runLine translatedLine translateLine
@@ -68,11 +69,18 @@ runs :
 unfolding calling turn
 runs = refl
 
--- From the text: "Translated: 13, 6, 22."
+-- From the text.
 printed-run : runPrinted turnText (bytesOf "turn") (numbers 0) 9 ≡ bytesOf "returned\t7\t9\n"
 unfolding runPrinted calling turn
 printed-run = ap (readLine (λ p. runLine p (bytesOf "turn") (numbers 0) 9)) turn-reads
 
-printed-translation : translatePrinted turnText (bytesOf "turn") ≡ bytesOf "turn\t0\t13\t6\t22\n"
-unfolding translatePrinted calling turn
-printed-translation = ap (readLine (λ p. translateLine p (bytesOf "turn"))) turn-reads ∙ turned-listed
+turned-shown : (let s = show maxText turnedText in shownLine (s .answer) (s .buffer)) ≡ turnedText
+unfolding show zeros turnedText
+turned-shown = refl
+
+printed-translation : translatePrinted turnText (bytesOf "turn") ≡ turnedText
+unfolding translatePrinted calling turn textLine
+printed-translation =
+    ap (readLine (λ p. translateLine p (bytesOf "turn"))) turn-reads
+    ∙ ap (λ (text : List ℕ). let s = show maxText text in shownLine (s .answer) (s .buffer)) turned-written
+    ∙ turned-shown

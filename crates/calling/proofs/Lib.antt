@@ -5,5 +5,6 @@ pub mod AnswerLaws
 pub mod CallLaws
 pub mod TextLaws
 pub mod TranslationLaws
+pub mod WrittenLaws
 pub mod Examples
 pub mod Promise

@@ -10,7 +10,7 @@ use Rattle.language.specs.Programs.{Func, Program, noFunction, isSsa}
 use Rattle.language.specs.Table.{tableLength, cells, decode}
 use Rattle.language.specs.Checking.{Verdict, check}
 use Rattle.language.specs.Translating.{translation, translationFits}
-use Rattle.language.specs.Listing.{listingOf, refusedLine}
+use Rattle.language.specs.Listing.{refusedLine}
 use Rattle.language.specs.Answers.{Filled, ifAccepted, fill, refusedTable, checkAnswer, translateFunction, translateAnswer}
 use Rattle.theorems.specs.TableLaw.{Held}
 use Rattle.theorems.proofs.Acceptance.{accepted-translation}
@@ -19,7 +19,8 @@ use Rattle.theorems.proofs.OverTables.{accepted-program}
 use Rattle.checker.specs.declared.Verdict.{Verdict as Verdictᶜ}
 use Rattle.checker.specs.declared.Verdict.the-variants as verdicts
 use Rattle.ial.specs.Verdicts.{filledOf}
-use Rattle.calling.specs.Calls.{translatedLine}
+use Rattle.calling.proofs.Printing.{table-check}
+use Rattle.calling.specs.Calls.{textLine, translatedLine}
 
 -- The tests of a translation, in their order, for any answer to each.
 abbrev tests : {A : Type 0} (there marked fits : Bool) → A → (ℕ → A) → A
@@ -27,11 +28,11 @@ tests a b c x refuse = cond a (cond b (cond c x (refuse 31)) (refuse 30)) (refus
 
 -- What is printed of an answer that holds the program q where it is not refused.
 abbrev shown : Program → Filled → List ℕ
-shown q x = ifAccepted (x .answer) refusedLine (listingOf q)
+shown q x = ifAccepted (x .answer) refusedLine (textLine q)
 
 shown-tests :
     (a b c : Bool) (q : Program)
-    → tests a b c (listingOf q) (λ k. refusedLine k 0) ≡ shown q (tests a b c (fill tableLength q) (λ k. refusedTable tableLength k 0))
+    → tests a b c (textLine q) (λ k. refusedLine k 0) ≡ shown q (tests a b c (fill tableLength q) (λ k. refusedTable tableLength k 0))
 unfolding fill refusedTable
 shown-tests false b c q = refl
 shown-tests true false c q = refl
@@ -95,11 +96,8 @@ module _ (t : List ℕ) (i : ℕ) (e : checkAnswer t ≡ Verdict.accepted) where
       back : decode x ≡ translation (getD (decode t) i noFunction) ∷ []
       back = ap decode (passed .written) ∙ held .back
 
-      pub translated-count : length x ≡ tableLength
-      translated-count = ap length (passed .written) ∙ held .count
+      pub translated-accepted : checkAnswer x ≡ Verdict.accepted
+      translated-accepted = table-check x (ap length (passed .written) ∙ held .count) ∙ rw back accepted
 
-      pub translated-accepted : check (decode x) ≡ Verdict.accepted
-      translated-accepted = rw back accepted
-
-      pub line-translated : translatedLine (decode t) i ≡ listingOf (decode x)
+      pub line-translated : translatedLine (decode t) i ≡ textLine (decode x)
       line-translated = line-is ∙ ap (shown alone) (sym here) ∙ rw (r, back) refl

@@ -1,16 +1,18 @@
--- What is printed of a call: of a run on arguments by meaning, and of a translation. Assumes nothing.
+-- What is printed of a call: of a run on arguments by meaning, of a translation, and of a file's own text. Assumes nothing.
 use mathlib.Core.Bool.{Bool, true, false, cond}
 use mathlib.Core.List.{List, [], _∷_, map}
+use mathlib.Core.Path.{_≡_}
 use Prim.Native.Nat.{ℕ}
 use lib.Dec.{eqb, ltb}
-use lib.ListN.{length, getD}
+use lib.ListN.{length, getD, take}
 use Rattle.laws.specs.Lists.{position, below}
-use Rattle.language.specs.Programs.{Func, Program, noFunction, maxRegisters, isSsa, typeAt}
+use Rattle.language.specs.Programs.{Func, Program, noFunction, maxText, maxRegisters, isSsa, typeAt}
 use Rattle.language.specs.Reading.{Reading, read}
 use Rattle.language.specs.Checking.{check}
 use Rattle.language.specs.Translating.{translation, translationFits}
-use Rattle.language.specs.Answers.{Ran, ifAccepted, runFunction}
-use Rattle.language.specs.Listing.{listingOf, refusedLine}
+use Rattle.language.specs.Answers.{Ran, Wrote, ifAccepted, runFunction, show}
+use Rattle.language.specs.Listing.{refusedLine}
+use Rattle.language.specs.MadeNames.{written}
 use Rattle.decimal.specs.declared.ranges.Bits.{Bits}
 use Rattle.decimal.specs.declared.ranges.Bits.the-variants as bits
 use Rattle.calling.specs.Words.{functionNumber, keptBits}
@@ -62,12 +64,21 @@ runLine p word g budget =
     let i = functionNumber p word in
     ranLine (getD p i noFunction .result) (callFunction p i g budget)
 
--- Function i of an accepted program, translated: 21, 30, 31, or the listing of the program of its translation alone.
+-- What writing left in a buffer: the text, or the refusal.
+abbrev pub shownLine : Wrote → (buffer : List ℕ) → List ℕ
+shownLine (Wrote.wrote n) b = take n b
+shownLine (Wrote.refused k p) b = refusedLine k p
+
+-- The text of an accepted program, for which a buffer of the longest text has room: 33, or the text.
+unfoldable pub textLine : Program → List ℕ
+textLine p = let s = show maxText (written p) in shownLine (s .answer) (s .buffer)
+
+-- Function i of an accepted program, translated: 21, 30, 31, or the text of the program of its translation alone.
 unfoldable pub translatedLine : Program → ℕ → List ℕ
 translatedLine p i =
     let f = getD p i noFunction in
     cond (ltb i (length p))
-    (cond (isSsa f) (cond (translationFits f) (listingOf (translation f ∷ [])) (refusedLine 31 0)) (refusedLine 30 0))
+    (cond (isSsa f) (cond (translationFits f) (textLine (translation f ∷ [])) (refusedLine 31 0)) (refusedLine 30 0))
     (refusedLine 21 0)
 
 unfoldable pub translateLine : Program → (word : List ℕ) → List ℕ
@@ -89,3 +100,11 @@ runPrinted text word g budget = readLine (λ p. runLine p word g budget) (read t
 -- `translate FILE FUNCTION`
 unfoldable pub translatePrinted : (text word : List ℕ) → List ℕ
 translatePrinted text word = readLine (λ p. translateLine p word) (read text)
+
+-- `write FILE`
+unfoldable pub writePrinted : (text : List ℕ) → List ℕ
+writePrinted text = readLine textLine (read text)
+
+-- What is printed of a buffer that was left as `out`, up to place r.
+abbrev pub Prints : (out : List ℕ) (r : ℕ) (bytes : List ℕ) → Type 0
+Prints out r bytes = take r out ≡ bytes

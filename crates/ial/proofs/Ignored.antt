@@ -3,14 +3,16 @@
 use mathlib.Core.Path.{_≡_, sym, ap, _∙_}
 use mathlib.Core.List.{List}
 use Prim.Native.Nat.{ℕ}
-use Rattle.language.specs.Answers.{Filled, Finished}
+use Rattle.language.specs.Answers.{Filled, Finished, Shown}
 use Rattle.theorems.proofs.TableIgnored.{answers-ignore-unneeded}
 use Rattle.checker.specs.declared.Verdict.{Verdict}
 use Rattle.ial.specs.declared.running.Ran.{Ran}
+use Rattle.ial.specs.declared.writing.Wrote.{Wrote}
 use Rattle.ial.specs.Verdicts.{filledOf}
 use Rattle.ial.specs.Runs.{finishedOf}
+use Rattle.ial.specs.Texts.{shownOf}
 use Rattle.ial.specs.Ignored.{IgnoredInCalls}
-use Rattle.ial.proofs.Known.{verdict-known, ran-known}
+use Rattle.ial.proofs.Known.{verdict-known, ran-known, wrote-known}
 
 -- An answer and what was lent, known together.
 filled-known : (r s : Verdict) (a b : List ℕ) → filledOf r a ≡ filledOf s b → (r ≡ s) × (a ≡ b)
@@ -19,6 +21,9 @@ filled-known r s a b e = (verdict-known r s (ap (λ (x : Filled). x .answer) e),
 finished-known : (x y : Ran) (a b : List ℕ) → finishedOf x a ≡ finishedOf y b → (x ≡ y) × (a ≡ b)
 finished-known x y a b e = (ran-known x y (ap (λ (z : Finished). z .answer) e), ap (λ (z : Finished). z .registers) e)
 
+shown-known : (x y : Wrote) (a b : List ℕ) → shownOf x a ≡ shownOf y b → (x ≡ y) × (a ≡ b)
+shown-known x y a b e = (wrote-known x y (ap (λ (z : Shown). z .answer) e), ap (λ (z : Shown). z .buffer) e)
+
 pub calls-ignore-unneeded : IgnoredInCalls
 calls-ignore-unneeded t u h =
     let same = answers-ignore-unneeded t u h in
@@ -26,4 +31,5 @@ calls-ignore-unneeded t u h =
       check = λ r s p q. verdict-known r s (p ∙ same .check ∙ sym q);
       run = λ i args budget n x y a b p q. finished-known x y a b (p ∙ same .run i args budget n ∙ sym q);
       translate = λ i n r s a b p q. filled-known r s a b (p ∙ same .translate i n ∙ sym q);
+      write = λ n r s a b p q. shown-known r s a b (p ∙ same .write n ∙ sym q);
     }

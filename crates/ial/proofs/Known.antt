@@ -7,7 +7,10 @@ use Rattle.checker.specs.declared.Verdict.the-variants as verdicts
 use Rattle.checker.specs.Verdicts.{verdictOf}
 use Rattle.ial.specs.declared.running.Ran.{Ran}
 use Rattle.ial.specs.declared.running.Ran.the-variants as rans
+use Rattle.ial.specs.declared.writing.Wrote.{Wrote}
+use Rattle.ial.specs.declared.writing.Wrote.the-variants as wrotes
 use Rattle.ial.specs.Runs.{ranOf}
+use Rattle.ial.specs.Texts.{wroteOf}
 
 pub verdict-known : (v w : Verdict) → verdictOf v ≡ verdictOf w → v ≡ w
 verdict-known verdicts.Accepted verdicts.Accepted e = refl
@@ -44,6 +47,17 @@ ran-known (rans.Refused n p) (rans.Returned w k) e = absurd (let z : _≡_ {A = 
 ran-known (rans.Refused n p) (rans.Left k) e = absurd (let z : _≡_ {A = ℕ} 0 1 = cc in omega arith)
 ran-known (rans.Refused n p) (rans.Stopped m q k) e = absurd (let z : _≡_ {A = ℕ} 0 1 = cc in omega arith)
 ran-known (rans.Refused n p) (rans.Refused m q) e =
+    let a : n ≡ m = cc in
+    let b : p ≡ q = cc in
+    rw (a, b) refl
+
+pub wrote-known : (x y : Wrote) → wroteOf x ≡ wroteOf y → x ≡ y
+wrote-known (wrotes.Wrote n) (wrotes.Wrote m) e =
+    let a : n ≡ m = cc in
+    rw a refl
+wrote-known (wrotes.Wrote n) (wrotes.Refused m q) e = absurd (let z : _≡_ {A = ℕ} 0 1 = cc in omega arith)
+wrote-known (wrotes.Refused n p) (wrotes.Wrote m) e = absurd (let z : _≡_ {A = ℕ} 0 1 = cc in omega arith)
+wrote-known (wrotes.Refused n p) (wrotes.Refused m q) e =
     let a : n ≡ m = cc in
     let b : p ≡ q = cc in
     rw (a, b) refl

@@ -1,8 +1,9 @@
 pub mod ReadLaws
-pub mod Accepted
 pub mod Places
 pub mod RunLaws
 pub mod TranslateLaws
+pub mod WriteLaws
 pub mod Demand
 pub mod Known
 pub mod Ignored
+pub mod RoundTrip

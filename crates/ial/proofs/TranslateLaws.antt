@@ -20,7 +20,7 @@ use Rattle.checker.specs.declared.Verdict.{Verdict as Verdictᶜ}
 use Rattle.checker.specs.declared.Verdict.the-variants as verdicts
 use Rattle.checker.specs.Verdicts.{verdictOf}
 use Rattle.ial.specs.Verdicts.{filledOf}
-use Rattle.ial.proofs.Accepted.{accepted-sized, accepted-clean}
+use Rattle.rules.proofs.Accepted.{accepted-sized, accepted-clean}
 
 module _ (t : List ℕ) (i n : ℕ) where
   pub translate-refused : {v : Verdictᶜ} {k p : ℕ} {z : List ℕ} → verdictOf v ≡ checkAnswer t → v ≡ verdicts.Refused k p → z ≡ zeros n

@@ -3,13 +3,15 @@
 use mathlib.Core.Path.{_≡_}
 use mathlib.Core.List.{List}
 use Prim.Native.Nat.{ℕ}
-use Rattle.language.specs.Answers.{readAnswer, checkAnswer, runAnswer, translateAnswer, verdictNumbers, ranNumbers}
+use Rattle.language.specs.Answers.{readAnswer, checkAnswer, runAnswer, translateAnswer, writeAnswer, verdictNumbers, ranNumbers, wroteNumbers}
 use Rattle.checker.specs.declared.Verdict.{Verdict}
 use Rattle.checker.specs.Verdicts.{verdictOf}
 use Rattle.ial.specs.declared.running.Ran.{Ran}
+use Rattle.ial.specs.declared.writing.Wrote.{Wrote}
 use Rattle.ial.specs.declared.c.Answer.{Answer}
 use Rattle.ial.specs.Verdicts.{filledOf}
 use Rattle.ial.specs.Runs.{finishedOf}
+use Rattle.ial.specs.Texts.{shownOf}
 use Rattle.ial.specs.Numbers.{numbersOf}
 
 -- `read` with a text and a lent table of n cells answered r and left the table as `out`.
@@ -28,7 +30,12 @@ RunCalled t i args budget n x g = finishedOf x g ≡ runAnswer t i args budget n
 abbrev pub TranslateCalled : (t : List ℕ) (i n : ℕ) (r : Verdict) (out : List ℕ) → Type 0
 TranslateCalled t i n r out = filledOf r out ≡ translateAnswer t i n
 
--- The symbols that C and Rust link, by the four numbers of their answers: the same of `ial_read`, `ial_check`, `ial_run`, `ial_translate`.
+-- `write` with table t and a lent buffer of n bytes answered r and left the buffer as b.
+abbrev pub WriteCalled : (t : List ℕ) (n : ℕ) (r : Wrote) (b : List ℕ) → Type 0
+WriteCalled t n r b = shownOf r b ≡ writeAnswer t n
+
+-- The symbols that C and Rust link, by the four numbers of their answers: the same of `ial_read`, `ial_check`, `ial_run`, `ial_translate` and
+-- `ial_write`.
 abbrev pub ReadLinked : (text : List ℕ) (n : ℕ) (r : Answer) (out : List ℕ) → Type 0
 ReadLinked text n r out = (numbersOf r ≡ verdictNumbers (readAnswer text n .answer)) × (out ≡ readAnswer text n .table)
 
@@ -41,3 +48,6 @@ RunLinked t i args budget n x g =
 
 abbrev pub TranslateLinked : (t : List ℕ) (i n : ℕ) (r : Answer) (out : List ℕ) → Type 0
 TranslateLinked t i n r out = (numbersOf r ≡ verdictNumbers (translateAnswer t i n .answer)) × (out ≡ translateAnswer t i n .table)
+
+abbrev pub WriteLinked : (t : List ℕ) (n : ℕ) (r : Answer) (b : List ℕ) → Type 0
+WriteLinked t n r b = (numbersOf r ≡ wroteNumbers (writeAnswer t n .answer)) × (b ≡ writeAnswer t n .buffer)

@@ -7,7 +7,8 @@ use Prim.Native.Nat.{ℕ}
 use Rattle.theorems.specs.TableNeeds.{Agree}
 use Rattle.checker.specs.declared.Verdict.{Verdict}
 use Rattle.ial.specs.declared.running.Ran.{Ran}
-use Rattle.ial.specs.Calls.{CheckCalled, RunCalled, TranslateCalled}
+use Rattle.ial.specs.declared.writing.Wrote.{Wrote}
+use Rattle.ial.specs.Calls.{CheckCalled, RunCalled, TranslateCalled, WriteCalled}
 
 -- Two calls, one on table t and one on table u and otherwise alike, answer the same and leave the same in what was lent.
 pub record SameCalls (t u : List ℕ) : Type 0 where
@@ -22,6 +23,7 @@ pub record SameCalls (t u : List ℕ) : Type 0 where
       → TranslateCalled t i n r out
       → TranslateCalled u i n s out′
       → (r ≡ s) × (out ≡ out′)
+  pub write : (n : ℕ) (r s : Wrote) (b b′ : List ℕ) → WriteCalled t n r b → WriteCalled u n s b′ → (r ≡ s) × (b ≡ b′)
 
 abbrev pub IgnoredInCalls : Type 0
 IgnoredInCalls = (t u : List ℕ) → Agree t u → SameCalls t u

@@ -1,17 +1,20 @@
 // The entry points for C and Rust: numbers and slices, with an answer of four numbers.
 use crate::Ran;
 use crate::Verdict;
+use crate::Wrote;
 use crate::check;
 use crate::read;
 use crate::run;
 use crate::translate;
+use crate::write;
 ghost use mathlib.Core.Path.{_≡_};
 ghost use lib.ListN.{length};
-ghost use Rattle.language.specs.Answers.{verdictNumbers, ranNumbers};
+ghost use Rattle.language.specs.Answers.{verdictNumbers, ranNumbers, wroteNumbers};
 ghost use Rattle.checker.specs.Verdicts.{verdictOf};
 ghost use Rattle.ial.specs.Numbers.{numbersOf};
 ghost use Rattle.ial.specs.Runs.{ranOf};
-ghost use Rattle.ial.specs.Calls.{ReadLinked, CheckLinked, RunLinked, TranslateLinked};
+ghost use Rattle.ial.specs.Texts.{wroteOf};
+ghost use Rattle.ial.specs.Calls.{ReadLinked, CheckLinked, RunLinked, TranslateLinked, WriteLinked};
 
 // "Unstated numbers of an answer are 0."
 #[repr(C)]
@@ -112,4 +115,33 @@ pub extern "C" fn ial_translate(table: &[u8], function: u64, out: &mut [u8]) -> 
     ensures { λ r. ⌜ TranslateLinked (now (table .entry)) function (length (now (out .entry))) r (now (out .exit)) ⌝ }
 {
     numbers(translate(table, function, out))
+}
+
+// The numbers of what writing answers: "The answer is the text's length".
+fn write_numbers(r: Wrote) -> Answer
+    ensures { λ x. ⌜ numbersOf x ≡ wroteNumbers (wroteOf r) ⌝ }
+{
+    match r {
+        Wrote::Wrote(n) => Answer {
+            number: 0,
+            place: 0,
+            value: n as u64,
+            steps: 0,
+        },
+        Wrote::Refused(n, p) => Answer {
+            number: n as u64,
+            place: p as u64,
+            value: 0,
+            steps: 0,
+        },
+    }
+}
+
+// Writes a lent table as text to a lent buffer, with made names for what has none: 9 to 17, 33, 32. Past the text the buffer is zero; after a
+// refusal it is all zero.
+#[no_mangle]
+pub extern "C" fn ial_write(table: &[u8], out: &mut [u8]) -> Answer
+    ensures { λ r. ⌜ WriteLinked (now (table .entry)) (length (now (out .entry))) r (now (out .exit)) ⌝ }
+{
+    write_numbers(write(table, out))
 }

@@ -4,15 +4,19 @@ use reader::Taken;
 mod c;
 mod running;
 mod translating;
+mod writing;
 
 pub use c::Answer;
 pub use c::ial_check;
 pub use c::ial_read;
 pub use c::ial_run;
 pub use c::ial_translate;
+pub use c::ial_write;
 pub use running::Ran;
 pub use running::run;
 pub use translating::translate;
+pub use writing::Wrote;
+pub use writing::write;
 // What an entry point answers that fills a table or judges one: done, or refused with a number of document 01 and its place.
 pub use checker::Verdict;
 use checker::check_table;

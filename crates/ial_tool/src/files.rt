@@ -18,7 +18,7 @@ pub(crate) fn answer(lines: &[u8]) {
 
 pub(crate) fn say_wrong() {
     say(
-        b"ial: wrong words; say: ial list FILE, ial run FILE FUNCTION BUDGET [ARG..] or ial translate FILE FUNCTION\n",
+        b"ial: wrong words; say: ial list FILE, ial write FILE, ial run FILE FUNCTION BUDGET [ARG..] or ial translate FILE FUNCTION\n",
     );
 }
 

@@ -11,6 +11,7 @@ use calling::list_text;
 use calling::read_budget;
 use calling::run_text;
 use calling::translate_text;
+use calling::write_text;
 use files::answer;
 use files::load;
 use files::say_argument;
@@ -21,6 +22,9 @@ use table::same;
 
 // Room for the lines of 16 functions.
 const LINES: usize = 2384;
+
+// The longest text that is written.
+const WRITTEN: usize = 65536;
 
 // One byte more than a text may have: such a text is refused as too long, whatever follows.
 const TEXT: usize = 65537;
@@ -46,14 +50,26 @@ fn list(path: &[u8]) {
     answer(upto(&out, k));
 }
 
-// `translate FILE FUNCTION`: the listing of the translation.
+// `write FILE`: its functions, each line as the writer puts it.
+fn write(path: &[u8]) {
+    let mut text = [0u8; TEXT];
+    let n = load(path, &mut text);
+    if TEXT < n {
+        return;
+    }
+    let mut out = [0u8; WRITTEN];
+    let k = write_text(upto(&text, n), &mut out);
+    answer(upto(&out, k));
+}
+
+// `translate FILE FUNCTION`: the text of the translation.
 fn translate(path: &[u8], word: &[u8]) {
     let mut text = [0u8; TEXT];
     let n = load(path, &mut text);
     if TEXT < n {
         return;
     }
-    let mut out = [0u8; LINES];
+    let mut out = [0u8; WRITTEN];
     let k = translate_text(upto(&text, n), word, &mut out);
     answer(upto(&out, k));
 }
@@ -144,6 +160,10 @@ fn main() {
     let words = os::arg_count();
     if words == 3 && same(&command[..n], b"list") {
         list(&path[..k]);
+        return;
+    }
+    if words == 3 && same(&command[..n], b"write") {
+        write(&path[..k]);
         return;
     }
     call(&command[..n], &path[..k], words);

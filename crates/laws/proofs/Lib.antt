@@ -2,6 +2,7 @@ pub mod Agreeing
 pub mod All
 pub mod Appending
 pub mod Branches
+pub mod ByNumber
 pub mod Cells
 pub mod Every
 pub mod Gather

@@ -12,7 +12,7 @@ use lib.Seq.{getD-set-same, getD-set-other}
 use Rattle.laws.specs.Lists.{from, below, sum}
 use Rattle.laws.proofs.Appending.{sum-append}
 
-from-snoc : (k n : ℕ) → from k (suc n) ≡ from k n ++ ((k + n) ∷ [])
+pub from-snoc : (k n : ℕ) → from k (suc n) ≡ from k n ++ ((k + n) ∷ [])
 from-snoc k zero = rw add-zero
 from-snoc k (suc n) = ap (λ (l : List ℕ). k ∷ l) (from-snoc (suc k) n ∙ ap (λ i. from (suc k) n ++ (i ∷ [])) (suc-add k n ∙ sym (add-suc k n)))
 

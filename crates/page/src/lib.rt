@@ -1,6 +1,5 @@
 // Bytes put down in a lent buffer at a place, one part after the other. No function asks for room: a byte that has none is dropped and counted.
 ghost use mathlib.Core.Path.{_≡_};
-ghost use lib.ListN.{length};
 ghost use Rattle.page.specs.Page.{page, next, put, puts, closed};
 use table::put_bytes;
 

@@ -1,3 +1,4 @@
+pub mod Accepted
 pub mod Counting
 pub mod Ends
 pub mod FaultForms

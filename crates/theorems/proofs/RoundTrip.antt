@@ -245,6 +245,7 @@ pub round-trip : RoundTripLaw
 round-trip t n k e =
     let w = written-exactly t n k .0 e in
     record {
+      count = w .count;
       text = text t n k w;
       rest = rest t n k w;
       reads = reads t n k w;

@@ -6,7 +6,7 @@ use mathlib.Core.List.{List, map, map-map}
 use Prim.Native.Nat.{ℕ, _+_, _<_}
 use native.Mathlib.Nat.{zero-add}
 use native.Mathlib.Omega.{arith}
-use lib.Dec.{eqb, ltb}
+use lib.Dec.{T, eqb, ltb, eqb→eq}
 use lib.ListN.{length, getD, take}
 use borrow.Author.Tests.{eqb-true}
 use Rattle.laws.specs.Lists.{below, sum}
@@ -14,7 +14,7 @@ use Rattle.laws.proofs.Gather.{length-gather}
 use Rattle.laws.proofs.Ranges.{length-map-from, getD-map-from, gather-from, all-from-at, map-from-take, map-from-same}
 use Rattle.laws.proofs.Sums.{gather-map, sum-same}
 use Rattle.language.specs.Instructions.{Form, formOf, formNumber}
-use Rattle.language.specs.Programs.{Row, Block, typeAt, blockAt, rowsAt, rowsOf, firstRow, entriesOf, entryCount, noRegister, noBlock, noFunction}
+use Rattle.language.specs.Programs.{Row, Block, typeAt, blockAt, rowsAt, rowsOf, firstRow, opOf, entriesOf, entryCount, noRegister, noBlock, noFunction}
 use Rattle.language.specs.Table.{functionCount, functionAt, registerCount, registerType, blockCount, blockFirst, blockRows, rowsBefore}
 use Rattle.language.specs.Table.{rowCount, phiFirst, phiCount, phiEntry, rowEntries, entriesBefore, rowOp, decodeRegister, decodeAs, decodeRow, decodeBlock, decodeFunction, decode}
 use Rattle.language.specs.Table.{blocksPlaced, phisPlaced}
@@ -27,6 +27,28 @@ module _ (t : List ℕ) where
   pub function-is : (i : ℕ) → i < functionCount t → getD (decode t) i noFunction ≡ decodeFunction t (functionAt i)
   unfolding decode
   function-is i b = getD-map-from (λ i. decodeFunction t (functionAt i)) noFunction 0 (functionCount t) i b ∙ ap (λ k. decodeFunction t (functionAt k)) (zero-add i)
+
+choose : (P : Form → Type 0) (b : Bool) {g h : Form} → (T b → P g) → P h → P (cond b g h)
+choose P true p q = p tt
+choose P false p q = q
+
+-- a row has the number of its instruction
+pub op-decoded : (t : List ℕ) (a r : ℕ) → opOf (decodeRow t a r) ≡ rowOp t a r
+unfolding decodeRow decodeAs formOf
+op-decoded t a r =
+    let n = rowOp t a r in
+    let P : Form → Type 0 = λ g. opOf (decodeAs g t a r) ≡ n in
+    choose P (eqb n 0) (λ t. sym (eqb→eq n 0 t))
+    (choose P (eqb n 14) (λ t. refl)
+    (choose P (eqb n 18) (λ t. refl)
+    (choose P (eqb n 31) (λ t. sym (eqb→eq n 31 t))
+    (choose P (eqb n 32) (λ t. sym (eqb→eq n 32 t))
+    (choose P (eqb n 33) (λ t. sym (eqb→eq n 33 t))
+    (choose P (eqb n 34) (λ t. sym (eqb→eq n 34 t))
+    (choose P (eqb n 35) (λ t. sym (eqb→eq n 35 t))
+    (choose P (ltb n 9) (λ t. refl)
+    (choose P (ltb n 29) (λ t. refl)
+    (choose P (ltb n 31) (λ t. refl) refl))))))))))
 
 -- the instruction of form `phi` (4) is number 31
 phi-form : (op : ℕ) → eqb (formNumber (formOf op)) 4 ≡ eqb op 31

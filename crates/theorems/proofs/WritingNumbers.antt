@@ -7,7 +7,7 @@ use native.Mathlib.Nat.{not-suc-le-zero, mod-eq-of-lt, mod-lt, zero-add, add-zer
 use native.Mathlib.Omega.{arith}
 use lib.Dec.{T, ltb, leb, le→leb, lt→ltb, ltb→lt, lit<}
 use lib.Ieee.Fits.{and-l, and-r, and-i}
-use lib.ListN.{length}
+use lib.ListN.{length, length-append}
 use lib.IntN.{pos, negℤ}
 use lib.Pow.{pow-pos}
 use borrow.Author.Tests.{lt-ltb, le-leb, leb-true, leb-false}
@@ -43,6 +43,7 @@ one-decimal d h =
 pub shortest-numbers : ShortestNumbers
 shortest-numbers n =
     record {
+      some = digits-by (λ n ds. 0 < length ds) (λ d h. lit< tt) (λ n ds big h. rw (length-append ds ((digitZero + n % 10) ∷ [])) (omega arith)) n;
       decimal =
           digits-by (λ n ds. T (all isDecimal ds)) (λ d h. and-i (isDecimal (digitZero + d)) true (one-decimal d h) tt)
           (λ n ds big h. all-snoc isDecimal ds (digitZero + n % 10) h (one-decimal (n % 10) (mod-lt n (lit< tt))))

@@ -34,11 +34,12 @@ isDecimal b = leb digitZero b && ltb b (digitZero + 10)
 abbrev pub worth : List ℕ → ℕ
 worth ds = foldl (λ v b. 10 * v + (b - digitZero)) 0 ds
 
--- "shortest decimal numbers": the digits written stand for the number, and no digits that do are fewer.
-pub record Shortest (n : ℕ) (written : List ℕ) : Type 0 where
-  pub decimal : T (all isDecimal written)
-  pub stands : worth written ≡ n
-  pub fewest : (ds : List ℕ) → 0 < length ds → T (all isDecimal ds) → worth ds ≡ n → length written ≤ length ds
+-- "shortest decimal numbers": there are digits, they stand for the number, and no digits that do are fewer.
+pub record Shortest (n : ℕ) (ds : List ℕ) : Type 0 where
+  pub some : 0 < length ds
+  pub decimal : T (all isDecimal ds)
+  pub stands : worth ds ≡ n
+  pub fewest : (others : List ℕ) → 0 < length others → T (all isDecimal others) → worth others ≡ n → length ds ≤ length others
 
 abbrev pub ShortestNumbers : Type 0
 ShortestNumbers = (n : ℕ) → Shortest n (digits n)
@@ -209,6 +210,7 @@ textIn x k = take k (x .buffer)
 -- What holds where writing table t to n bytes answered k.
 pub record RoundTrip (t : List ℕ) (n k : ℕ) : Type 0 where
   -- "The answer is the text's length; past it the buffer is zero."
+  pub count : k ≡ length (written (decode t))
   pub text : textIn (writeAnswer t n) k ≡ written (decode t)
   pub rest : drop k (writeAnswer t n .buffer) ≡ zeros (n - k)
   -- "Read back, the text gives the same table", for an output of any length: reading refuses none but with 22.

@@ -1,32 +1,32 @@
 -- What stands in a translation at each number, by the cells of the source.
 -- Assumes nothing.
 use mathlib.Core.Path.{_≡_, refl, sym, ap, _∙_}
-use mathlib.Core.Bool.{Bool, true, false, cond, false≢true}
+use mathlib.Core.Bool.{true, false, cond, false≢true}
 use mathlib.Core.List.{List, [], _∷_, _++_, map}
-use Prim.Native.Nat.{ℕ, zero, suc, _+_, _*_, _≤_, _<_}
-use native.Mathlib.Nat.{zero-add, add-assoc}
+use Prim.Native.Nat.{ℕ, _+_, _*_, _≤_, _<_}
+use native.Mathlib.Nat.{add-assoc}
 use native.Mathlib.Omega.{arith}
-use lib.Dec.{T, eqb, ltb, eqb→eq}
-use lib.ListN.{length, getD, take, length-map, List·getD-append, List·getD-map}
+use lib.Dec.{eqb}
+use lib.ListN.{length, getD, length-map, List·getD-append}
 use lib.Seq.{getD-append-add}
-use Rattle.laws.specs.Lists.{keep, gather, sum, from, below, together}
-use Rattle.laws.proofs.Every.{Every, every-at, none-every}
+use Rattle.laws.specs.Lists.{keep, from, together}
+use Rattle.laws.proofs.Every.{every-at}
 use Rattle.laws.proofs.Gather.{length-gather, getD-gather, keep-gather, sum-take-le}
 use Rattle.laws.proofs.Indexing.{getD-map, length-together-from}
 use Rattle.laws.proofs.Ranges.{length-map-from, getD-map-from}
 use Rattle.laws.proofs.Sums.{sum-below-le}
 use Rattle.language.specs.Instructions.{Form, formOf}
-use Rattle.language.specs.Programs.{Row, Register, Block, Func, noRegister, noBlock, blockAt, rowsAt, typeAt, rowsOf, firstRow, isPhi, hasPhi, opOf, entriesOf}
+use Rattle.language.specs.Programs.{Row, Block, Func, noRegister, noBlock, blockAt, rowsAt, typeAt, rowsOf, firstRow, isPhi, opOf, entriesOf}
 use Rattle.language.specs.Checking.{predecessors}
 use Rattle.language.specs.Running.{phisOf, phiTarget, entryAt}
-use Rattle.language.specs.Table.{registerCount, registerType, registerName, blockCount, blockFirst, blockRows, blockName, rowCount, rowsBefore, rowOp, rowTarget, phiFirst, phiCount, phiEntry, rowEntries, entriesBefore}
+use Rattle.language.specs.Table.{registerCount, registerType, blockCount, blockFirst, blockRows, blockName, rowCount, rowOp, rowTarget, phiFirst, phiCount, phiEntry, rowEntries}
 use Rattle.language.specs.Table.{decodeAs, decodeRow, decodeRegister, decodeBlock, decodeFunction}
-use Rattle.language.specs.Translating.{keptOf, phisBefore, pairsBefore, newRegister, retarget, edgeRows, copyRow, keptBlock, registerFor, translation, phiCount as phiTotal}
+use Rattle.language.specs.Translating.{phisBefore, newRegister, retarget, edgeRows, copyRow, keptBlock, registerFor, translation, phiCount as phiTotal}
 use Rattle.theorems.specs.Clean.{Clean}
-use Rattle.theorems.proofs.TableView.{register-count, register-is, type-is, block-count, block-is, block-rows-count, block-row-is, block-first-is, phi-first-is}
-use Rattle.theorems.proofs.SimulationBlocks.{kept-block, kept-rows, edge-block, edge-rows}
-use Rattle.theorems.proofs.SimulationRows.{phisAt, phiOf, keptAt, keptRow, rowOf, phi-at, kept-at, phi-is, rows-count, phi-target}
-use Rattle.theorems.proofs.AcceptanceRows.{Phi, source-phis}
+use Rattle.theorems.proofs.TableView.{op-decoded, register-count, register-is, type-is, block-count, block-is, block-rows-count, block-row-is, block-first-is, phi-first-is}
+use Rattle.theorems.proofs.SimulationBlocks.{kept-block, kept-rows}
+use Rattle.theorems.proofs.SimulationRows.{phisAt, phiOf, keptAt, phi-at, kept-at, phi-is, rows-count, phi-target}
+use Rattle.theorems.proofs.AcceptanceRows.{source-phis}
 use Rattle.theorems.proofs.AcceptanceNumbers.{new-lt}
 use Rattle.rules.specs.Prepared.{Sized}
 use Rattle.theorems.proofs.SimulationBlocks.{phis-fit}
@@ -48,28 +48,6 @@ module _ (g : Func) (b j : ℕ) (l : b < length (g .blocks)) (h : j < length (ro
   row-within = omega (arith, first-within g b l)
 
 -- ---- a row by its instruction
-
-choose : (P : Form → Type 0) (b : Bool) {g h : Form} → (T b → P g) → P h → P (cond b g h)
-choose P true p q = p tt
-choose P false p q = q
-
--- a row has the number of its instruction
-pub op-decoded : (t : List ℕ) (a r : ℕ) → opOf (decodeRow t a r) ≡ rowOp t a r
-unfolding decodeRow decodeAs formOf
-op-decoded t a r =
-    let n = rowOp t a r in
-    let P : Form → Type 0 = λ g. opOf (decodeAs g t a r) ≡ n in
-    choose P (eqb n 0) (λ t. sym (eqb→eq n 0 t))
-    (choose P (eqb n 14) (λ t. refl)
-    (choose P (eqb n 18) (λ t. refl)
-    (choose P (eqb n 31) (λ t. sym (eqb→eq n 31 t))
-    (choose P (eqb n 32) (λ t. sym (eqb→eq n 32 t))
-    (choose P (eqb n 33) (λ t. sym (eqb→eq n 33 t))
-    (choose P (eqb n 34) (λ t. sym (eqb→eq n 34 t))
-    (choose P (eqb n 35) (λ t. sym (eqb→eq n 35 t))
-    (choose P (ltb n 9) (λ t. refl)
-    (choose P (ltb n 29) (λ t. refl)
-    (choose P (ltb n 31) (λ t. refl) refl))))))))))
 
 phi-as : (g : Form) (t : List ℕ) (a r : ℕ) → isPhi (decodeAs g t a r) ≡ true
     → decodeAs g t a r ≡ Row.phi (rowTarget t a r) (map (phiEntry t a) (from (phiFirst t a r) (phiCount t a r)))

@@ -19,14 +19,14 @@ use Rattle.language.specs.Programs.{Row, Block, Func, noBlock, blockAt, rowsAt,
 use Rattle.language.specs.Table.{twoBytes, blockCount, blockRows, blockFirst, blockName, rowOp, rowCount, rowCells, blockCells, decodeAs, decodeRow, decodeFunction}
 use Rattle.language.specs.Translating.{retarget, translation}
 use Rattle.instructions.specs.Shapes.{shapeOf}
-use Rattle.theorems.proofs.TableView.{block-count, block-rows-count, block-row-is}
+use Rattle.theorems.proofs.TableView.{op-decoded, block-count, block-rows-count, block-row-is}
 use Rattle.theorems.proofs.SimulationRows.{phisAt, keptAt, keptRow, rowOf, kept-at, kept-is, rows-count}
 use Rattle.theorems.proofs.AcceptanceNumbers.{block-lt}
 use Rattle.theorems.proofs.Spots.{first-next}
 use Rattle.rules.specs.Prepared.{Prepared}
 use Rattle.translator.specs.Source.{TranslatableAt, Planned, translated, built, phisIn, keptCells, Naming, KeptRows}
 use Rattle.translator.proofs.Filling.{length-filled, block-stored, row-stored}
-use Rattle.translator.proofs.Items.{row-in-block, row-within, first-within, row-of-block, op-decoded, kept-name, kept-height, kept-row}
+use Rattle.translator.proofs.Items.{row-in-block, row-within, first-within, row-of-block, kept-name, kept-height, kept-row}
 use Rattle.translator.proofs.RegistersLaws.{target-fits, plain, name-cells}
 use Rattle.translator.proofs.Renaming.{Renames, renames, cells-as}
 use Rattle.translator.proofs.SizesLaws.{phis-here}

@@ -24,7 +24,6 @@ use Rattle.theorems.proofs.AcceptanceNumbers.{retargeted-lt}
 use Rattle.rules.specs.Prepared.{Prepared, targetsFrom, rankOf}
 use Rattle.translator.specs.Source.{Planned, phisIn, renamedAs, operandAs, keptCells, Naming}
 use Rattle.translator.proofs.Counting.{leading-phis, by-count, rank-is}
-use Rattle.translator.proofs.Items.{op-decoded}
 
 -- ---- a small number in eight cells
 

@@ -6,7 +6,7 @@ use lib.ListN.{length-replicate}
 use lib.Seq.{length-take-le}
 use borrow.Author.Needs.{needs}
 use Rattle.language.specs.Table.{functionAt, functionCount, functionParams}
-use Rattle.ial.proofs.Accepted.{accepted-length, accepted-within}
+use Rattle.rules.proofs.Accepted.{accepted-length, accepted-within}
 use Rattle.calling.specs.Calls.{givenOf}
 use Rattle.calling.proofs.CallLaws.{few-arguments, most-arguments, call-missing, call-count, call-outside, call-run}
 use Rattle.calling.proofs.runs.call.Statement.{statement}

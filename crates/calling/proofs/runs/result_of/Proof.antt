@@ -3,7 +3,7 @@ use Prim.Native.Nat.{_<_}
 use native.Mathlib.Omega.{arith}
 use borrow.Author.Needs.{needs}
 use Rattle.language.specs.Table.{functionCount}
-use Rattle.ial.proofs.Accepted.{accepted-length, accepted-within}
+use Rattle.rules.proofs.Accepted.{accepted-length, accepted-within}
 use Rattle.calling.proofs.CallLaws.{result-missing, result-is}
 use Rattle.calling.proofs.runs.result_of.Statement.{statement}
 use Rattle.calling.proofs.runs.result_of.Tie as tie

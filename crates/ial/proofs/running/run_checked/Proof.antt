@@ -5,7 +5,7 @@ use native.Mathlib.Omega.{arith}
 use lib.ListN.{length}
 use borrow.Author.Needs.{needs}
 use Rattle.language.specs.Table.{functionAt, functionCount, registerCount}
-use Rattle.ial.proofs.Accepted.{accepted-length, accepted-count, accepted-clean, accepted-within, accepted-sized, accepted-fit, accepted-params}
+use Rattle.rules.proofs.Accepted.{accepted-length, accepted-count, accepted-clean, accepted-within, accepted-sized, accepted-fit, accepted-params}
 use Rattle.ial.proofs.Places.{answer-small}
 use Rattle.ial.proofs.RunLaws.{run-missing, run-count, run-unfit, run-short, run-done, all-fit, arguments-fit}
 use Rattle.ial.proofs.running.run_checked.Statement.{statement}

@@ -7,7 +7,7 @@ use borrow.Author.Needs.{needs}
 use borrow.Author.Tests.{not-true, not-false}
 use Rattle.language.specs.Table.{functionCount}
 use Rattle.language.specs.Answers.{zeros}
-use Rattle.ial.proofs.Accepted.{accepted-length, accepted-clean, accepted-within, accepted-sized, accepted-fit}
+use Rattle.rules.proofs.Accepted.{accepted-length, accepted-clean, accepted-within, accepted-sized, accepted-fit}
 use Rattle.ial.proofs.TranslateLaws.{translate-missing, translate-plain, translate-large, translate-other, translate-done, translatable}
 use Rattle.ial.proofs.translating.translate_checked.Statement.{statement}
 use Rattle.ial.proofs.translating.translate_checked.Tie as tie

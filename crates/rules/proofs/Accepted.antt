@@ -1,4 +1,4 @@
--- What a table that passes its check whole gives of each of its functions: what runs and translations ask for.
+-- What a table that passes its check whole gives of each of its functions: what runs, translations and texts ask for.
 -- Assumes nothing.
 use mathlib.Core.Path.{_≡_, sym, ap, subst, subst⁻¹, _∙_}
 use mathlib.Core.Bool.{Bool, true, and-eq-true-iff}
@@ -40,8 +40,8 @@ module _ (t : List ℕ) (e : checkAnswer t ≡ Verdict.accepted) where
     accepted-clean =
         subst Clean (function-is t i l) (clean-of-check (decode t) i accepted-program (subst⁻¹ (λ (n : ℕ). i < n) (function-count t) l))
 
-    sound-here : Sound (decodeFunction t (functionAt i))
-    sound-here = sound-parts [] (decodeFunction t (functionAt i)) (accepted-clean .head)
+    pub accepted-sound : Sound (decodeFunction t (functionAt i))
+    accepted-sound = sound-parts [] (decodeFunction t (functionAt i)) (accepted-clean .head)
 
     pub accepted-within : functionAt i + functionLength ≤ length t
     accepted-within = omega (arith, accepted-length, accepted-count)
@@ -49,7 +49,7 @@ module _ (t : List ℕ) (e : checkAnswer t ≡ Verdict.accepted) where
     pub accepted-sized : Sized t (functionAt i)
     unfolding decodeFunction
     accepted-sized =
-        let s = sound-here in
+        let s = accepted-sound in
         let placed : decodeFunction t a .placed ≡ true = is-true (decodeFunction t a .placed) (s .placed) in
         record {
           within = accepted-within;
@@ -61,8 +61,8 @@ module _ (t : List ℕ) (e : checkAnswer t ≡ Verdict.accepted) where
         }
 
     pub accepted-fit : Fit t (functionAt i)
-    accepted-fit = record { sized = accepted-sized; ranges = sound-here .ranges }
+    accepted-fit = record { sized = accepted-sized; ranges = accepted-sound .ranges }
 
     pub accepted-params : functionParams t (functionAt i) ≤ registerCount t (functionAt i)
     unfolding decodeFunction
-    accepted-params = omega (arith, sound-here .params, register-count t a)
+    accepted-params = omega (arith, accepted-sound .params, register-count t a)

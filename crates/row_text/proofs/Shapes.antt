@@ -1,0 +1,82 @@
+-- The parts of a row, by what its instruction looks like. Assumes nothing.
+use mathlib.Core.Bool.{cond}
+use mathlib.Core.List.{List, [], _∷_}
+use mathlib.Core.Path.{_≡_, refl}
+use Prim.Native.Nat.{ℕ, _≤_}
+use native.Mathlib.Omega.{arith}
+use lib.ListN.{take}
+use Rattle.language.specs.Instructions.{Form, formOf, hasTarget, sourceCount, operandOf}
+use Rattle.language.specs.Programs.{targetsOf, sourcesOf}
+use Rattle.language.specs.Table.{rowOp, rowTarget, rowLeft, rowRight, decodeAs, decodeRow}
+use Rattle.language.specs.Writing.{operandPart}
+use Rattle.instructions.specs.Shapes.{operandNumber, shapeOf}
+use Rattle.row_text.specs.Ready.{titled, operandAs}
+
+module _ (t : List ℕ) (a r : ℕ) where
+  targets-as : (g : Form) → targetsOf (decodeAs g t a r) ≡ cond (hasTarget g) (rowTarget t a r ∷ []) []
+  unfolding decodeAs
+  targets-as Form.nop = refl
+  targets-as Form.load = refl
+  targets-as Form.unary = refl
+  targets-as Form.binary = refl
+  targets-as Form.phi = refl
+  targets-as Form.jump = refl
+  targets-as Form.branch = refl
+  targets-as Form.return = refl
+  targets-as Form.leave = refl
+  targets-as Form.unknown = refl
+
+  pub targets-are : targetsOf (decodeRow t a r) ≡ cond (shapeOf (rowOp t a r) .target) (rowTarget t a r ∷ []) []
+  unfolding decodeRow shapeOf
+  targets-are = targets-as (formOf (rowOp t a r))
+
+  sources-as : (g : Form) → sourcesOf (decodeAs g t a r) ≡ take (sourceCount g) (rowLeft t a r ∷ rowRight t a r ∷ [])
+  unfolding decodeAs
+  sources-as Form.nop = refl
+  sources-as Form.load = refl
+  sources-as Form.unary = refl
+  sources-as Form.binary = refl
+  sources-as Form.phi = refl
+  sources-as Form.jump = refl
+  sources-as Form.branch = refl
+  sources-as Form.return = refl
+  sources-as Form.leave = refl
+  sources-as Form.unknown = refl
+
+  pub sources-are : sourcesOf (decodeRow t a r) ≡ take (shapeOf (rowOp t a r) .sources) (rowLeft t a r ∷ rowRight t a r ∷ [])
+  unfolding decodeRow shapeOf
+  sources-are = sources-as (formOf (rowOp t a r))
+
+  operand-as : (g : Form) → operandAs t a r (operandNumber (operandOf g)) ≡ operandPart (titled t a) (decodeAs g t a r)
+  unfolding decodeAs
+  operand-as Form.nop = refl
+  operand-as Form.load = refl
+  operand-as Form.unary = refl
+  operand-as Form.binary = refl
+  operand-as Form.phi = refl
+  operand-as Form.jump = refl
+  operand-as Form.branch = refl
+  operand-as Form.return = refl
+  operand-as Form.leave = refl
+  operand-as Form.unknown = refl
+
+  pub operand-is : operandAs t a r (shapeOf (rowOp t a r) .operand) ≡ operandPart (titled t a) (decodeRow t a r)
+  unfolding decodeRow shapeOf
+  operand-is = operand-as (formOf (rowOp t a r))
+
+few-as : (g : Form) → (sourceCount g ≤ 2) × (operandNumber (operandOf g) ≤ 4)
+few-as Form.nop = (omega arith, omega arith)
+few-as Form.load = (omega arith, omega arith)
+few-as Form.unary = (omega arith, omega arith)
+few-as Form.binary = (omega arith, omega arith)
+few-as Form.phi = (omega arith, omega arith)
+few-as Form.jump = (omega arith, omega arith)
+few-as Form.branch = (omega arith, omega arith)
+few-as Form.return = (omega arith, omega arith)
+few-as Form.leave = (omega arith, omega arith)
+few-as Form.unknown = (omega arith, omega arith)
+
+-- at most two sources, and five kinds of operand
+pub few : (n : ℕ) → (shapeOf n .sources ≤ 2) × (shapeOf n .operand ≤ 4)
+unfolding shapeOf
+few n = few-as (formOf n)
