@@ -1,4 +1,4 @@
-//! IAL in plain Rust, written from document 01 and the table layout alone.
+//! IAL in plain Rust, written from documents 01 and 02 and the table layout alone.
 //!
 //! It takes and answers what the verified library's entry points do, for any input, and shares no code with it.
 
@@ -13,6 +13,7 @@ mod reader;
 pub mod table;
 mod translator;
 mod words;
+mod writer;
 
 pub use checker::check;
 pub use listing::listing;
@@ -20,6 +21,7 @@ pub use machine::run;
 pub use reader::read;
 pub use table::TABLE;
 pub use translator::translate;
+pub use writer::write;
 
 /// A refusal: its number and its place.
 pub type Refusal = (u64, u64);

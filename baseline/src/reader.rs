@@ -7,7 +7,7 @@ use crate::words::{loaded, mask, shape, signed, Operand, Word, VOID};
 use crate::Refusal;
 
 /// The longest text.
-const TEXT: usize = 65_536;
+pub const TEXT: usize = 65_536;
 
 /// Reads a text into a table. After a refusal `out` is all zero.
 pub fn read(text: &[u8], out: &mut [u8]) -> Result<(), Refusal> {

@@ -83,6 +83,16 @@ pub fn word(spelling: &[u8]) -> Option<Word> {
     })
 }
 
+/// The word of a type below `TYPES`.
+pub fn type_spelling(kind: u8) -> &'static [u8] {
+    SPELLINGS[usize::from(FIRST_TYPE + kind)]
+}
+
+/// The word of an instruction below `INSTRUCTIONS`.
+pub fn instruction_spelling(instruction: u8) -> &'static [u8] {
+    SPELLINGS[usize::from(FIRST_INSTRUCTION + instruction)]
+}
+
 pub const TYPES: u8 = 10;
 pub const UINT: u8 = 9;
 /// The return type of a void function.

@@ -1,10 +1,10 @@
 //! The outside vectors: every line of every expected answer.
-//!
-//! They are looked for in `IAL_VECTORS`, else in `shared/vectors` beside the repository or one folder further up.
+
+mod outside;
 
 use ial_baseline::{check, listing, read, run, translate, Ran, TABLE};
+use outside::{all, Expected};
 use std::fmt::Write;
-use std::path::{Path, PathBuf};
 
 const TYPES: [&str; 11] =
     ["int8", "int16", "int32", "int64", "uint8", "uint16", "uint32", "uint64", "int", "uint", "void"];
@@ -14,14 +14,6 @@ const INSTRUCTIONS: [&str; 36] = [
     "shl", "shr", "rol", "ror", "cmp.eq", "cmp.neq", "cmp.gt", "cmp.lt", "cmp.gteq", "cmp.lteq",
     "conv", "copy", "phi", "jump", "jump.cond", "return", "leave",
 ];
-
-fn folder() -> Option<PathBuf> {
-    if let Some(path) = std::env::var_os("IAL_VECTORS") {
-        return Some(PathBuf::from(path)).filter(|path| path.is_dir());
-    }
-    let root = Path::new(env!("CARGO_MANIFEST_DIR")).join("..");
-    ["../shared/vectors", "../../shared/vectors"].iter().map(|path| root.join(path)).find(|path| path.is_dir())
-}
 
 /// Reads cells, and remembers which of them were needed.
 struct Cells<'a> {
@@ -125,26 +117,8 @@ fn join(numbers: &[u64]) -> String {
     numbers.iter().map(u64::to_string).collect::<Vec<_>>().join(",")
 }
 
-/// The rest of an expected answer.
-struct Expected<'a>(&'a [u8]);
-
-impl<'a> Expected<'a> {
-    fn line(&mut self) -> &'a str {
-        let length = self.0.iter().position(|&byte| byte == b'\n').expect("a line ends");
-        let line = std::str::from_utf8(&self.0[..length]).expect("a line of text");
-        self.0 = &self.0[length + 1..];
-        line
-    }
-
-    fn bytes(&mut self, count: usize) -> &'a [u8] {
-        let (bytes, rest) = self.0.split_at(count);
-        self.0 = rest;
-        bytes
-    }
-
-    fn lines(&mut self, count: usize) -> String {
-        (0..count).map(|_| format!("{}\n", self.line())).collect()
-    }
+fn lines(expected: &mut Expected, count: usize) -> String {
+    (0..count).map(|_| format!("{}\n", expected.line())).collect()
 }
 
 /// A run's line without its first word.
@@ -190,7 +164,7 @@ fn vector(text: &[u8], expected: &[u8]) -> usize {
             "table" => {
                 assert_eq!(read(text, &mut table), Ok(()));
                 let (dumped, needed) = dump(&table);
-                assert_eq!(dumped, expected.lines(fields[1].parse().unwrap()));
+                assert_eq!(dumped, lines(&mut expected, fields[1].parse().unwrap()));
                 assert_clean(&table, &needed);
                 lent = littered(&table, &needed);
                 assert_eq!(check(&table), check(&lent));
@@ -212,7 +186,7 @@ fn vector(text: &[u8], expected: &[u8]) -> usize {
                         head.split('\t').find_map(|field| field.strip_prefix(label)).unwrap()
                     };
                     assert_eq!(fields[3..6], [count("registers="), count("blocks="), count("rows=")]);
-                    assert_eq!(dumped, expected.lines(fields[6].parse().unwrap()));
+                    assert_eq!(dumped, lines(&mut expected, fields[6].parse().unwrap()));
                     assert_clean(&translation, &needed);
                     assert_eq!(check(&translation), Ok(()));
                 }
@@ -226,23 +200,5 @@ fn vector(text: &[u8], expected: &[u8]) -> usize {
 
 #[test]
 fn all_vectors() {
-    let Some(folder) = folder() else {
-        eprintln!("no vectors found: skipped (set IAL_VECTORS)");
-        return;
-    };
-    let mut paths: Vec<PathBuf> = std::fs::read_dir(folder).unwrap().map(|entry| entry.unwrap().path()).collect();
-    paths.retain(|path| path.extension().is_some_and(|extension| extension == "ial"));
-    paths.sort();
-    let mut failed = Vec::new();
-    let mut compared = 0;
-    for path in &paths {
-        let text = std::fs::read(path).unwrap();
-        let expected = std::fs::read(path.with_extension("expect")).unwrap();
-        match std::panic::catch_unwind(|| vector(&text, &expected)) {
-            Ok(lines) => compared += lines,
-            Err(_) => failed.push(path.file_name().unwrap().to_owned()),
-        }
-    }
-    println!("{} vectors, {compared} lines compared", paths.len());
-    assert!(failed.is_empty(), "vectors that differ: {failed:?}");
+    all(".", vector);
 }

@@ -16,6 +16,7 @@ extern "C" {
     fn ial_check(table: *const u8, table_len: usize) -> Answer;
     fn ial_run(t: *const u8, n: usize, f: u64, args: *const u64, k: usize, budget: u64, g: *mut u64, m: usize) -> Answer;
     fn ial_translate(table: *const u8, n: usize, f: u64, out: *mut u8, m: usize) -> Answer;
+    fn ial_write(table: *const u8, n: usize, out: *mut u8, m: usize) -> Answer;
 }
 
 fn verified_check(t: &[u8]) -> u64 {
@@ -87,6 +88,58 @@ fn judge_run_translate() {
     race("translate, turn", 5000, || { verified_translate(&turn, &mut a); }, || { ial_baseline::translate(&turn, 0, &mut b).unwrap(); });
 }
 
+fn verified_write(t: &[u8], out: &mut [u8]) -> (u64, usize) {
+    let a = unsafe { ial_write(t.as_ptr(), t.len(), out.as_mut_ptr(), out.len()) };
+    (a.number, a.value as usize)
+}
+
+fn plain_write(t: &[u8], out: &mut [u8]) -> (u64, usize) {
+    ial_baseline::write(t, out).map_or_else(|(number, _)| (number, 0), |length| (0, length))
+}
+
+/// A function with sixty phi in a block of six predecessors: its translation has 60 registers and 6 blocks without a name, and 735 rows.
+fn phi_text() -> String {
+    let mut s = "function ssa uint64 merged(uint64 reading, uint bound) {\n".to_string();
+    (0..60).for_each(|r| s += &format!(" register uint64 value_{r};\n"));
+    s += " block entry { jump (step_0); }\n";
+    (0..5).for_each(|b| s += &format!(" block step_{b} {{ jump.cond bound (out, step_{}); }}\n", b + 1));
+    s += " block step_5 { jump (out); }\n block out {\n";
+    (0..60).for_each(|r| s += &format!("  value_{r} = phi (reading{});\n", ", reading".repeat(5)));
+    s + "  return value_0;\n }\n}\n"
+}
+
+/// Writing, the check included: the texts above and translations, each in a buffer of the longest text, which is zeroed past the text; `turn` also
+/// in one that is just as long.
+fn write_texts(long: &str) {
+    let table = |text: &str| {
+        let mut t = vec![0u8; ial_baseline::TABLE];
+        ial_baseline::read(text.as_bytes(), &mut t).unwrap();
+        t
+    };
+    let translation = |text: &str| {
+        let mut t = vec![0u8; ial_baseline::TABLE];
+        ial_baseline::translate(&table(text), 0, &mut t).unwrap();
+        t
+    };
+    let whole = 65_536;
+    let exact = plain_write(&table(TURN), &mut vec![0u8; whole]).1;
+    let works = [
+        ("the 64 KB text", table(long), whole, 2000),
+        ("turn", table(TURN), whole, 10000),
+        ("turn, no room to spare", table(TURN), exact, 10000),
+        ("turn translated", translation(TURN), whole, 10000),
+        ("sixty phi by six ways, translated", translation(&phi_text()), whole, 5000),
+    ];
+    for (name, t, room, rounds) in works {
+        let (mut a, mut b) = (vec![255u8; room], vec![255u8; room]);
+        let (number, length) = verified_write(&t, &mut a);
+        assert_eq!((number, length), plain_write(&t, &mut b));
+        assert!(number == 0 && a == b);
+        let time = race(&format!("write, {name}, {length} bytes"), rounds, || { verified_write(&t, &mut a); }, || { plain_write(&t, &mut b); });
+        println!("  verified {:.0} MB/s of text", length as f64 * 1000.0 / time);
+    }
+}
+
 fn verified_read(text: &[u8], out: &mut [u8]) -> (u64, u64) {
     // The library takes any input: pointer and length of two live slices.
     let a = unsafe { ial_read(text.as_ptr(), text.len(), out.as_mut_ptr(), out.len()) };
@@ -153,8 +206,9 @@ fn nanoseconds(work: &mut impl FnMut()) -> f64 {
     thread_time() - start
 }
 
-/// The medians of so many rounds, each a call of one side and then of the other; the ratio is the median of the rounds' own.
-fn race(name: &str, rounds: usize, mut verified: impl FnMut(), mut plain: impl FnMut()) {
+/// The medians of so many rounds, each a call of one side and then of the other; the ratio is the median of the rounds' own. Our time is
+/// handed back.
+fn race(name: &str, rounds: usize, mut verified: impl FnMut(), mut plain: impl FnMut()) -> f64 {
     let (mut ours, mut theirs, mut ratios) = (vec![], vec![], vec![]);
     for _ in 0..rounds {
         let v = nanoseconds(&mut verified);
@@ -163,7 +217,9 @@ fn race(name: &str, rounds: usize, mut verified: impl FnMut(), mut plain: impl F
         theirs.push(p);
         ratios.push(p / v);
     }
-    println!("{name}: verified {:.1} us, plain {:.1} us, ratio {:.2}", median(ours) / 1000.0, median(theirs) / 1000.0, median(ratios));
+    let ours = median(ours);
+    println!("{name}: verified {:.1} us, plain {:.1} us, ratio {:.2}", ours / 1000.0, median(theirs) / 1000.0, median(ratios));
+    ours
 }
 
 fn main() {
@@ -183,4 +239,5 @@ fn main() {
     let lexed = median((0..4000).map(|_| nanoseconds(&mut || { verified_read(comment.as_bytes(), &mut a); })).collect());
     println!("lex, a comment of {} bytes: verified {:.0} MB/s", comment.len(), comment.len() as f64 * 1000.0 / (lexed - empty));
     judge_run_translate();
+    write_texts(&long);
 }

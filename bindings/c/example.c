@@ -1,4 +1,4 @@
-/* Reads a text, checks it, runs function 0 with a phi and, translated, without.
+/* Reads a text, checks it, runs function 0 with a phi and, translated, without, and shows the translation as text.
  * From the project's root, after `rt staticlib ial`:
  *     cc -o example bindings/c/example.c target/staticlib/libial.a && ./example examples/turn.ial 7 9 2
  * Exit status: 0 both runs returned, 1 something was refused, 2 wrong words or a file that cannot be read, 3 a run stopped. */
@@ -8,7 +8,7 @@
 #include <stdio.h>
 #include <stdlib.h>
 
-static uint8_t text[65537], table[IAL_TABLE], translated[IAL_TABLE];
+static uint8_t text[IAL_TEXT + 1], table[IAL_TABLE], translated[IAL_TABLE], shown[IAL_TEXT];
 static uint64_t registers[IAL_REGISTERS], arguments[IAL_REGISTERS];
 
 /* Ends the program where a call was refused. */
@@ -52,5 +52,7 @@ int main(int argc, char **argv) {
     int stopped = run("source", table, count);
     accepted("translate", ial_translate(table, sizeof table, 0, translated, sizeof translated));
     stopped |= run("translation", translated, count);
+    ial_answer written = accepted("write", ial_write(translated, sizeof translated, shown, sizeof shown));
+    fwrite(shown, 1, written.value, stdout);
     return stopped ? 3 : 0;
 }

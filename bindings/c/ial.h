@@ -4,7 +4,7 @@
  * answer. The only thing asked is C's own: each pointer leads to as many elements as the length beside it says, and lent
  * outputs overlap nothing else. A length may be 0, and its pointer is then not followed: NULL will do.
  *
- * Numbers of an answer (document 01, "Numbers we answer"), with the place of each:
+ * Numbers of an answer (document 01, "Numbers we answer", and document 02), with the place of each:
  *     0         done
  *     1         refused: the text is too long; place 0
  *     2 to 8    refused: the text; a byte of it
@@ -14,6 +14,7 @@
  *     21        refused: no such function; 0
  *     22        refused: a table output of another length (reading and translating), too few registers (running); 0
  *     30, 31    refused: a translation of a function that is not ssa, or that is too large when translated; 0
+ *     32, 33    refused: a text longer than the buffer, or than IAL_TEXT bytes (writing); 0
  *     27        stopped: a row met in a run breaks 9 to 16; 2048 times the function's number plus the row
  *     40 to 42  stopped: zero divisor, shift or rotation by w or more, least number divided by -1; likewise
  *     43        stopped: budget used up; likewise, the next row
@@ -29,9 +30,10 @@
 extern "C" {
 #endif
 
-/* The bytes of a table, and the most registers a function has. */
+/* The bytes of a table, the most registers a function has, and the most bytes of a text. */
 #define IAL_TABLE 555153
 #define IAL_REGISTERS 256
+#define IAL_TEXT 65536
 
 /* The stack that must be free at a call, in bytes: the library has no heap and no memory of its own. A call with less crashes
  * at the end of the stack. The numbers are those of the compiled library, for all inputs, with at least 8 KiB to
@@ -41,8 +43,10 @@ extern "C" {
 #define IAL_CHECK_STACK (16 * 1024)
 #define IAL_RUN_STACK (32 * 1024)
 #define IAL_TRANSLATE_STACK (16 * 1024)
+#define IAL_WRITE_STACK (16 * 1024)
 
-/* What a call answers: a number of document 01 or 0, its place, the value a run returned, the steps a run took. */
+/* What a call answers: a number of document 01 or 02 or 0, its place, the value a run returned or the length of a text written, the
+ * steps a run took. */
 typedef struct ial_answer {
     uint64_t number;
     uint64_t place;
@@ -79,6 +83,13 @@ ial_answer ial_run(const uint8_t *table, size_t table_length, uint64_t function,
  * 9 to 17, then 21, 30 (not ssa), 31 (too large when translated), 22 (an output of another length). */
 ial_answer ial_translate(const uint8_t *table, size_t table_length, uint64_t function, uint8_t *output,
                          size_t output_length);
+
+/* Checks the table and writes all of its functions as text: a line for each declaration, instruction, head with its `{` and `}`, one
+ * space between tokens, shortest decimal numbers. Registers without a name are called `p.0`, `p.1` and so on, blocks `e.0`, `e.1`; numbers
+ * that such names of the function use already are passed over. ial_read of the text gives the same table with these names. The
+ * answer's value is the text's length, and the rest of the buffer is 0; there need be no rest. Refuses with 9 to 17, then 33 (the
+ * text is longer than IAL_TEXT bytes), 32 (longer than the buffer). A buffer of IAL_TEXT bytes is never too short. */
+ial_answer ial_write(const uint8_t *table, size_t table_length, uint8_t *buffer, size_t buffer_length);
 
 #ifdef __cplusplus
 }

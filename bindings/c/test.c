@@ -10,11 +10,11 @@
 #include <ucontext.h>
 #include <unistd.h>
 
-static uint8_t text[65536], table[IAL_TABLE], output[IAL_TABLE + 1];
+static uint8_t text[IAL_TEXT], table[IAL_TABLE], output[IAL_TABLE + 1];
 static uint64_t arguments[3] = {7, 9, 2}, registers[IAL_REGISTERS];
 static ial_answer answer;
 
-/* Sixteen functions, each with a loop, in a text of the largest size. */
+/* Sixteen functions, each with a loop and the longest number, in a text of the largest size. */
 static void write_text(void) {
     size_t n = 0;
     memset(text, ' ', sizeof text);
@@ -22,7 +22,8 @@ static void write_text(void) {
         n += (size_t)sprintf((char *)text + n,
                              "function ssa uint64 turn%d(uint64 a, uint64 b, uint8 n) { register uint64 x; register uint64 y;"
                              " register uint8 k; register uint8 one; register uint8 z; register uint8 m; register uint c;"
-                             " block entry { one = load.ui8 (1); z = load.ui8 (0); jump (head); }"
+                             " register uint64 most; block entry { most = load.ui64 (18446744073709551615);"
+                             " one = load.ui8 (1); z = load.ui8 (0); jump (head); }"
                              " block head { x = phi (a, y); y = phi (b, x); k = phi (n, m); c = cmp.eq k, z;"
                              " jump.cond c (out, body); } block body { m = ari.sub k, one; jump (head); }"
                              " block out { return x; } }", i);
@@ -35,6 +36,11 @@ static void read_shorter(void) { answer = ial_read(text, sizeof text, output, IA
 static void check(void) { answer = ial_check(table, IAL_TABLE); }
 static void run(void) { answer = ial_run(table, IAL_TABLE, 15, arguments, 3, 1000, registers, IAL_REGISTERS); }
 static void translate(void) { answer = ial_translate(table, IAL_TABLE, 15, output, IAL_TABLE); }
+static void write_long(void) { answer = ial_write(table, IAL_TABLE, output, IAL_TEXT); }
+static void write_short(void) { answer = ial_write(table, IAL_TABLE, output, 100); }
+
+/* The bytes of the table's text: 544 for each function, and the second digit of six names. */
+#define WRITTEN (16 * 544 + 6)
 
 static const struct entry {
     const char *name;
@@ -46,8 +52,10 @@ static const struct entry {
     {"ial_read, output longer", read_longer, IAL_READ_STACK, 22, 0, 0},
     {"ial_read, output shorter", read_shorter, IAL_READ_SHORT_STACK, 22, 0, 0},
     {"ial_check", check, IAL_CHECK_STACK, 0, 0, 0},
-    {"ial_run", run, IAL_RUN_STACK, 0, 7, 23},
+    {"ial_run", run, IAL_RUN_STACK, 0, 7, 24},
     {"ial_translate", translate, IAL_TRANSLATE_STACK, 0, 0, 0},
+    {"ial_write", write_long, IAL_WRITE_STACK, 0, WRITTEN, 0},
+    {"ial_write, buffer short", write_short, IAL_WRITE_STACK, 32, 0, 0},
 };
 
 static ucontext_t here, there;
@@ -96,7 +104,7 @@ static int is(const char *what, ial_answer a, uint64_t number, uint64_t place) {
     return 1;
 }
 
-/* NULL with length 0 is an empty text, table, list of arguments or output. */
+/* NULL with length 0 is an empty text, table, list of arguments, output or buffer. */
 static int nulls(void) {
     static const char nothing[] = "function void f() { block entry { leave; } }";
     static uint8_t other[IAL_TABLE];
@@ -112,6 +120,10 @@ static int nulls(void) {
     wrong |= is("too few arguments", ial_run(table, IAL_TABLE, 0, NULL, 0, 10, NULL, 0), 20, 0);
     wrong |= is("too few registers", ial_run(table, IAL_TABLE, 0, arguments, 3, 10, NULL, 0), 22, 0);
     wrong |= is("no room for a translation", ial_translate(table, IAL_TABLE, 0, NULL, 0), 22, 0);
+    wrong |= is("no table to write", ial_write(NULL, 0, NULL, 0), 9, 0);
+    wrong |= is("no room for a text", ial_write(table, IAL_TABLE, NULL, 0), 32, 0);
+    wrong |= is("no text", ial_read(NULL, 0, other, IAL_TABLE), 0, 0);
+    wrong |= is("no room, and no function to write", ial_write(other, IAL_TABLE, NULL, 0), 0, 0);
     return wrong;
 }
 

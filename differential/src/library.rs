@@ -16,6 +16,7 @@ mod c {
         pub fn ial_check(table: *const u8, n: usize) -> Answer;
         pub fn ial_run(t: *const u8, n: usize, f: u64, args: *const u64, k: usize, budget: u64, g: *mut u64, m: usize) -> Answer;
         pub fn ial_translate(table: *const u8, n: usize, f: u64, out: *mut u8, m: usize) -> Answer;
+        pub fn ial_write(table: *const u8, n: usize, out: *mut u8, m: usize) -> Answer;
     }
 }
 
@@ -32,10 +33,11 @@ fn agree<T: PartialEq>(what: &str, verified: (Answer, &[T]), plain: (Answer, &[T
     if verified.0 != plain.0 {
         return Err(format!("{what}: verified {:?}, plain {:?}", verified.0, plain.0));
     }
-    match (0..verified.1.len()).find(|&k| verified.1[k] != plain.1[k]) {
-        Some(k) => Err(format!("{what}: {:?}, but lent cell {k} differs", verified.0)),
-        None => Ok(verified.0),
+    if verified.1 == plain.1 {
+        return Ok(verified.0);
     }
+    let k = (0..verified.1.len()).find(|&k| verified.1[k] != plain.1[k]);
+    Err(format!("{what}: {:?}, but lent cell {} differs", verified.0, k.unwrap()))
 }
 
 /// Each call takes outputs that hold rubbish, the same for both. Pointers and lengths are those of live slices.
@@ -62,4 +64,10 @@ pub fn translate(table: &[u8], f: u64, out: &mut [u8], other: &mut [u8]) -> Resu
     let a = answer(unsafe { c::ial_translate(table.as_ptr(), table.len(), f, out.as_mut_ptr(), out.len()) });
     let b = done(ial_baseline::translate(table, f, other));
     agree("translate", (a, out), (b, other))
+}
+
+pub fn write(table: &[u8], out: &mut [u8], other: &mut [u8]) -> Result<Answer, String> {
+    let a = answer(unsafe { c::ial_write(table.as_ptr(), table.len(), out.as_mut_ptr(), out.len()) });
+    let b = ial_baseline::write(table, other).map_or_else(Answer::from, |n| Answer { value: n as u64, ..Answer::default() });
+    agree("write", (a, out), (b, other))
 }

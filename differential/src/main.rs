@@ -4,6 +4,7 @@
 mod library;
 mod rng;
 mod texts;
+mod writings;
 
 use ial_baseline::table::Function;
 use ial_baseline::{Answer, TABLE};
@@ -50,10 +51,11 @@ impl Bench {
         Ok(())
     }
 
-    /// What both make of a table: the check, runs of its functions, their translations, and runs of these.
+    /// What both make of a table: the check, its text, runs of its functions, their translations, and texts and runs of these.
     fn table(&mut self, table: &[u8], rng: &mut Rng) -> Result<(), String> {
         let a = library::check(table)?;
         let accepted = self.count(a).number == 0;
+        self.writes(table, rng)?;
         let functions = if accepted { u64::from(table[0]) + 1 } else { 1 };
         for f in 0..functions {
             self.runs(table, f, rng)?;
@@ -62,6 +64,7 @@ impl Bench {
             let a = library::translate(table, f, &mut one, &mut two)?;
             if self.count(a).number == 0 {
                 self.runs(&one, 0, rng)?;
+                self.writes(&one, rng)?;
             }
             (self.one, self.two) = (one, two);
         }
@@ -83,6 +86,9 @@ impl Bench {
         if a.number == 0 {
             let mut table = one.clone();
             self.table(&table, rng)?;
+            let mut renamed = table.clone();
+            writings::rename(&mut renamed, rng);
+            self.table(&renamed, rng)?;
             for _ in 0..3 {
                 disturb(&mut table, rng);
                 self.table(&table, rng)?;
@@ -90,6 +96,39 @@ impl Bench {
         }
         (self.one, self.two) = (one, two);
         Ok(())
+    }
+}
+
+impl Bench {
+    /// A table's text in buffers of many lengths; read back it is the table with the made names, and writes the same text.
+    fn writes(&mut self, table: &[u8], rng: &mut Rng) -> Result<(), String> {
+        let text = self.write(table, writings::LONGEST)?;
+        let length = text.as_ref().map_or(rng.below(400), Vec::len);
+        let rooms = [0, length.saturating_sub(1), length.saturating_sub(1), length, length + 1, rng.below(length + 1), writings::LONGEST + 1];
+        for _ in 0..2 {
+            self.write(table, *rng.of(&rooms))?;
+        }
+        let Some(text) = text.filter(|_| rng.once_in(2)) else { return Ok(()) };
+        let (mut one, mut two) = (vec![255; TABLE], vec![255; TABLE]);
+        if library::read(&text, &mut one, &mut two)?.number != 0 {
+            return Err("write: the text is not read".to_string());
+        }
+        if one != writings::named(table) {
+            return Err("write: the text is another table's".to_string());
+        }
+        if self.write(&one, text.len())? != Some(text) {
+            return Err("write: written again it is another text".to_string());
+        }
+        Ok(())
+    }
+
+    /// The text that both put into a buffer of so many bytes that held rubbish, if it is not refused.
+    fn write(&mut self, table: &[u8], room: usize) -> Result<Option<Vec<u8>>, String> {
+        let (mut one, mut two) = (vec![0xa5; room], vec![0xa5; room]);
+        let a = library::write(table, &mut one, &mut two)?;
+        self.count(a);
+        one.truncate(a.value as usize);
+        Ok((a.number == 0).then_some(one))
     }
 }
 

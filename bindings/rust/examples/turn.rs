@@ -1,4 +1,4 @@
-//! The paper's `turn`, run with its phi and, translated, without.
+//! The paper's `turn`, run with its phi and, translated, without; then the translation as text.
 //! `cargo run --example turn`, after `rt staticlib ial` at the project's root.
 
 use ial::{End, Refused, Table};
@@ -16,5 +16,6 @@ fn main() -> Result<(), Refused> {
             }
         }
     }
+    print!("{}", String::from_utf8_lossy(&translation.write()?));
     Ok(())
 }

@@ -6,11 +6,12 @@
 //! assert_eq!(table.run(0, &[21], 100)?.end, ial::End::Ended(42));
 //! let plain = table.translate(0)?;
 //! assert_eq!(plain.run(0, &[21], 100)?.end, ial::End::Ended(42));
+//! assert!(plain.write()?.starts_with(b"function uint8 twice ( uint8 a ) {\nregister uint8 b ;\n"));
 //! # Ok::<(), ial::Refused>(())
 //! ```
 //!
-//! A call needs free stack, since the library has no heap: [`READ_STACK`], [`CHECK_STACK`], [`RUN_STACK`] and [`TRANSLATE_STACK`] say how
-//! much. Give a thread that calls it some KiB more for itself: `std::thread::Builder::new().stack_size(ial::READ_STACK + 16 * 1024)`.
+//! A call needs free stack, since the library has no heap: [`READ_STACK`], [`CHECK_STACK`], [`RUN_STACK`], [`TRANSLATE_STACK`] and
+//! [`WRITE_STACK`] say how much. Give a thread that calls it some KiB more for itself: `std::thread::Builder::new().stack_size(ial::READ_STACK + 16 * 1024)`.
 
 mod refused;
 
@@ -22,7 +23,10 @@ pub const TABLE: usize = 555_153;
 /// The most registers a function has.
 pub const REGISTERS: usize = 256;
 
-/// The bytes of stack that must be free when [`Table::read`] is called, for any text. This and the next three are those of the
+/// The most bytes of a text.
+pub const TEXT: usize = 65_536;
+
+/// The bytes of stack that must be free when [`Table::read`] is called, for any text. This and the next four are those of the
 /// compiled library, with at least 8 KiB to spare, in whole 16 KiB; a call with less crashes at the end of the stack.
 pub const READ_STACK: usize = 160 * 1024;
 
@@ -34,6 +38,9 @@ pub const RUN_STACK: usize = 32 * 1024;
 
 /// The same for [`Table::translate`].
 pub const TRANSLATE_STACK: usize = 16 * 1024;
+
+/// The same for [`Table::write`] and [`Table::write_into`].
+pub const WRITE_STACK: usize = 16 * 1024;
 
 #[repr(C)]
 struct Answer {
@@ -57,12 +64,14 @@ extern "C" {
         register_count: usize,
     ) -> Answer;
     fn ial_translate(table: *const u8, table_length: usize, function: u64, output: *mut u8, output_length: usize) -> Answer;
+    fn ial_write(table: *const u8, table_length: usize, buffer: *mut u8, buffer_length: usize) -> Answer;
 }
 
 impl Answer {
-    fn done(self) -> Result<(), Refused> {
+    /// The value, if it was not refused; only for calls that do not stop.
+    fn done(self) -> Result<u64, Refused> {
         if self.number == 0 {
-            return Ok(());
+            return Ok(self.value);
         }
         Err(Refused { number: self.number, place: self.place })
     }
@@ -115,7 +124,7 @@ impl Table {
 
     /// Checks the whole table: 9 to 17.
     pub fn check(&self) -> Result<(), Refused> {
-        unsafe { ial_check(self.cells.as_ptr(), self.cells.len()) }.done()
+        unsafe { ial_check(self.cells.as_ptr(), self.cells.len()) }.done().map(|_| ())
     }
 
     /// Checks the table and runs a function on arguments, for at most `budget` steps. Arguments and values are below 2^w, those of
@@ -148,6 +157,21 @@ impl Table {
         unsafe { ial_translate(self.cells.as_ptr(), self.cells.len(), function, cells.as_mut_ptr(), cells.len()) }.done()?;
         Ok(Table { cells })
     }
+
+    /// Checks the table and writes it as text; what has no name is called `p.0`, `e.0` and so on. [`Table::read`] of the text gives the
+    /// same table with these names. 33 for more than [`TEXT`] bytes.
+    pub fn write(&self) -> Result<Vec<u8>, Refused> {
+        let mut text = vec![0; TEXT];
+        let length = self.write_into(&mut text)?;
+        text.truncate(length);
+        Ok(text)
+    }
+
+    /// The same into a lent buffer: the text's length, and 0 past it. 32 for a text longer than the buffer.
+    pub fn write_into(&self, buffer: &mut [u8]) -> Result<usize, Refused> {
+        let written = unsafe { ial_write(self.cells.as_ptr(), self.cells.len(), buffer.as_mut_ptr(), buffer.len()) }.done()?;
+        Ok(written as usize)
+    }
 }
 
 impl std::fmt::Debug for Table {
@@ -173,6 +197,8 @@ mod tests {
             assert_eq!(numbers(ial_read(null(), 0, cells.as_mut_ptr(), cells.len())), [0; 4]);
             assert_eq!(numbers(ial_read(null(), 0, null_mut(), 0)), [22, 0, 0, 0]);
             assert_eq!(numbers(ial_check(null(), 0)), [9, 0, 0, 0]);
+            assert_eq!(numbers(ial_write(null(), 0, null_mut(), 0)), [9, 0, 0, 0]);
+            assert_eq!(numbers(ial_write(cells.as_ptr(), cells.len(), null_mut(), 0)), [0; 4]);
         }
         assert!(cells.iter().all(|&c| c == 0));
     }

@@ -1,11 +1,11 @@
-//! Refusals: a number of document 01, its place, and what it means.
+//! Refusals: a number of document 01 or 02, its place, and what it means.
 
 use std::fmt;
 
 /// Why a text, table, argument or function was refused.
 #[derive(Clone, Copy, Debug, PartialEq, Eq)]
 pub struct Refused {
-    /// 1 to 22, 30 or 31.
+    /// 1 to 22, or 30 to 33.
     pub number: u64,
     /// A byte of the text (2 to 8), a function (9), 2,048 times the function plus the row (10 to 17), an argument or their
     /// count (20), else 0.
@@ -13,7 +13,7 @@ pub struct Refused {
 }
 
 impl Refused {
-    /// What the number means: document 01's table ("Numbers we answer"), in short.
+    /// What the number means: document 01's table ("Numbers we answer") and document 02, in short.
     pub fn meaning(&self) -> &'static str {
         match self.number {
             1 => "text too long",
@@ -38,6 +38,8 @@ impl Refused {
             22 => "register buffer too short, or table output of another length",
             30 => "not ssa, so not to be translated",
             31 => "too large when translated",
+            32 => "text longer than the buffer",
+            33 => "text longer than 65,536 bytes",
             _ => "no number of a refusal",
         }
     }

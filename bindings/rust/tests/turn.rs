@@ -1,7 +1,7 @@
 //! The interface over the library, on the paper's `turn` and on what it refuses. What the answers are is proved; what is tested
 //! here is that they arrive.
 
-use ial::{End, Refused, Table, REGISTERS, TABLE};
+use ial::{End, Refused, Table, REGISTERS, TABLE, TEXT};
 
 fn turn() -> Table {
     Table::read(include_bytes!("../../../examples/turn.ial")).unwrap()
@@ -21,6 +21,28 @@ fn reads_checks_runs_and_translates() {
         let run = translation.run(0, &[7, 9, n], u64::MAX).unwrap();
         assert_eq!((run.end, run.steps), (End::Ended(value), translated));
     }
+}
+
+#[test]
+fn texts_are_written_and_read_back() {
+    let source = turn();
+    let text = source.write().unwrap();
+    assert!(text.starts_with(b"function ssa uint64 turn ( uint64 a , uint64 b , uint8 n ) {\nregister uint64 x ;\n"));
+    assert_eq!(Table::read(&text), Ok(source.clone()));
+    let translation = source.translate(0).unwrap();
+    let shown = translation.write().unwrap();
+    let named = Table::read(&shown).unwrap();
+    assert_ne!(named, translation);
+    assert_eq!(named.write(), Ok(shown.clone()));
+    assert_eq!(named.run(0, &[7, 9, 2], 1_000), translation.run(0, &[7, 9, 2], 1_000));
+    let mut buffer = vec![255; TEXT];
+    assert_eq!(translation.write_into(&mut buffer), Ok(shown.len()));
+    assert_eq!(buffer[..shown.len()], shown);
+    assert!(buffer[shown.len()..].iter().all(|&b| b == 0));
+    let short = &mut buffer[..shown.len() - 1];
+    assert_eq!(translation.write_into(short), Err(Refused { number: 32, place: 0 }));
+    assert!(short.iter().all(|&b| b == 0));
+    assert_eq!(Table::from_cells(&[255; TABLE]).unwrap().write(), Err(Refused { number: 9, place: 0 }));
 }
 
 #[test]

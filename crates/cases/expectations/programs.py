@@ -41,7 +41,7 @@ class Function:
         registers = self.params + self.registers
         at = {n: i for i, (_, n) in enumerate(registers)}
         block = {n: i for i, (n, _) in enumerate(self.blocks)}
-        shown = lambda n: '-' if n == 'entry' or n[0] == ' ' else n.encode().hex()
+        shown = lambda n: '-' if n == 'entry' or n[0] == ' ' else n.encode('latin-1').hex()
         r, b, rows = self.sizes()
         out = ['\t'.join(('function', str(index), shown(self.name), 'ssa' if self.ssa else 'plain', self.result, f'params={len(self.params)}',
                           f'registers={r}', f'blocks={b}', f'rows={rows}', f'entry={block["entry"]}'))]
@@ -56,18 +56,23 @@ class Function:
         return out + lines
 
 
+def width(load):
+    """The bits of the type that a load's word ends with."""
+    return int(load.rpartition('i')[2])
+
+
 def operand(row, at, block):
     if row.operand is None:
         return '-'
     if isinstance(row.operand, int):
-        return f'number {row.operand}'
+        return f'number {row.operand % 2 ** width(row.op)}'
     if row.op == 'phi':
         return 'registers ' + ','.join(str(at[n]) for n in row.operand)
     return 'blocks ' + ','.join(str(block[n]) for n in row.operand)
 
 
 def text(functions):
-    return '\n'.join(f.text() for f in functions).encode()
+    return '\n'.join(f.text() for f in functions).encode('latin-1')
 
 
 def dump(functions):

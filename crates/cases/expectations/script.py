@@ -2,7 +2,9 @@
 
 TABLE = 555153
 CELLS = 300
-READ, PUT, FILL, TRANSLATE, LIST, CHECK, RUN, RUN_TRANSLATED = range(8)
+TEXT = 65536
+PAGE = 65600  # the most bytes lent for a text
+READ, PUT, FILL, TRANSLATE, LIST, CHECK, RUN, RUN_TRANSLATED, SHOW, SHOW_TRANSLATED = range(10)
 
 
 def numbers(ns):
@@ -60,6 +62,11 @@ class Script:
     def translate(self, label, function, cells, refused=None, lent=TABLE, source=TABLE):
         words = f'refused {refused[0]} at {refused[1]}' if refused else 'translated'
         self.add(TRANSLATE, label, words.encode() + b', cells right\n', b'', cell_list(cells), source, function, 0, lent)
+
+    def show(self, label, text, refused=None, lent=TEXT, translated=False, source=TABLE):
+        """The source table, or the translation, written as text."""
+        words = f'refused {refused[0]} at {refused[1]}' if refused else f'wrote {len(text)}'
+        self.add(SHOW_TRANSLATED if translated else SHOW, label, words.encode() + b', text right\n', b'', b'' if refused else text, source, lent=lent)
 
     def write(self, path):
         base = 8 + 88 * len(self.records)

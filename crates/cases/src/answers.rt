@@ -3,6 +3,7 @@ use crate::files::say;
 use crate::files::say_number;
 use ial::Ran;
 use ial::Verdict;
+use ial::Wrote;
 
 pub(crate) fn say_refused(number: u8, place: usize) {
     say_number(b"refused ", number as u64);
@@ -45,5 +46,13 @@ pub(crate) fn say_ran(r: Ran) {
         Ran::Left(s) => say_left(s),
         Ran::Stopped(n, p, s) => say_stopped(n, p, s),
         Ran::Refused(n, p) => say_refused(n, p),
+    }
+}
+
+// The answer of a call that writes a text.
+pub(crate) fn say_wrote(w: Wrote) {
+    match w {
+        Wrote::Wrote(n) => say_number(b"wrote ", n as u64),
+        Wrote::Refused(n, p) => say_refused(n, p),
     }
 }

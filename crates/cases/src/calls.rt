@@ -1,6 +1,7 @@
 // One call of the library for each kind of record, with what it answers and whether all that was lent is as it must be.
 use crate::answers::say_ran;
 use crate::answers::say_verdict;
+use crate::answers::say_wrote;
 use crate::files::say;
 use crate::files::say_number;
 use crate::files::upto;
@@ -9,11 +10,15 @@ use crate::records::least;
 use crate::records::numbers;
 use crate::records::part;
 use crate::tables::compare;
+use crate::tables::compare_text;
 use crate::tables::poison;
 use calling::list_text;
 
 // The registers that are lent, more than a function may have.
 const CELLS: usize = 300;
+
+// The bytes that are lent for a text, more than a text may have.
+const PAGE: usize = 65600;
 
 // Reads a text.
 pub(crate) fn read(s: &[u8], r: Record, t: &mut [u8]) {
@@ -93,4 +98,18 @@ pub(crate) fn run(s: &[u8], r: Record, t: &[u8]) {
     let mut args = [0u64; CELLS];
     let mut registers = [85u64; CELLS];
     run_with(s, r, t, &mut args, &mut registers);
+}
+
+// Writes a table as text, into as many bytes as are lent.
+fn write_into(s: &[u8], r: Record, t: &[u8], page: &mut [u8]) {
+    let n = least(r.lent, page.len());
+    let w = ial::write(upto(t, r.source), &mut page[..n]);
+    say_wrote(w);
+    compare_text(upto(page, n), part(s, r.want_at, r.want_len));
+}
+
+// The same, where every byte that is lent holds 255 before.
+pub(crate) fn write(s: &[u8], r: Record, t: &[u8]) {
+    let mut page = [255u8; PAGE];
+    write_into(s, r, t, &mut page);
 }

@@ -1,4 +1,4 @@
-// Runs the library by scripts, and prints what it answers: on the outside vectors, and on texts and tables made by document 01. `expected.py` makes the
+// Runs the library by scripts, and prints what it answers: on the outside vectors, and on texts and tables made by documents 01 and 02. `expected.py` makes the
 // scripts, and what must be printed, with no code of the library.
 mod answers;
 mod calls;
@@ -34,4 +34,7 @@ fn main() {
     script(b"sizes.case");
     script(b"texts.case");
     script(b"faults.case");
+    script(b"texts_written.case");
+    script(b"limits_written.case");
+    script(b"vectors_written.case");
 }

@@ -4,8 +4,9 @@ ghost use Prim.Native.Nat.{_<_, _≤_};
 ghost use lib.ListN.{length};
 
 // One call of the library, or a change of the source table: 0 reads a text, 1 puts cells, 2 fills the gaps between the cells that are needed; 3
-// translates; 4 lists a text, 5 checks, 6 runs the source, 7 runs the translation. With it a label to print before, the cells lent of the source table, the function, the budget, the cells lent as
-// output, what goes in (a text, arguments, cells) and what must come out (cells, registers).
+// translates; 4 lists a text, 5 checks, 6 runs the source, 7 runs the translation, 8 writes the source as text, 9 writes the translation. With it a
+// label to print before, the cells lent of the source table, the function, the budget, the cells lent as output, what goes in (a text, arguments,
+// cells) and what must come out (cells, registers, a text).
 pub struct Record {
     pub kind: u64,
     pub label_at: usize,

@@ -4,6 +4,7 @@ use crate::calls::list;
 use crate::calls::read;
 use crate::calls::run;
 use crate::calls::translate;
+use crate::calls::write;
 use crate::files::load;
 use crate::files::say;
 use crate::files::upto;
@@ -35,7 +36,9 @@ fn ask(s: &[u8], r: Record, t: &[u8], translated: &[u8]) {
         4 => list(s, r),
         5 => check(r, t),
         6 => run(s, r, t),
-        _ => run(s, r, translated),
+        7 => run(s, r, translated),
+        8 => write(s, r, t),
+        _ => write(s, r, translated),
     }
 }
 

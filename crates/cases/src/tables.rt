@@ -1,4 +1,4 @@
-// Tables: cells put into one, one compared with the cells it must have, and one with anything in the cells that are not needed.
+// Tables: cells put into one, one compared with the cells it must have, and one with anything in the cells that are not needed. Texts compared.
 use crate::files::say;
 use crate::files::say_number;
 ghost use Prim.Native.Nat.{_<_};
@@ -59,6 +59,36 @@ pub(crate) fn compare(out: &[u8], cells: &[u8]) {
         say(b", cells right\n");
     } else {
         say_number(b", cells differ at ", k as u64);
+        say(b"\n");
+    }
+}
+
+// Where a text that was written differs first from what it must be, with 0 past it, or how many bytes were lent.
+fn differing_text(page: &[u8], want: &[u8]) -> usize {
+    let mut i = 0;
+    while i < page.len() {
+        if page[i] != byte_or_zero(want, i) {
+            return i;
+        }
+        i += 1;
+    }
+    i
+}
+
+fn byte_or_zero(s: &[u8], k: usize) -> u8 {
+    if k < s.len() {
+        return s[k];
+    }
+    0
+}
+
+// Whether the bytes lent hold this text, and 0 past it.
+pub(crate) fn compare_text(page: &[u8], want: &[u8]) {
+    let k = differing_text(page, want);
+    if k == page.len() {
+        say(b", text right\n");
+    } else {
+        say_number(b", text differs at ", k as u64);
         say(b"\n");
     }
 }

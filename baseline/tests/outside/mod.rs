@@ -1,0 +1,54 @@
+//! Where the outside vectors are, and how their expected answers are read.
+//!
+//! They are looked for in `IAL_VECTORS`, else in `shared/vectors` beside the repository or one folder further up.
+
+use std::path::{Path, PathBuf};
+
+fn folder() -> Option<PathBuf> {
+    if let Some(path) = std::env::var_os("IAL_VECTORS") {
+        return Some(PathBuf::from(path)).filter(|path| path.is_dir());
+    }
+    let root = Path::new(env!("CARGO_MANIFEST_DIR")).join("..");
+    ["../shared/vectors", "../../shared/vectors"].iter().map(|path| root.join(path)).find(|path| path.is_dir())
+}
+
+/// The rest of an expected answer.
+pub struct Expected<'a>(pub &'a [u8]);
+
+impl<'a> Expected<'a> {
+    pub fn line(&mut self) -> &'a str {
+        let length = self.0.iter().position(|&byte| byte == b'\n').expect("a line ends");
+        let line = std::str::from_utf8(&self.0[..length]).expect("a line of text");
+        self.0 = &self.0[length + 1..];
+        line
+    }
+
+    pub fn bytes(&mut self, count: usize) -> &'a [u8] {
+        let (bytes, rest) = self.0.split_at(count);
+        self.0 = rest;
+        bytes
+    }
+}
+
+/// Tries each text of a folder of vectors with its expected answer; `vector` panics where they differ, and counts what it compared.
+pub fn all(part: &str, vector: impl Fn(&[u8], &[u8]) -> usize + std::panic::RefUnwindSafe) {
+    let Some(folder) = folder().map(|folder| folder.join(part)).filter(|folder| folder.is_dir()) else {
+        eprintln!("no vectors found: skipped (set IAL_VECTORS)");
+        return;
+    };
+    let mut paths: Vec<PathBuf> = std::fs::read_dir(folder).unwrap().map(|entry| entry.unwrap().path()).collect();
+    paths.retain(|path| path.extension().is_some_and(|extension| extension == "ial"));
+    paths.sort();
+    let mut failed = Vec::new();
+    let mut compared = 0;
+    for path in &paths {
+        let text = std::fs::read(path).unwrap();
+        let expected = std::fs::read(path.with_extension("expect")).unwrap();
+        match std::panic::catch_unwind(|| vector(&text, &expected)) {
+            Ok(lines) => compared += lines,
+            Err(_) => failed.push(path.file_name().unwrap().to_owned()),
+        }
+    }
+    println!("{} vectors, {compared} lines compared", paths.len());
+    assert!(failed.is_empty(), "vectors that differ: {failed:?}");
+}

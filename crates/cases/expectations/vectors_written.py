@@ -1,0 +1,124 @@
+"""Outside vectors of A1: each text read, its table checked and written, also with names taken away or changed and translated; what is written is read
+back and written again."""
+from .parsing import parse
+from .programs import dump, translation
+from .script import PAGE, Script
+from .tables import FUNCTION, cells
+from .writing import written
+
+# Short ones of each of the ten kinds, by number mod 10.
+CHOSEN = (10, 20, 60, 70, 80, 120, 41, 61, 81, 121, 131, 2, 12, 62, 82, 112, 132, 53, 23, 84, 124, 125, 76, 116, 77, 37, 78, 88, 98, 108, 118, 128,
+          9, 19, 29, 39, 49, 59, 69, 79, 89, 99, 109, 119, 129)
+
+
+class Lines:
+    def __init__(self, data):
+        self.data, self.at = data, 0
+
+    def bytes(self, n):
+        self.at += n
+        return self.data[self.at - n:self.at]
+
+    def line(self):
+        line = self.bytes(self.data.index(b'\n', self.at) - self.at)
+        self.at += 1
+        return line.decode().split('\t')
+
+    def more(self):
+        return self.at < len(self.data)
+
+
+def name_cells(kind, function, index, name):
+    """A name's length cell and those of its bytes, as many as there is room for."""
+    a = 1 + FUNCTION * int(function)
+    k = {'function': a + 8, 'register': a + 74 + 66 * int(index), 'block': a + 16973 + 69 * int(index)}[kind]
+    b = b'' if name == '-' else bytes.fromhex(name)
+    return {k: len(b), **{k + 1 + i: c for i, c in enumerate(b[:64].ljust(64, b'\0'))}}
+
+
+class Vector:
+    """What a vector has come to: the tables it writes, and the texts shown with their tables."""
+
+    def __init__(self, script, name, text):
+        self.script, self.functions = script, parse(text)
+        self.table = cells(dump(self.functions))
+        self.edits, self.put_now, self.shown, self.translated = {}, {}, [], None
+        script.read(f'{name} ', text, self.table)
+
+    def cells_of(self, source):
+        if source == 'own':
+            return dict(self.table)
+        if source == 'edited':
+            return {k: v for k, v in {**self.table, **self.edits}.items() if v}
+        return cells(dump([translation(self.functions[int(source.partition('.')[2])])]))
+
+    def turn_to(self, source):
+        """The source table as it must be, or the translation made."""
+        if source.startswith('translation'):
+            if self.translated != source:
+                self.translated = source
+                self.script.translate(f' {source} ', int(source.partition('.')[2]), self.cells_of(source))
+            return
+        wanted = self.edits if source == 'edited' else {}
+        if self.put_now != wanted:
+            self.script.put([(k, wanted.get(k, self.table.get(k, 0))) for k in sorted(self.put_now.keys() | wanted.keys())])
+            self.put_now = wanted
+
+    def edit(self, lines, count):
+        self.edits = {}
+        for _ in range(count):
+            self.edits.update(name_cells(*lines.line()[1:]))
+
+    def write(self, lines, source, lent, answer, *numbers):
+        self.turn_to(source)
+        refused = numbers if answer == 'refused' else None
+        if answer == 'ok':
+            text = lines.bytes(int(numbers[0]))
+            self.shown.append((text, self.cells_of(source)))
+        text = b'' if refused else self.shown[-1][0]
+        if int(lent) <= PAGE:
+            self.script.show(f' {source} {lent} ', text, refused, lent=int(lent), translated=source.startswith('translation'))
+
+    def made(self, kind, function, index, name):
+        self.shown[-1][1].update({k: v for k, v in name_cells(kind, function, index, name).items() if v})
+
+    def back(self):
+        for text, table in self.shown:
+            assert cells(dump(parse(text))) == table and written(parse(text)) == text
+            self.script.read(' back ', text, table)
+            self.script.show(' again ', text, lent=len(text))
+
+
+def vector(script, name, text, data):
+    lines = Lines(data)
+    lines.bytes(int(lines.line()[1]))
+    read = lines.line()
+    if read[1] != '0':
+        script.read(f'{name} ', text, {}, read[1:3])
+        return
+    v = Vector(script, name, text)
+    while lines.more():
+        word, *rest = lines.line()
+        if word in ('check', 'check.edited'):
+            v.turn_to('own' if word == 'check' else 'edited')
+            script.check(' ', None if rest[0] == '0' else rest[:2])
+        elif word == 'edited':
+            v.edit(lines, int(rest[0]))
+        elif word == 'write':
+            v.write(lines, *rest)
+        elif word == 'made':
+            v.made(*rest[1:])
+        else:
+            assert word == 'translate'
+            v.turn_to('own')
+            script.translate(f' translation.{rest[0]} ', int(rest[0]), {}, rest[2:4])
+            v.translated = None
+    v.back()
+
+
+def vectors_written(bytes_of):
+    script = Script()
+    for i in CHOSEN:
+        name = f'{i:04d}'
+        vector(script, name, bytes_of(f'requests/a1/{name}.ial'), bytes_of(f'requests/a1/{name}.expect'))
+    return script

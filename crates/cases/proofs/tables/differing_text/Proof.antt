@@ -1,0 +1,51 @@
+-- `cases::tables::differing_text` looks at each byte once.
+use borrow.Author.Needs.{needs}
+use Prim.Native.Nat.{_≤_, _-_}
+use lib.ListN.{length}
+use Rattle.cases.proofs.tables.differing_text.Statement.{statement}
+use Rattle.cases.proofs.tables.differing_text.Tie as tie
+
+abbrev Inv-loop : tie.InvT-loop
+Inv-loop page want i₀ i = i ≤ length page
+
+abbrev μ-loop : tie.MeasureT-loop
+μ-loop page want i₀ i = length page - i
+
+loop-holds : tie.Need-loop-holds Inv-loop μ-loop
+loop-holds c = search needs
+
+shared-slice-read-if1 : tie.Need-shared-slice-read-if1 Inv-loop μ-loop
+shared-slice-read-if1 c = search needs
+
+byte-or-zero-requires : tie.Need-byte-or-zero-requires Inv-loop μ-loop
+byte-or-zero-requires c κs = search needs
+
+returns : tie.Need-returns Inv-loop μ-loop
+returns c = search needs
+
+add-i : tie.Need-add-i Inv-loop μ-loop
+add-i c = search needs
+
+loop-less : tie.Need-loop-less Inv-loop μ-loop
+loop-less c = search needs
+
+loop-again : tie.Need-loop-again Inv-loop μ-loop
+loop-again c = search needs
+
+returns-2 : tie.Need-returns-2 Inv-loop μ-loop
+returns-2 c = search needs
+
+pub differing-text-spec : {M : Type 1} → statement M
+differing-text-spec =
+    tie.close
+    (tie.spec
+    Inv-loop
+    μ-loop
+    loop-holds
+    shared-slice-read-if1
+    byte-or-zero-requires
+    returns
+    add-i
+    loop-less
+    loop-again
+    returns-2)
