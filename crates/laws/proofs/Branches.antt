@@ -3,8 +3,13 @@
 use mathlib.Core.Path.{_≡_, refl, _∙_, sym, ap, subst}
 use mathlib.Core.Bool.{Bool, true, false, cond}
 use Prim.Native.Nat.{ℕ, _≤_, _<_}
-use lib.Dec.{eqb, leb, ltb}
+use lib.Dec.{T, eqb, leb, ltb}
 use borrow.Author.Tests.{lt-ltb, le-ltb, le-leb, lt-leb, eq-eqb, ne-eqb}
+
+-- what holds of both cases, of the first where the test passes
+pub choose : {A : Type 0} (P : A → Type 0) (b : Bool) {x y : A} → (T b → P x) → P y → P (cond b x y)
+choose P true p q = p tt
+choose P false p q = q
 
 module _ {A : Type 0} (z x y : A) where
   pub by-true : (b : Bool) → b ≡ true → z ≡ x → z ≡ cond b x y

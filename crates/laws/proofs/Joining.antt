@@ -1,12 +1,10 @@
--- Tests of two lists put together, one more number of a sum, and equal lists either way round.
+-- Tests of two lists put together, and equal lists either way round.
 -- Assumes nothing.
 use mathlib.Core.Bool.{Bool, true, false, _&&_, _||_, and-assoc, or-assoc}
-use mathlib.Core.List.{List, [], _∷_, _++_, map}
+use mathlib.Core.List.{List, [], _∷_, _++_}
 use mathlib.Core.Path.{_≡_, refl, sym, ap, _∙_}
-use Prim.Native.Nat.{ℕ, zero, suc, _+_}
-use native.Mathlib.Nat.{add-zero, add-suc, suc-add}
-use native.Mathlib.Omega.{arith}
-use Rattle.laws.specs.Lists.{any, all, from, same, sum}
+use Prim.Native.Nat.{ℕ, _+_}
+use Rattle.laws.specs.Lists.{any, all, same}
 use Rattle.laws.proofs.Positions.{same-eq, same-is}
 use Rattle.laws.proofs.Tests.{of-true}
 
@@ -18,12 +16,6 @@ module _ {A : Type 0} (p : A → Bool) where
   pub any-both : (xs ys : List A) → any p (xs ++ ys) ≡ (any p xs || any p ys)
   any-both [] ys = refl
   any-both (x ∷ xs) ys = ap (λ (b : Bool). p x || b) (any-both xs ys) ∙ sym (or-assoc (p x) (any p xs) (any p ys))
-
-pub sum-more : (f : ℕ → ℕ) (k n : ℕ) → sum (map f (from k (suc n))) ≡ sum (map f (from k n)) + f (k + n)
-sum-more f k zero = let e : f (k + 0) ≡ f k = ap f (add-zero k) in omega arith
-sum-more f k (suc n) =
-    let e : f (suc k + n) ≡ f (k + suc n) = ap f (suc-add k n ∙ sym (add-suc k n)) in
-    omega (arith, sum-more f (suc k) n)
 
 -- ---- tests that say the same
 

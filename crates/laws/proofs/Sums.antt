@@ -85,7 +85,7 @@ sum-from-le f k (suc i) (suc n) h =
 pub sum-below-le : (f : ℕ → ℕ) (i n : ℕ) → i < n → sum (map f (below i)) + f i ≤ sum (map f (below n))
 sum-below-le f i n h = rw zero-add at (sum-from-le f zero i n h)
 
-sum-from-suc : (f : ℕ → ℕ) (k n : ℕ) → sum (map f (from k (suc n))) ≡ sum (map f (from k n)) + f (k + n)
+pub sum-from-suc : (f : ℕ → ℕ) (k n : ℕ) → sum (map f (from k (suc n))) ≡ sum (map f (from k n)) + f (k + n)
 sum-from-suc f k zero = omega (arith, ap f (add-zero k))
 sum-from-suc f k (suc n) = rw (add-suc, ← suc-add) (omega (arith, sum-from-suc f (suc k) n))
 

@@ -11,6 +11,7 @@ use lib.Dec.{T, eqb, ltb, eqb→eq, eqb-refl, ltb→lt, lt→ltb}
 use lib.ListN.{length, getD, replicate, length-append}
 use Rattle.laws.specs.Lists.{all, sum}
 use Rattle.laws.specs.Sections.{pad, gatherFrom}
+use Rattle.laws.proofs.Branches.{choose}
 use Rattle.laws.proofs.Appending.{gather-append, gatherFrom-append, sum-append, all-snoc, all-getD}
 use Rattle.laws.proofs.Storing.{Stored, pad-stored}
 use Rattle.language.specs.Instructions.{Form, formOf, formNumber}
@@ -42,11 +43,6 @@ pub eight-of-two : (x : ℕ) → x < 65536 → eightBytes x ≡ twoBytes x ++ re
 eight-of-two x h =
     let e : x ≡ x + 65536 * 0 = omega arith in
     ap (λ n. eightBytes n) e ∙ eight-of-twos x 0 h (omega arith)
-
--- by the tests of an instruction's number
-choose : (P : Form → Type 0) (b : Bool) {g h : Form} → (T b → P g) → P h → P (cond b g h)
-choose P true p q = p tt
-choose P false p q = q
 
 -- a row has the number of its instruction
 op-of-row : (x : Parts) → opOf (rowOf x) ≡ x .op

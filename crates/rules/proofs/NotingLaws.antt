@@ -2,9 +2,8 @@
 -- Assumes nothing.
 use mathlib.Core.Path.{_≡_, refl, sym, ap, _∙_, subst}
 use mathlib.Core.Bool.{Bool, true, false, cond, not, _||_, true≢false}
-use mathlib.Core.List.{List, [], _∷_, map}
-use mathlib.Core.Logic.{_⊎_, inl, inr, ⊎-elim}
-use Prim.Native.Nat.{ℕ, zero, suc, _+_, _≤_, _<_}
+use mathlib.Core.List.{List, [], _∷_}
+use Prim.Native.Nat.{ℕ, suc, _+_, _≤_, _<_}
 use native.Mathlib.Nat.{zero-add, zero-lt-suc, not-suc-le-zero}
 use native.Mathlib.Numerals.{add-one}
 use native.Mathlib.Decide.{ℕ-discrete, decLt}
@@ -14,23 +13,21 @@ use borrow.Author.Tests.{eq-eqb, ne-eqb, le-leb, lt-leb}
 use borrow.Author.Count.{below-more}
 use lib.ListN.{length, getD, set, length-set}
 use lib.Seq.{getD-set-same, getD-set-other}
-use Rattle.laws.specs.Lists.{any, all, below, member}
+use Rattle.laws.specs.Lists.{all, below, member}
 use Rattle.laws.proofs.Indexing.{any-at, all-at}
-use Rattle.laws.proofs.Sums.{sum-below-le}
-use Rattle.laws.proofs.Tests.{of-true}
+use Rattle.laws.proofs.Sums.{sum-below-le, sum-below-suc}
 use Rattle.laws.proofs.Every.{every-at}
 use Rattle.language.specs.Instructions.{Form, formOf, hasTarget}
-use Rattle.language.specs.Programs.{Func, Row, Block, noBlock, rowsAt, rowsOf, targetsOf}
-use Rattle.language.specs.Table.{registerCount, blockCount, blockFirst, blockRows, rowsBefore, rowCount, rowOp, rowTarget, decodeAs, decodeRow, decodeFunction}
+use Rattle.language.specs.Programs.{Func, Row, noBlock, rowsAt, rowsOf, targetsOf}
+use Rattle.language.specs.Table.{registerCount, blockCount, blockFirst, blockRows, rowsBefore, rowOp, rowTarget, decodeAs, decodeRow, decodeFunction}
 use Rattle.language.specs.Checking.{inRange, assignedIn}
 use Rattle.theorems.proofs.TableView.{block-first-is, block-count, block-rows-count, block-row-is, row-is, row-count, register-count}
 use Rattle.theorems.proofs.AcceptanceRows.{range-parts}
 use Rattle.rules.specs.Prepared.{Sized, homeOf}
 use Rattle.rules.specs.Preparing.{Fit, assigns, Seen, never, since, Noted, noted, notedAll}
-use Rattle.rules.proofs.Ends.{sum-below-suc}
 use Rattle.rules.proofs.Firsts.{position-at, any-nowhere}
 use Rattle.rules.proofs.Forms.{each, unknown-past}
-use Rattle.rules.proofs.Standing.{block-within, row-within}
+use Rattle.rules.proofs.Standing.{row-within}
 
 -- ---- which rows have a target
 

@@ -6,10 +6,11 @@ use mathlib.Core.List.{List, map, map-map}
 use Prim.Native.Nat.{ℕ, _+_, _<_}
 use native.Mathlib.Nat.{zero-add}
 use native.Mathlib.Omega.{arith}
-use lib.Dec.{T, eqb, ltb, eqb→eq}
+use lib.Dec.{eqb, ltb, eqb→eq}
 use lib.ListN.{length, getD, take}
 use borrow.Author.Tests.{eqb-true}
 use Rattle.laws.specs.Lists.{below, sum}
+use Rattle.laws.proofs.Branches.{choose}
 use Rattle.laws.proofs.Gather.{length-gather}
 use Rattle.laws.proofs.Ranges.{length-map-from, getD-map-from, gather-from, all-from-at, map-from-take, map-from-same}
 use Rattle.laws.proofs.Sums.{gather-map, sum-same}
@@ -27,10 +28,6 @@ module _ (t : List ℕ) where
   pub function-is : (i : ℕ) → i < functionCount t → getD (decode t) i noFunction ≡ decodeFunction t (functionAt i)
   unfolding decode
   function-is i b = getD-map-from (λ i. decodeFunction t (functionAt i)) noFunction 0 (functionCount t) i b ∙ ap (λ k. decodeFunction t (functionAt k)) (zero-add i)
-
-choose : (P : Form → Type 0) (b : Bool) {g h : Form} → (T b → P g) → P h → P (cond b g h)
-choose P true p q = p tt
-choose P false p q = q
 
 -- a row has the number of its instruction
 pub op-decoded : (t : List ℕ) (a r : ℕ) → opOf (decodeRow t a r) ≡ rowOp t a r

@@ -2,19 +2,19 @@
 -- Assumes nothing.
 use mathlib.Core.Path.{_≡_, refl, sym, ap, _∙_}
 use mathlib.Core.Bool.{Bool, true, false, cond}
-use mathlib.Core.List.{List, map}
-use Prim.Native.Nat.{ℕ, zero, suc, _+_, _-_, _*_, _≤_, _<_}
+use mathlib.Core.List.{map}
+use Prim.Native.Nat.{ℕ, suc, _+_, _-_, _*_, _≤_, _<_}
 use native.Mathlib.Nat.{zero-mul}
 use native.Mathlib.Omega.{arith}
 use lib.Dec.{T, eqb, leb, leb→le}
-use lib.ListN.{length, getD, take}
+use lib.ListN.{length}
 use lib.Seq.{take-length}
 use lib.Ieee.Fits.{and-l, and-r}
 use borrow.Author.Tests.{ne-eqb}
-use Rattle.laws.specs.Lists.{any, keep, gather, position, below, sum}
+use Rattle.laws.specs.Lists.{keep, position, below, sum}
 use Rattle.laws.proofs.Gather.{keep-gather, length-gather}
 use Rattle.laws.proofs.Keep.{any-none, any-keep}
-use Rattle.laws.proofs.Sums.{sum-keep, sum-same, sum-below-le, length-keeps}
+use Rattle.laws.proofs.Sums.{sum-keep, sum-same, sum-below-le, length-keeps, sum-below-suc}
 use Rattle.language.specs.Programs.{Row, Block, Func, noBlock, rowsAt, rowsOf, firstRow, isPhi, hasPhi}
 use Rattle.language.specs.Checking.{goesTo, predecessors}
 use Rattle.language.specs.Running.{phisOf}
@@ -22,7 +22,7 @@ use Rattle.language.specs.Translating.{keptOf, phiBlocks, phisBefore, pairsBefo
 use Rattle.theorems.specs.Clean.{Clean}
 use Rattle.theorems.proofs.SimulationRows.{phisAt, rows-split}
 use Rattle.rules.specs.Prepared.{leadingPhis, rankOf}
-use Rattle.translator.proofs.Running.{sum-take-suc, sum-below-suc, rank-below, leading-keep}
+use Rattle.translator.proofs.Running.{sum-take-suc, rank-below, leading-keep}
 
 -- The pairs whose phi block is block y, and the rows of their edge blocks.
 abbrev pub pairsAt : Func → ℕ → ℕ

@@ -4,7 +4,7 @@ use mathlib.Core.Path.{_≡_, refl, sym, ap, _∙_}
 use mathlib.Core.Bool.{Bool, true, false, cond, not}
 use mathlib.Core.List.{List, [], _∷_, _++_, map}
 use Prim.Native.Nat.{ℕ, zero, suc, _+_, _<_, suc-le-suc}
-use native.Mathlib.Nat.{not-suc-le-zero, le-of-suc-le-suc, zero-lt-suc, zero-add, add-zero, add-suc, suc-add}
+use native.Mathlib.Nat.{not-suc-le-zero, le-of-suc-le-suc, zero-lt-suc, add-zero, add-suc, suc-add}
 use native.Mathlib.Omega.{arith}
 use lib.Dec.{eqb}
 use borrow.Author.Tests.{eq-eqb, ne-eqb}
@@ -20,13 +20,6 @@ use Rattle.laws.proofs.Keep.{keep-passes, any-failed}
 pub sum-take-suc : {A : Type 0} (s : A → ℕ) (d : A) (xs : List A) (i : ℕ) → i < length xs
     → sum (map s (take (suc i) xs)) ≡ sum (map s (take i xs)) + s (getD xs i d)
 sum-take-suc s d xs i h = rw (take-suc xs i d h, sum-append s (take i xs) (getD xs i d ∷ [])) (omega arith)
-
-sum-from-suc : (s : ℕ → ℕ) (k n : ℕ) → sum (map s (from k (suc n))) ≡ sum (map s (from k n)) + s (k + n)
-sum-from-suc s k zero = rw (add-zero k) (omega arith)
-sum-from-suc s k (suc n) = rw (add-suc k n, ← suc-add k n) (omega (arith, sum-from-suc s (suc k) n))
-
-pub sum-below-suc : (s : ℕ → ℕ) (n : ℕ) → sum (map s (below (suc n))) ≡ sum (map s (below n)) + s n
-sum-below-suc s n = rw (zero-add n) at (sum-from-suc s zero n)
 
 -- ---- ranks
 
