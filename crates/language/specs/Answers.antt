@@ -1,14 +1,15 @@
 -- The answers of the entry points (document 01, "Numbers we answer"): for all inputs the number, place, value and steps, and every cell of
 -- what was lent.
 -- Assumes nothing.
-use mathlib.Core.Bool.{Bool, true, false, cond}
+use mathlib.Core.Bool.{Bool, true, false, cond, _&&_}
 use mathlib.Core.List.{List, [], _∷_, _++_}
-use Prim.Native.Nat.{ℕ, _+_, _-_}
-use lib.Dec.{eqb, ltb}
+use Prim.Native.Nat.{ℕ, _+_, _-_, _*_}
+use lib.Dec.{eqb, leb, ltb}
 use lib.ListN.{length, getD, replicate}
-use Rattle.language.specs.Programs.{Func, Program, maxText, noFunction, isSsa, firstRow, rowPlace}
+use Rattle.laws.specs.Lists.{gather}
+use Rattle.language.specs.Programs.{Func, Program, maxText, maxFunctions, noFunction, functionIn, isSsa, hasSignature, firstRow, rowPlace}
 use Rattle.language.specs.Reading.{Reading, read}
-use Rattle.language.specs.Table.{tableLength, cells, decode}
+use Rattle.language.specs.Table.{tableLength, functionCount, cells, decode}
 use Rattle.language.specs.Checking.{Verdict, check}
 use Rattle.language.specs.Running.{Place, Outcome, Run, runOf, firstUnfit}
 use Rattle.language.specs.Translating.{translation, translationFits}
@@ -135,6 +136,33 @@ ifAccepted (Verdict.refused k p) refuses done = refuses k p
 
 unfoldable pub runAnswer : List ℕ → ℕ → List ℕ → ℕ → ℕ → Finished
 runAnswer t i args budget n = ifAccepted (checkAnswer t) (refusedRun n) (runFunction (decode t) i args budget n)
+
+-- Many runs at once, each on one argument: the four numbers of each, one after the other, as running on that argument alone answers them.
+unfoldable pub numberCells : Answer → List ℕ
+numberCells a = a .number ∷ a .place ∷ a .value ∷ a .steps ∷ []
+
+unfoldable pub runEach : List ℕ → ℕ → List ℕ → ℕ → ℕ → List ℕ
+runEach t i args budget n = gather (λ a. numberCells (ranNumbers (runAnswer t i (a ∷ []) budget n .answer))) args
+
+-- An answer with the lent numbers as they are afterwards.
+pub record Listed : Type 0 where
+  pub answer : Verdict
+  pub numbers : List ℕ
+
+-- To m lent numbers: 22 where these are not four for each argument.
+unfoldable pub runEachAnswer : List ℕ → ℕ → List ℕ → ℕ → ℕ → ℕ → Listed
+runEachAnswer t i args budget n m =
+    cond (eqb m (4 * length args)) (record { answer = Verdict.accepted; numbers = runEach t i args budget n })
+    (record { answer = Verdict.refused 22 0; numbers = zeros m })
+
+-- ---- a function's signature (document 02, A8: "missing or of another signature")
+
+-- Function i of a lent table gives a result of this type and takes parameters of these. Of the table no more is asked than its length and
+-- that it says to hold no more functions than there is room for.
+unfoldable pub signatureAnswer : List ℕ → ℕ → ℕ → List ℕ → Bool
+signatureAnswer t i result types =
+    eqb (length t) tableLength
+    && (leb (functionCount t) maxFunctions && (ltb i (functionCount t) && hasSignature (functionIn (decode t) i) result types))
 
 -- ---- translate
 

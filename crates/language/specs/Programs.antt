@@ -1,12 +1,12 @@
 -- Programs: functions, registers, blocks, rows, entry and names (document 01, "The text"), and the sizes.
 -- A program may hold any numbers: which of them are right is the check's to say.
 -- Assumes nothing.
-use mathlib.Core.Bool.{Bool, true, false, cond}
+use mathlib.Core.Bool.{Bool, true, false, cond, _&&_}
 use mathlib.Core.List.{List, [], _∷_, map}
 use Prim.Native.Nat.{ℕ, zero, _+_, _*_}
 use lib.Dec.{eqb}
 use lib.ListN.{length, getD, take}
-use Rattle.laws.specs.Lists.{gather, sum, any, empty}
+use Rattle.laws.specs.Lists.{gather, sum, any, empty, same}
 use Rattle.language.specs.Instructions.{Form, formOf}
 
 -- A row is an instruction with its numbers: registers and blocks by their place in the function's lists, an instruction
@@ -96,6 +96,11 @@ rowsAt f b = blockAt f b .rows
 
 abbrev pub typeAt : Func → ℕ → ℕ
 typeAt f r = getD (f .registers) r noRegister .type
+
+-- The function gives a result of this type and takes parameters of these.
+unfoldable pub hasSignature : Func → ℕ → List ℕ → Bool
+hasSignature f result types =
+    eqb (f .result) result && (eqb (f .params) (length types) && same (map (λ r. r .type) (take (f .params) (f .registers))) types)
 
 -- All rows of a function, one block after the other: "Rows count from 0 through a function".
 unfoldable pub rowsOf : Func → List Row
