@@ -1,0 +1,5 @@
+pub mod Records
+pub mod Stores
+pub mod Limits
+pub mod Answers
+pub mod Trees

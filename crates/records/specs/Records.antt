@@ -1,0 +1,42 @@
+-- A record and which of two wins (document 02, A8): "For one appliance the later test time wins; then fail over pass; then the lower tablet
+-- number; then the larger reading by meaning."
+-- Assumes nothing.
+use mathlib.Core.Bool.{Bool, true, cond, _&&_}
+use Prim.Native.Nat.{ℕ, _<_, _^_}
+use lib.Dec.{eqb, ltb}
+use lib.IntN.{ℤ}
+use lib.Signed.{leZ}
+use Rattle.language.specs.Instructions.{int64}
+use Rattle.language.specs.Arithmetic.{meaning}
+use Rattle.records.specs.declared.Record.{Record}
+
+-- "each below 2^64"; the verdict is a pass or a fail.
+pub record Sized (r : Record) : Type 0 where
+  pub appliance : r .appliance < 2 ^ 64
+  pub time : r .time < 2 ^ 64
+  pub fail : r .fail < 2
+  pub tablet : r .tablet < 2 ^ 64
+  pub reading : r .reading < 2 ^ 64
+
+-- Of two with different numbers the greater or the lower wins; else what comes next decides.
+unfoldable pub greater : (Record → ℕ) → (Record → Record → Bool) → Record → Record → Bool
+greater k next x y = cond (eqb (k x) (k y)) (next x y) (ltb (k y) (k x))
+
+unfoldable pub lower : (Record → ℕ) → (Record → Record → Bool) → Record → Record → Bool
+lower k next x y = cond (eqb (k x) (k y)) (next x y) (ltb (k x) (k y))
+
+-- The number that a record's reading means.
+unfoldable pub read : Record → ℤ
+read r = meaning int64 (r .reading)
+
+-- x's reading is the larger by meaning, or the same.
+unfoldable pub larger : Record → Record → Bool
+larger x y = leZ (read y) (read x)
+
+-- x wins over y, or they are the same: later time, fail over pass, lower tablet, larger reading.
+unfoldable pub wins : Record → Record → Bool
+wins = greater (λ r. r .time) (greater (λ r. r .fail) (lower (λ r. r .tablet) larger))
+
+-- The winner of two.
+unfoldable pub best : Record → Record → Record
+best x y = cond (wins x y) x y
