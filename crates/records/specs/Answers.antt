@@ -24,6 +24,11 @@ unchanged s k p = record { answer = Verdict.refused k p; store = s }
 unfoldable pub kept : List ℕ → List Record → Merged
 kept s es = cond (leb (length es) capacity) (record { answer = Verdict.accepted; store = storeCells es }) (unchanged s 60 0)
 
+-- Merged with the store as it is then, or no room.
+abbrev pub keptAs : Bool → List ℕ → Merged
+keptAs true s = record { answer = Verdict.accepted; store = s }
+keptAs false s = unchanged s 60 0
+
 -- Bytes of the right length that are no store's get an answer too, done or 60, and nothing past them is touched: what is in them then is free, but a
 -- refusal leaves them unchanged.
 pub record Harmless (s : List ℕ) (m : Merged) : Type 0 where
