@@ -1,6 +1,8 @@
 pub mod ReadLaws
 pub mod Places
+pub mod SignatureLaws
 pub mod RunLaws
+pub mod EachLaws
 pub mod TranslateLaws
 pub mod WriteLaws
 pub mod Demand

@@ -3,7 +3,7 @@ use mathlib.Core.Path.{_≡_, refl, sym, ap, _∙_}
 use mathlib.Core.List.{List, _++_}
 use Prim.Native.Nat.{ℕ, _+_, _-_, _≤_, _<_}
 use native.Mathlib.Omega.{arith}
-use lib.ListN.{length, replicate, take, length-replicate, length-append}
+use lib.ListN.{length, replicate, take, length-append}
 use borrow.Rule.Slice.PartMut.{midOf, postOf, putMid, mid-len, put-same}
 use borrow.Author.Tests.{lt-ltb, eq-eqb, ne-eqb}
 use Rattle.language.specs.Programs.{maxText}
@@ -22,10 +22,6 @@ use Rattle.ial.specs.Verdicts.{filledOf, Into, Aside, otherLength}
 pub zeros-made : (n : ℕ) → replicate n 0 ≡ zeros n
 unfolding zeros
 zeros-made n = refl
-
-pub length-zeros : (n : ℕ) → length (zeros n) ≡ n
-unfolding zeros
-length-zeros n = length-replicate n 0
 
 -- ---- a longer output, whose last n cells are lent as a table
 

@@ -11,7 +11,7 @@ use Rattle.laws.proofs.Indexing.{length-together-le}
 use Rattle.laws.proofs.Positions.{position-le}
 use Rattle.laws.proofs.Branches.{by-eq, by-ne, by-lt, by-not-lt}
 use Rattle.language.specs.Instructions.{width}
-use Rattle.language.specs.Programs.{Register, Func}
+use Rattle.language.specs.Programs.{Register, Func, Program}
 use Rattle.laws.specs.Lists.{together}
 use Rattle.language.specs.Table.{functionAt, functionCount, functionParams, registerCount, decode, decodeFunction}
 use Rattle.language.specs.Checking.{Verdict}
@@ -28,7 +28,7 @@ use Rattle.checker.specs.declared.Verdict.the-variants as verdicts
 use Rattle.checker.specs.Verdicts.{verdictOf}
 use Rattle.ial.specs.declared.running.Ran.{Ran}
 use Rattle.ial.specs.declared.running.Ran.the-variants as rans
-use Rattle.ial.specs.Runs.{ranOf, finishedOf, stopPlace}
+use Rattle.ial.specs.Runs.{ranOf, finishedOf, stopPlace, RunsTo}
 
 -- ---- the registers at first
 
@@ -43,6 +43,23 @@ ended-as {p} e h = e ∙ ap (λ (o : Outcome). runs.Ended o p) h
 
 pub place-as : (i : ℕ) {r x : Run} → r ≡ x → stopPlace (ranIn i r) < 32768 → stopPlace (ranIn i x) < 32768
 place-as i e h = subst (λ (x : Run). stopPlace (ranIn i x) < 32768) e h
+
+-- ---- registers that may hold anything
+
+module _ (p : Program) (i : ℕ) (args : List ℕ) (budget : ℕ) (g : List ℕ) (x : Ran) where
+  -- A refusal leaves the registers.
+  pub refused-to : ((z : List ℕ) → z ≡ zeros (length g) → finishedOf x z ≡ runFunction p i args budget (length g)) → RunsTo p i args budget g x g
+  refused-to e =
+      record {
+        answer = ap (λ (f : Finished). f .answer) (e (zeros (length g)) refl);
+        registers = λ z. ap (λ (f : Finished). f .registers) (e g z);
+      }
+
+  pub done-to : (h : List ℕ) → finishedOf x h ≡ runFunction p i args budget (length g) → RunsTo p i args budget g x h
+  done-to h e = record { answer = ap (λ (f : Finished). f .answer) e; registers = λ z. ap (λ (f : Finished). f .registers) e }
+
+  pub from-zeros : {h : List ℕ} → RunsTo p i args budget g x h → g ≡ zeros (length g) → finishedOf x h ≡ runFunction p i args budget (length g)
+  from-zeros w z = λ j. record { answer = w .answer j; registers = w .registers z j }
 
 -- ---- the check before it
 

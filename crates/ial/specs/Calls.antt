@@ -1,16 +1,17 @@
 -- What the entry points promise of a call: the answer in document 01's numbers, and every cell of what was lent, are those of the definition.
 -- Assumes nothing.
 use mathlib.Core.Path.{_≡_}
+use mathlib.Core.Bool.{Bool, cond}
 use mathlib.Core.List.{List}
 use Prim.Native.Nat.{ℕ}
-use Rattle.language.specs.Answers.{readAnswer, checkAnswer, runAnswer, translateAnswer, writeAnswer, verdictNumbers, ranNumbers, wroteNumbers}
+use Rattle.language.specs.Answers.{zeros, readAnswer, checkAnswer, signatureAnswer, runAnswer, runEachAnswer, translateAnswer, writeAnswer, verdictNumbers, ranNumbers, wroteNumbers}
 use Rattle.checker.specs.declared.Verdict.{Verdict}
 use Rattle.checker.specs.Verdicts.{verdictOf}
 use Rattle.ial.specs.declared.running.Ran.{Ran}
 use Rattle.ial.specs.declared.writing.Wrote.{Wrote}
 use Rattle.ial.specs.declared.c.Answer.{Answer}
 use Rattle.ial.specs.Verdicts.{filledOf}
-use Rattle.ial.specs.Runs.{finishedOf}
+use Rattle.ial.specs.Runs.{finishedOf, listedOf}
 use Rattle.ial.specs.Texts.{shownOf}
 use Rattle.ial.specs.Numbers.{numbersOf}
 
@@ -22,9 +23,18 @@ ReadCalled text n r out = filledOf r out ≡ readAnswer text n
 abbrev pub CheckCalled : (t : List ℕ) (r : Verdict) → Type 0
 CheckCalled t r = verdictOf r ≡ checkAnswer t
 
+-- `has_signature` with table t, function i, a result's type and the parameters' types answered r.
+abbrev pub SignatureCalled : (t : List ℕ) (i result : ℕ) (types : List ℕ) (r : Bool) → Type 0
+SignatureCalled t i result types r = r ≡ signatureAnswer t i result types
+
 -- `run` with table t, function i, arguments, a budget and n lent registers answered x and left the registers as g.
 abbrev pub RunCalled : (t : List ℕ) (i : ℕ) (args : List ℕ) (budget n : ℕ) (x : Ran) (g : List ℕ) → Type 0
 RunCalled t i args budget n x g = finishedOf x g ≡ runAnswer t i args budget n
+
+-- `run_each` with table t, function i, arguments, a budget, n lent registers and m lent numbers answered r and left the numbers as `out` and the
+-- registers as g.
+abbrev pub RunEachCalled : (t : List ℕ) (i : ℕ) (args : List ℕ) (budget n m : ℕ) (r : Verdict) (out g : List ℕ) → Type 0
+RunEachCalled t i args budget n m r out g = (listedOf r out ≡ runEachAnswer t i args budget n m) × (g ≡ zeros n)
 
 -- `translate` with table t, function i and a lent table of n cells answered r and left that table as `out`.
 abbrev pub TranslateCalled : (t : List ℕ) (i n : ℕ) (r : Verdict) (out : List ℕ) → Type 0
@@ -34,17 +44,24 @@ TranslateCalled t i n r out = filledOf r out ≡ translateAnswer t i n
 abbrev pub WriteCalled : (t : List ℕ) (n : ℕ) (r : Wrote) (b : List ℕ) → Type 0
 WriteCalled t n r b = shownOf r b ≡ writeAnswer t n
 
--- The symbols that C and Rust link, by the four numbers of their answers: the same of `ial_read`, `ial_check`, `ial_run`, `ial_translate` and
--- `ial_write`.
+-- The symbols that C and Rust link, by the four numbers of their answers: the same of `ial_read`, `ial_check`, `ial_run`, `ial_run_each`,
+-- `ial_translate` and `ial_write`. `ial_has_signature` answers 1 or 0.
 abbrev pub ReadLinked : (text : List ℕ) (n : ℕ) (r : Answer) (out : List ℕ) → Type 0
 ReadLinked text n r out = (numbersOf r ≡ verdictNumbers (readAnswer text n .answer)) × (out ≡ readAnswer text n .table)
 
 abbrev pub CheckLinked : (t : List ℕ) (r : Answer) → Type 0
 CheckLinked t r = numbersOf r ≡ verdictNumbers (checkAnswer t)
 
+abbrev pub SignatureLinked : (t : List ℕ) (i result : ℕ) (types : List ℕ) (r : ℕ) → Type 0
+SignatureLinked t i result types r = r ≡ cond (signatureAnswer t i result types) 1 0
+
 abbrev pub RunLinked : (t : List ℕ) (i : ℕ) (args : List ℕ) (budget n : ℕ) (x : Answer) (g : List ℕ) → Type 0
 RunLinked t i args budget n x g =
     (numbersOf x ≡ ranNumbers (runAnswer t i args budget n .answer)) × (g ≡ runAnswer t i args budget n .registers)
+
+abbrev pub RunEachLinked : (t : List ℕ) (i : ℕ) (args : List ℕ) (budget n m : ℕ) (x : Answer) (out g : List ℕ) → Type 0
+RunEachLinked t i args budget n m x out g =
+    (numbersOf x ≡ verdictNumbers (runEachAnswer t i args budget n m .answer)) × (out ≡ runEachAnswer t i args budget n m .numbers) × (g ≡ zeros n)
 
 abbrev pub TranslateLinked : (t : List ℕ) (i n : ℕ) (r : Answer) (out : List ℕ) → Type 0
 TranslateLinked t i n r out = (numbersOf r ≡ verdictNumbers (translateAnswer t i n .answer)) × (out ≡ translateAnswer t i n .table)

@@ -3,8 +3,10 @@ use crate::Ran;
 use crate::Verdict;
 use crate::Wrote;
 use crate::check;
+use crate::has_signature;
 use crate::read;
 use crate::run;
+use crate::run_each;
 use crate::translate;
 use crate::write;
 ghost use mathlib.Core.Path.{_≡_};
@@ -14,7 +16,7 @@ ghost use Rattle.checker.specs.Verdicts.{verdictOf};
 ghost use Rattle.ial.specs.Numbers.{numbersOf};
 ghost use Rattle.ial.specs.Runs.{ranOf};
 ghost use Rattle.ial.specs.Texts.{wroteOf};
-ghost use Rattle.ial.specs.Calls.{ReadLinked, CheckLinked, RunLinked, TranslateLinked, WriteLinked};
+ghost use Rattle.ial.specs.Calls.{ReadLinked, CheckLinked, SignatureLinked, RunLinked, RunEachLinked, TranslateLinked, WriteLinked};
 
 // "Unstated numbers of an answer are 0."
 #[repr(C)]
@@ -26,7 +28,7 @@ pub struct Answer {
 }
 
 // The numbers of an answer that is done or refused.
-fn numbers(v: Verdict) -> Answer
+pub fn numbers(v: Verdict) -> Answer
     ensures { λ r. ⌜ numbersOf r ≡ verdictNumbers (verdictOf v) ⌝ }
 {
     match v {
@@ -61,8 +63,19 @@ pub extern "C" fn ial_check(table: &[u8]) -> Answer
     numbers(check(table))
 }
 
+// Whether a function of a lent table gives a result of this type and takes parameters of these, 1 or 0. Nothing else of the table is checked.
+#[no_mangle]
+pub extern "C" fn ial_has_signature(table: &[u8], function: u64, result: u8, types: &[u8]) -> u64
+    ensures { λ r. ⌜ SignatureLinked (now (table .entry)) function result (now (types .entry)) r ⌝ }
+{
+    if has_signature(table, function, result, types) {
+        return 1;
+    }
+    0
+}
+
 // The numbers of what a run answers.
-fn run_numbers(r: Ran) -> Answer
+pub fn run_numbers(r: Ran) -> Answer
     ensures { λ x. ⌜ numbersOf x ≡ ranNumbers (ranOf r) ⌝ }
 {
     match r {
@@ -106,6 +119,22 @@ pub extern "C" fn ial_run(
     ensures { λ r. ⌜ RunLinked (now (table .entry)) function (now (arguments .entry)) budget (length (now (registers .entry))) r (now (registers .exit)) ⌝ }
 {
     run_numbers(run(table, function, arguments, budget, registers))
+}
+
+// Runs a function of a lent table on each of many arguments alone, for at most `budget` steps each: for each the four numbers that `ial_run`
+// answers, one after the other. 22 where not four for each argument were lent, which are all zero then. The lent registers are all zero afterwards.
+#[no_mangle]
+pub extern "C" fn ial_run_each(
+    table: &[u8],
+    function: u64,
+    arguments: &[u64],
+    budget: u64,
+    registers: &mut [u64],
+    out: &mut [u64],
+) -> Answer
+    ensures { λ r. ⌜ RunEachLinked (now (table .entry)) function (now (arguments .entry)) budget (length (now (registers .entry))) (length (now (out .entry))) r (now (out .exit)) (now (registers .exit)) ⌝ }
+{
+    numbers(run_each(table, function, arguments, budget, registers, out))
 }
 
 // Translates a function of a lent table out of ssa, to a lent table of that function alone: 9 to 17, 21, 30, 31, 22. After a refusal the

@@ -2,18 +2,24 @@
 use reader::Taken;
 
 mod c;
+mod many;
 mod running;
+mod signature;
 mod translating;
 mod writing;
 
 pub use c::Answer;
 pub use c::ial_check;
+pub use c::ial_has_signature;
 pub use c::ial_read;
 pub use c::ial_run;
+pub use c::ial_run_each;
 pub use c::ial_translate;
 pub use c::ial_write;
+pub use many::run_each;
 pub use running::Ran;
 pub use running::run;
+pub use signature::has_signature;
 pub use translating::translate;
 pub use writing::Wrote;
 pub use writing::write;

@@ -3,10 +3,11 @@ ghost use mathlib.Core.Path.{_≡_};
 ghost use Prim.Native.Nat.{_<_};
 ghost use lib.ListN.{length};
 ghost use Rattle.language.specs.Checking.{Verdict as Verdictᴸ};
-ghost use Rattle.language.specs.Table.{decode};
+ghost use Rattle.language.specs.Table.{functionAt, functionCount, decode, decodeFunction};
 ghost use Rattle.language.specs.Answers.{zeros, checkAnswer, runFunction};
+ghost use Rattle.rules.specs.Prepared.{Prepared};
 ghost use Rattle.machine.specs.Runs.{ranIn};
-ghost use Rattle.ial.specs.Runs.{ranOf, finishedOf, stopPlace};
+ghost use Rattle.ial.specs.Runs.{ranOf, finishedOf, stopPlace, RunsTo};
 ghost use Rattle.ial.specs.Calls.{RunCalled};
 use checker::Verdict;
 use checker::check_table;
@@ -46,16 +47,20 @@ fn answer_of(i: usize, r: Run) -> Ran
     }
 }
 
-// A table that passes its check: "then 21; running then 20, 22".
-fn run_checked(t: &[u8], function: u64, args: &[u64], budget: u64, registers: &mut [u64]) -> Ran
+// A function of a table that passes its check, prepared: "running then 20, 22". The registers may hold anything; where they are all zero, a
+// refusal leaves them so. This is the one place that calls `run_on`, for a run and for many.
+pub fn run_prepared(
+    t: &[u8],
+    i: usize,
+    m: &[u16],
+    args: &[u64],
+    budget: u64,
+    registers: &mut [u64],
+) -> Ran
     requires { ⌜ checkAnswer (now t) ≡ Verdictᴸ.accepted ⌝ }
-    requires { ⌜ now registers ≡ zeros (length (now registers)) ⌝ }
-    ensures { λ r. ⌜ finishedOf r (now (registers .exit)) ≡ runFunction (decode (now (t .entry))) function (now (args .entry)) budget (length (now (registers .entry))) ⌝ }
+    requires { ⌜ (i < functionCount (now t)) × Prepared (decodeFunction (now t) (functionAt i)) (now m) ⌝ }
+    ensures { λ r. ⌜ RunsTo (decode (now (t .entry))) i (now (args .entry)) budget (now (registers .entry)) r (now (registers .exit)) ⌝ }
 {
-    if function_count(t) as u64 <= function {
-        return Ran::Refused(21, 0);
-    }
-    let i = function as usize;
     let a = 1 + FUNCTION * i;
     if args.len() != function_params(t, a) {
         return Ran::Refused(20, args.len());
@@ -67,9 +72,22 @@ fn run_checked(t: &[u8], function: u64, args: &[u64], budget: u64, registers: &m
     if registers.len() < register_count(t, a) {
         return Ran::Refused(22, 0);
     }
+    answer_of(i, run_on(t, a, m, args, budget, registers))
+}
+
+// A table that passes its check: "then 21; running then 20, 22".
+fn run_checked(t: &[u8], function: u64, args: &[u64], budget: u64, registers: &mut [u64]) -> Ran
+    requires { ⌜ checkAnswer (now t) ≡ Verdictᴸ.accepted ⌝ }
+    requires { ⌜ now registers ≡ zeros (length (now registers)) ⌝ }
+    ensures { λ r. ⌜ finishedOf r (now (registers .exit)) ≡ runFunction (decode (now (t .entry))) function (now (args .entry)) budget (length (now (registers .entry))) ⌝ }
+{
+    if function_count(t) as u64 <= function {
+        return Ran::Refused(21, 0);
+    }
+    let i = function as usize;
     let mut m = [0u16; 768];
-    prepare(t, a, &mut m);
-    answer_of(i, run_on(t, a, &m, args, budget, registers))
+    prepare(t, 1 + FUNCTION * i, &mut m);
+    run_prepared(t, i, &m, args, budget, registers)
 }
 
 // Runs a function of a lent table on arguments, for at most `budget` steps: 9 to 17, 21, 20, 22; 27, 40 to 43. The lent registers hold the

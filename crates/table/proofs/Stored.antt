@@ -1,4 +1,4 @@
--- What callers use of the stores and of the search: a name read back, zeros counted, and a search of the table as one of what it holds.
+-- What callers use of the stores and of the search: a name read back, and a search of the table as one of what it holds.
 -- Numbers stored by `twoBytes` and its like are read back by `Rattle.theorems.proofs.TableParts`, from `at-sets`.
 -- Assumes nothing.
 use mathlib.Core.Path.{_≡_, refl, ap}
@@ -6,18 +6,13 @@ use mathlib.Core.List.{List, [], _∷_}
 use Prim.Native.Nat.{ℕ, _+_, _*_, _<_}
 use native.Mathlib.Nat.{zero-lt-suc}
 use native.Mathlib.Omega.{arith}
-use lib.ListN.{length, getD, length-replicate}
+use lib.ListN.{length, getD}
 use Rattle.laws.specs.Lists.{same, position}
 use Rattle.laws.specs.Sections.{At}
 use Rattle.laws.proofs.Sections.{at-right, at-cell, at-part}
 use Rattle.laws.proofs.Positions.{position-of}
-use Rattle.language.specs.Answers.{zeros}
 use Rattle.language.specs.Table.{nameAt}
 use Rattle.table.specs.Named.{isNamed, firstNamed}
-
-pub length-zeros : (n : ℕ) → length (zeros n) ≡ n
-unfolding zeros
-length-zeros n = length-replicate n 0
 
 -- a name whose length and bytes stand from cell k on is read there
 pub name-stored : {t : List ℕ} {k : ℕ} (name : List ℕ) → At t k (length name ∷ name) → nameAt t k ≡ name

@@ -6,10 +6,10 @@ ghost use lib.ListN.{length};
 ghost use Rattle.language.specs.Table.{functionCount, functionSsa, functionResult, functionParams, registerCount, blockCount, functionEntry, functionName};
 ghost use Rattle.language.specs.Table.{registerType, registerName, blockFirst, blockRows, blockName};
 ghost use Rattle.language.specs.Table.{rowOp, rowTarget, rowLeft, rowRight, loadNumber, jumpFirst, jumpSecond, phiFirst, phiCount, phiEntry};
-use crate::cells::eight_at;
 use crate::cells::name_at;
-use crate::cells::two_at;
-use crate::cells::wide;
+use numbers::eight_at;
+use numbers::two_at;
+use numbers::wide;
 
 pub fn function_count(t: &[u8]) -> usize
     requires { ⌜ 1 ≤ length (now t) ⌝ }

@@ -5,8 +5,8 @@ ghost use lib.ListN.{length};
 ghost use Rattle.laws.specs.Lists.{same as sameAs};
 ghost use Rattle.language.specs.Table.{eight, nameAt};
 ghost use Rattle.table.specs.Named.{Agree, firstNamed};
-use crate::cells::eight_at;
 use crate::cells::name_at;
+use numbers::eight_at;
 
 // How many bytes agree, counted in eights: among the next eight there is a difference, or fewer than eight are left.
 fn agreeing(a: &[u8], b: &[u8]) -> usize

@@ -1,20 +1,21 @@
 -- A program is accepted exactly if its rules hold: what the check finds, with 17 over paths instead of its computation.
 -- Assumes nothing.
-use mathlib.Core.Path.{subst}
+use mathlib.Core.Path.{refl, subst}
 use mathlib.Core.List.{List}
-use Prim.Native.Nat.{ℕ}
-use borrow.Author.Tests.{eq-eqb}
+use Prim.Native.Nat.{ℕ, _≤_}
+use borrow.Author.Tests.{eq-eqb, le-leb}
 use lib.Dec.{T, eqb, eqb→eq}
 use lib.ListN.{length}
 use Rattle.laws.proofs.Joining.{is-not}
 use Rattle.laws.proofs.Tests.{of-true}
-use Rattle.language.specs.Programs.{Func, functionIn}
+use Rattle.language.specs.Programs.{Func, functionIn, maxFunctions}
 use Rattle.language.specs.Checking.{spotAt, breaks17, sound, check}
-use Rattle.language.specs.Table.{tableLength, decode}
-use Rattle.language.specs.Answers.{checkAnswer}
+use Rattle.language.specs.Table.{tableLength, functionCount, decode}
+use Rattle.language.specs.Answers.{checkAnswer, signatureAnswer}
 use Rattle.language.proofs.Paths.{missing-sound, missing-complete}
 use Rattle.theorems.specs.Clean.{Clean}
-use Rattle.theorems.specs.Accepted.{namesBefore, RulesHold, AcceptedExactly, TableAcceptedExactly}
+use Rattle.theorems.specs.Accepted.{namesBefore, RulesHold, AcceptedExactly, TableAcceptedExactly, SignatureAccepted}
+use Rattle.theorems.proofs.TableView.{function-count}
 use Rattle.theorems.proofs.Judged.{accepted-each}
 use Rattle.theorems.proofs.AcceptanceCheck.{in-blocks, sound-parts, parts-sound, tested, clean-of-check, sound-of-check, check-of-clean}
 
@@ -57,3 +58,11 @@ table-accepted-exactly t = (
       (eqb→eq (length t) tableLength (q .0), accepted-exactly (decode t) .0 (q .1)),
   λ r. rw (eq-eqb (length t) tableLength (r .0)) (accepted-exactly (decode t) .1 (r .1)),
 )
+
+-- The table's length and its function count are right.
+pub signature-accepted : SignatureAccepted
+unfolding signatureAnswer
+signature-accepted t i result types e =
+    let r = table-accepted-exactly t .0 e in
+    let few : functionCount t ≤ maxFunctions = subst (λ (n : ℕ). n ≤ maxFunctions) (function-count t) (r .1 .count) in
+    rw (eq-eqb (length t) tableLength (r .0), le-leb (functionCount t) maxFunctions few, function-count t) refl

@@ -19,7 +19,7 @@ use Rattle.language.specs.Table.{functionEntry, registerCount, blockCount, regi
 use Rattle.language.specs.Table.{rowOp, rowTarget, rowLeft, rowRight, jumpFirst, jumpSecond, phiFirst, phiCount, phiEntry, rowsBefore}
 use Rattle.language.specs.Table.{rowCount, rowEntries, entriesBefore, decodeRegister, decodeRow, decodeAs, decodeBlock, decodeFunction}
 use Rattle.language.specs.Table.{decode, blocksPlaced, phisPlaced}
-use Rattle.language.specs.Answers.{checkAnswer, runAnswer, translateAnswer, writeAnswer}
+use Rattle.language.specs.Answers.{checkAnswer, signatureAnswer, runAnswer, runEach, runEachAnswer, translateAnswer, writeAnswer}
 use Rattle.theorems.specs.TableNeeds.{usedCells, NeededRow, NeededIn, Needed, IgnoredLaw, IgnoredInAnswers}
 
 op-used : (f : Form) → T (member 0 (usedCells f))
@@ -214,12 +214,15 @@ unneeded-ignored t u h =
 
 -- An answer knows a table by its length and its program.
 pub answers-ignore-unneeded : IgnoredInAnswers
-unfolding checkAnswer runAnswer translateAnswer writeAnswer
+unfolding checkAnswer signatureAnswer runAnswer runEach runEachAnswer translateAnswer writeAnswer
 answers-ignore-unneeded t u h =
     let p : decode t ≡ decode u = unneeded-ignored t u h in
+    let count : functionCount t ≡ functionCount u = h .needed 0 (Needed.count refl) in
     record {
       check = rw (h .count, p) refl;
+      signature = λ i result types. rw (h .count, count, p) refl;
       run = λ i args budget n. rw (h .count, p) refl;
+      runEach = λ i args budget n m. simp (h .count, p);
       translate = λ i n. rw (h .count, p) refl;
       write = λ n. rw (h .count, p) refl;
     }

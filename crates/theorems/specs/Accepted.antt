@@ -3,15 +3,15 @@
 -- Assumes nothing.
 use mathlib.Core.Path.{_≡_}
 use mathlib.Core.Logic.{_↔_}
-use mathlib.Core.Bool.{false, cond}
+use mathlib.Core.Bool.{false, cond, _&&_}
 use mathlib.Core.List.{List, map}
 use Prim.Native.Nat.{ℕ, _≤_, _<_}
-use lib.Dec.{T, eqb}
+use lib.Dec.{T, eqb, ltb}
 use lib.ListN.{length, take}
-use Rattle.language.specs.Programs.{Func, Program, functionIn, maxFunctions, isSsa, rowsAt, firstRow, rowPlace}
+use Rattle.language.specs.Programs.{Func, Program, functionIn, maxFunctions, isSsa, hasSignature, rowsAt, firstRow, rowPlace}
 use Rattle.language.specs.Checking.{Spot, spotAt, rowNumber, breaks10, breaks11, breaks12, breaks13, breaks14, breaks15, breaks16, breaksRow, Missing, Verdict, sound, check}
 use Rattle.language.specs.Table.{tableLength, decode}
-use Rattle.language.specs.Answers.{checkAnswer}
+use Rattle.language.specs.Answers.{checkAnswer, signatureAnswer}
 
 -- The names of the functions before number i.
 abbrev pub namesBefore : Program → ℕ → List (List ℕ)
@@ -111,3 +111,10 @@ pub data TableRefused (t : List ℕ) : (number place : ℕ) → Type 0 where
 abbrev pub TableRefusedExactly : Type 0
 TableRefusedExactly =
     (t : List ℕ) (k place : ℕ) → (checkAnswer t ≡ Verdict.refused k place) ↔ TableRefused t k place
+
+-- What is asked of an accepted table's signature is that of its program: the function is there, and has it.
+abbrev pub SignatureAccepted : Type 0
+SignatureAccepted =
+    (t : List ℕ) (i result : ℕ) (types : List ℕ)
+    → checkAnswer t ≡ Verdict.accepted
+    → signatureAnswer t i result types ≡ (ltb i (length (decode t)) && hasSignature (functionIn (decode t) i) result types)

@@ -11,7 +11,7 @@ use Rattle.language.specs.Instructions.{Form, formOf}
 use Rattle.language.specs.Programs.{Program}
 use Rattle.language.specs.Table.{functionCount, functionAt, registerCount, blockCount, blockFirst, blockRows, rowCount, rowOp, phiFirst}
 use Rattle.language.specs.Table.{phiCount, cells, decode}
-use Rattle.language.specs.Answers.{checkAnswer, runAnswer, translateAnswer, writeAnswer}
+use Rattle.language.specs.Answers.{checkAnswer, signatureAnswer, runAnswer, runEachAnswer, translateAnswer, writeAnswer}
 use Rattle.theorems.specs.TableLaw.{Fits}
 
 -- The needed ones of a row's 12 cells, by its form.
@@ -60,7 +60,9 @@ IgnoredLaw = (t u : List ℕ) → Agree t u → decode t ≡ decode u
 -- They get the same answers, and leave the same cells in what was lent.
 pub record SameAnswers (t u : List ℕ) : Type 0 where
   pub check : checkAnswer t ≡ checkAnswer u
+  pub signature : (i result : ℕ) (types : List ℕ) → signatureAnswer t i result types ≡ signatureAnswer u i result types
   pub run : (i : ℕ) (args : List ℕ) (budget n : ℕ) → runAnswer t i args budget n ≡ runAnswer u i args budget n
+  pub runEach : (i : ℕ) (args : List ℕ) (budget n m : ℕ) → runEachAnswer t i args budget n m ≡ runEachAnswer u i args budget n m
   pub translate : (i n : ℕ) → translateAnswer t i n ≡ translateAnswer u i n
   pub write : (n : ℕ) → writeAnswer t n ≡ writeAnswer u n
 

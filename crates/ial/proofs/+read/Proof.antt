@@ -14,7 +14,7 @@ use Rattle.ial.proofs.+read.Lts-read as read-lts
 use Rattle.ial.proofs.other_length.Reads as other-length-reads
 use Rattle.ial.proofs.read_aside.Reads as read-aside-reads
 use Rattle.ial.proofs.read_into.Reads as read-into-reads
-use Rattle.table.proofs.zero.Reads as zero-reads
+use Rattle.numbers.proofs.zero.Reads as zero-reads
 use Rattle.ial.proofs.+read.{statement}
 use Rattle.ial.proofs.+read.Tie.{close}
 

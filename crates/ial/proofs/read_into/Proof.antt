@@ -3,8 +3,9 @@ use mathlib.Core.Path.{ap, _∙_}
 use Prim.Native.Nat.{ℕ}
 use lib.ListN.{length, length-replicate}
 use borrow.Author.Needs.{needs}
+use Rattle.numbers.proofs.Zeros.{length-zeros}
 use Rattle.reader.specs.Parse.{Lent}
-use Rattle.ial.proofs.ReadLaws.{length-zeros, into-refused, into-read}
+use Rattle.ial.proofs.ReadLaws.{into-refused, into-read}
 use Rattle.ial.proofs.read_into.Statement.{statement}
 use Rattle.ial.proofs.read_into.Tie as tie
 

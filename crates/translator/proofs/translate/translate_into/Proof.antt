@@ -4,7 +4,7 @@ use mathlib.Core.Path.{ap, _∙_}
 use native.Mathlib.Omega.{arith}
 use lib.ListN.{length}
 use Rattle.language.specs.Table.{decodeFunction}
-use Rattle.table.proofs.Stored.{length-zeros}
+use Rattle.numbers.proofs.Zeros.{length-zeros}
 use Rattle.translator.proofs.SizesLaws.{registers-are, blocks-are, blocks-few}
 use Rattle.translator.proofs.RegistersLaws.{name-short, head-declared}
 use Rattle.translator.proofs.translate.translate_into.Statement.{statement}

@@ -4,8 +4,8 @@ use Prim.Native.Nat.{_/_}
 use mathlib.Core.Path.{refl}
 use Rattle.laws.proofs.Cells.{sets-then}
 use Rattle.language.specs.Table.{twoBytes}
-use Rattle.table.proofs.stores.put_four.Statement.{statement}
-use Rattle.table.proofs.stores.put_four.Tie as tie
+use Rattle.numbers.proofs.stores.put_four.Statement.{statement}
+use Rattle.numbers.proofs.stores.put_four.Tie as tie
 
 pub put-four-spec : {M : Type 1} → statement M
 put-four-spec =

@@ -4,8 +4,8 @@ use Prim.Native.Nat.{_/_}
 use mathlib.Core.Path.{refl}
 use Rattle.laws.proofs.Cells.{sets-then}
 use Rattle.language.specs.Table.{fourBytes}
-use Rattle.table.proofs.stores.put_eight.Statement.{statement}
-use Rattle.table.proofs.stores.put_eight.Tie as tie
+use Rattle.numbers.proofs.stores.put_eight.Statement.{statement}
+use Rattle.numbers.proofs.stores.put_eight.Tie as tie
 
 pub put-eight-spec : {M : Type 1} → statement M
 put-eight-spec =

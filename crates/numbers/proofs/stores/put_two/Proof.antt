@@ -3,8 +3,8 @@ use borrow.Author.Needs.{needs}
 use lib.ListN.{length-set}
 use native.Mathlib.Numerals.{add-one}
 use native.Mathlib.Omega.{arith}
-use Rattle.table.proofs.stores.put_two.Statement.{statement}
-use Rattle.table.proofs.stores.put_two.Tie as tie
+use Rattle.numbers.proofs.stores.put_two.Statement.{statement}
+use Rattle.numbers.proofs.stores.put_two.Tie as tie
 
 pub put-two-spec : {M : Type 1} → statement M
 put-two-spec =

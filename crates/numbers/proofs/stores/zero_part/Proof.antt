@@ -8,9 +8,9 @@ use lib.ListN.{length, set, replicate, length-set, length-replicate, getD-replic
 use lib.Seq.{paste, paste-zero, paste-suc}
 use Rattle.laws.proofs.Cells.{paste-all}
 use Rattle.language.specs.Answers.{zeros}
-use Rattle.table.proofs.Stored.{length-zeros}
-use Rattle.table.proofs.stores.zero_part.Statement.{statement}
-use Rattle.table.proofs.stores.zero_part.Tie as tie
+use Rattle.numbers.proofs.Zeros.{length-zeros}
+use Rattle.numbers.proofs.stores.zero_part.Statement.{statement}
+use Rattle.numbers.proofs.stores.zero_part.Tie as tie
 
 -- a store of 0 takes a copy of i zeros to one of i + 1
 zero-more : (t : List ℕ) (a n i : ℕ) → a + i < length t → i < n → set (paste t a (zeros n) i) (a + i) 0 ≡ paste t a (zeros n) (suc i)

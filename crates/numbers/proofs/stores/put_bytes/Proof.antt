@@ -6,8 +6,8 @@ use native.Mathlib.Omega.{arith}
 use lib.ListN.{length, length-set}
 use lib.Seq.{paste, paste-zero, paste-suc}
 use Rattle.laws.proofs.Cells.{paste-all}
-use Rattle.table.proofs.stores.put_bytes.Statement.{statement}
-use Rattle.table.proofs.stores.put_bytes.Tie as tie
+use Rattle.numbers.proofs.stores.put_bytes.Statement.{statement}
+use Rattle.numbers.proofs.stores.put_bytes.Tie as tie
 
 abbrev Inv-loop : tie.InvT-loop
 Inv-loop t₀ k s i₀ t i = (i ≤ length s) × (length t ≡ length t₀) × (t ≡ paste t₀ k s i)

@@ -4,9 +4,9 @@ use mathlib.Core.Path.{_∙_}
 use lib.ListN.{length}
 use Rattle.laws.proofs.Cells.{sets-all}
 use Rattle.language.specs.Answers.{zeros}
-use Rattle.table.proofs.Stored.{length-zeros}
-use Rattle.table.proofs.stores.zero.Statement.{statement}
-use Rattle.table.proofs.stores.zero.Tie as tie
+use Rattle.numbers.proofs.Zeros.{length-zeros}
+use Rattle.numbers.proofs.stores.zero.Statement.{statement}
+use Rattle.numbers.proofs.stores.zero.Tie as tie
 
 pub zero-spec : {M : Type 1} → statement M
 zero-spec =

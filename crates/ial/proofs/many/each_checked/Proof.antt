@@ -1,0 +1,40 @@
+-- `each_checked`: 21 for every argument, or the function prepared once and run.
+use mathlib.Core.Path.{refl}
+use Prim.Native.Nat.{_<_}
+use native.Mathlib.Omega.{arith}
+use lib.ListN.{length}
+use borrow.Author.Needs.{needs}
+use Rattle.language.specs.Table.{functionCount}
+use Rattle.rules.proofs.Accepted.{accepted-length, accepted-fit}
+use Rattle.ial.proofs.EachLaws.{all-missing}
+use Rattle.ial.proofs.many.each_checked.Statement.{statement}
+use Rattle.ial.proofs.many.each_checked.Tie as tie
+
+pub each-checked-spec : {M : Type 1} → statement M
+each-checked-spec =
+    tie.close
+    (tie.spec
+    (λ c κs.
+    let s = c .before .before .before .before in
+    omega (arith, accepted-length (s .args .t .now) (s .pre .0)))
+    (λ c κs. search needs)
+    (λ c κs. search needs)
+    (λ c. search needs)
+    (λ c.
+    let s = c .before .before .before .before .before .before .before .before .before .before .before in
+    all-missing (s .args .t .now) (s .args .function) (s .args .args .now) (s .args .budget) (length (s .args .registers .now)) (omega (arith, c .before .before .before .before .before .before .function-count .ensures .0, c .before .before .before .before .before .if1 .taken)) (c .before .before .before .before .numbers .ensures) (c .before .before .same-each .ensures))
+    (λ c. search needs)
+    (λ c. search needs)
+    (λ c. search needs)
+    (λ c κs.
+    let s = c .before .before .before .before .before .before .before in
+    let l : s .args .function < functionCount (s .args .t .now) = omega (arith, c .before .before .function-count .ensures .0, c .before .if1 .left) in
+    (accepted-fit (s .args .t .now) (s .pre .0) (s .args .function) l, refl))
+    (λ c. search needs)
+    (λ c κs.
+    let s = c .before .before .before .before .before .before .before .before .before .before .before .before in
+    let l : s .args .function < functionCount (s .args .t .now) = omega (arith, c .before .before .before .before .before .before .before .function-count .ensures .0, c .before .before .before .before .before .before .if1 .left) in
+    (s .pre .0, ((l, c .before .before .before .before .prepare .ensures), s .pre .1)))
+    (λ c. search needs)
+    (λ c. search needs)
+    (λ c. c .before .before .before .before .run-all .ensures))
