@@ -1,15 +1,16 @@
 -- What the calls answer, with the store as it is afterwards.
 -- Assumes nothing.
 use mathlib.Core.Bool.{Bool, true, false, cond, _&&_}
-use mathlib.Core.List.{List, [], _∷_, map}
+use mathlib.Core.List.{List, [], map}
 use mathlib.Core.Logic.{_⊎_}
 use mathlib.Core.Path.{_≡_}
-use Prim.Native.Nat.{ℕ, _%_}
+use Prim.Native.Nat.{ℕ, _+_, _*_, _/_, _%_}
 use lib.Dec.{eqb, leb}
-use lib.ListN.{length}
+use lib.ListN.{length, getD}
+use Rattle.laws.specs.Lists.{below}
 use Rattle.language.specs.Checking.{Verdict}
 use Rattle.records.specs.declared.Record.{Record}
-use Rattle.records.specs.Stores.{Found, insert, inserts, lookup, nth, capacity, storeLength, storeCells, Holds, Among, recordsOf}
+use Rattle.records.specs.Stores.{Found, insert, inserts, joined, lookup, nth, capacity, storeLength, storeCells, Holds, Among, recordsOf}
 use Rattle.records.specs.Limits.{Test, limitAnswer, judged}
 
 pub record Merged : Type 0 where
@@ -35,12 +36,12 @@ pub record Harmless (s : List ℕ) (m : Merged) : Type 0 where
   pub size : length (m .store) ≡ length s
   pub either : (m .answer ≡ Verdict.accepted) ⊎ (m ≡ unchanged s 60 0)
 
--- The bytes s have become those of f of the records that they held.
+-- The bytes s have become those of f of the records that they held, or are as they were, with 60.
 pub record Kept (s : List ℕ) (f : List Record → List Record) (m : Merged) : Type 0 where
   pub held : (es : List Record) → Holds s es → m ≡ kept s (f es)
   pub harmless : Harmless s m
 
--- 22 comes last, and is never 60: lent bytes or numbers of another length than the call's.
+-- 22, which is never 60: lent bytes or numbers of another length than the call's.
 abbrev pub Lent : Bool → List ℕ → (Merged → Type 0) → Merged → Type 0
 Lent true s P m = P m
 Lent false s P m = m ≡ unchanged s 22 0
@@ -61,12 +62,17 @@ abbrev pub RecordMerged : List ℕ → ℕ → ℕ → Test → List ℕ → Mer
 RecordMerged t i budget x s = Allowed (limitAnswer t i) s (Lent (eqb (length s) storeLength) s (Kept s (insert (judged t i budget x))))
 
 -- The tests that these numbers say, four each; numbers left over say none.
+abbrev pub testAt : List ℕ → ℕ → Test
+testAt ns j =
+    record {
+      appliance = getD ns (4 * j) 0;
+      time = getD ns (4 * j + 1) 0;
+      tablet = getD ns (4 * j + 2) 0;
+      reading = getD ns (4 * j + 3) 0;
+    }
+
 abbrev pub testsOf : List ℕ → List Test
-testsOf (a ∷ b ∷ c ∷ d ∷ ns) = record { appliance = a; time = b; tablet = c; reading = d } ∷ testsOf ns
-testsOf [] = []
-testsOf (a ∷ []) = []
-testsOf (a ∷ b ∷ []) = []
-testsOf (a ∷ b ∷ c ∷ []) = []
+testsOf ns = map (testAt ns) (below (length ns / 4))
 
 -- Many tests are merged, all or none.
 abbrev pub RecordsMerged : List ℕ → ℕ → ℕ → List ℕ → List ℕ → Merged → Type 0
@@ -74,8 +80,10 @@ RecordsMerged t i budget ns s =
     Allowed (limitAnswer t i) s
     (Lent (eqb (length s) storeLength && eqb (length ns % 4) 0) s (Kept s (inserts (map (judged t i budget) (testsOf ns)))))
 
--- Store u is merged: its records one after the other, all or none.
+-- Store u is merged: its records one after the other, all or none. Of any bytes of the right length it is the records in them, taken in one pass from
+-- the front.
 pub record StoreJoined (u s : List ℕ) (m : Merged) : Type 0 where
+  pub exact : m ≡ kept s (joined (recordsOf s) (recordsOf u))
   pub held : (es fs : List Record) → Holds s es → Holds u fs → m ≡ kept s (inserts fs es)
   pub harmless : Harmless s m
 

@@ -1,7 +1,7 @@
 -- The limit function and the verdict (document 02, A8): "The verdict comes from running one accepted limit function (one `int64` parameter, the
 -- reading; result `uint`) with one step budget, both the same for a whole store."
 -- Assumes nothing.
-use mathlib.Core.Bool.{Bool, true, false, cond, _&&_}
+use mathlib.Core.Bool.{cond, _&&_}
 use mathlib.Core.List.{List, [], _∷_}
 use Prim.Native.Nat.{ℕ}
 use lib.Dec.{eqb, ltb}

@@ -1,7 +1,7 @@
 -- A record and which of two wins (document 02, A8): "For one appliance the later test time wins; then fail over pass; then the lower tablet
 -- number; then the larger reading by meaning."
 -- Assumes nothing.
-use mathlib.Core.Bool.{Bool, true, cond, _&&_}
+use mathlib.Core.Bool.{Bool, cond}
 use Prim.Native.Nat.{ℕ, _<_, _^_}
 use lib.Dec.{eqb, ltb}
 use lib.IntN.{ℤ}
@@ -26,12 +26,12 @@ unfoldable pub lower : (Record → ℕ) → (Record → Record → Bool) → Rec
 lower k next x y = cond (eqb (k x) (k y)) (next x y) (ltb (k x) (k y))
 
 -- The number that a record's reading means.
-unfoldable pub read : Record → ℤ
-read r = meaning int64 (r .reading)
+unfoldable pub meant : Record → ℤ
+meant r = meaning int64 (r .reading)
 
 -- x's reading is the larger by meaning, or the same.
 unfoldable pub larger : Record → Record → Bool
-larger x y = leZ (read y) (read x)
+larger x y = leZ (meant y) (meant x)
 
 -- x wins over y, or they are the same: later time, fail over pass, lower tablet, larger reading.
 unfoldable pub wins : Record → Record → Bool

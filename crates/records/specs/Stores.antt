@@ -1,6 +1,6 @@
 -- A store: of each appliance the winner, by rising appliance numbers; and its bytes. docs/STORE.md states the layout.
 -- Assumes nothing.
-use mathlib.Core.Bool.{Bool, true, false, cond}
+use mathlib.Core.Bool.{cond}
 use mathlib.Core.List.{List, [], _∷_, _++_, foldl, map}
 use mathlib.Core.Logic.{_⊎_}
 use mathlib.Core.Path.{_≡_}
@@ -64,12 +64,7 @@ AllSized (e ∷ es) = Sized e × AllSized es
 abbrev pub capacity : ℕ
 capacity = 1024
 
-abbrev pub recordLength : ℕ
-recordLength = 40
-
-abbrev pub recordsOffset : ℕ
-recordsOffset = 8
-
+-- Eight bytes of the count, and 40 a record.
 abbrev pub storeLength : ℕ
 storeLength = 40968
 

@@ -1,12 +1,12 @@
 -- "for so many at most, any order and grouping of merges gives the same record, and a record merged twice changes nothing. A store, begun empty
 -- and handed on unchanged, answers for an appliance the winner of its accepted records, or none." (document 02, A8)
 -- Assumes nothing.
-use mathlib.Core.Bool.{Bool, true, cond}
-use mathlib.Core.List.{List, [], _∷_}
+use mathlib.Core.Bool.{true}
+use mathlib.Core.List.{List, []}
 use mathlib.Core.Logic.{_⊎_, _↔_}
 use mathlib.Core.Path.{_≡_}
 use Prim.Native.Nat.{ℕ, _≤_}
-use lib.Dec.{T, leb}
+use lib.Dec.{T}
 use lib.ListN.{length}
 use Rattle.laws.specs.Lists.{member}
 use Rattle.records.specs.declared.Record.{Record}
@@ -31,29 +31,6 @@ storeOf Tree.empty = []
 storeOf (Tree.add x t) = insert x (storeOf t)
 storeOf (Tree.join t u) = inserts (storeOf u) (storeOf t)
 
--- A store, or that some merge was refused with 60.
-pub data Held : Type 0 where
-  full : Held
-  held : List Record → Held
-
-abbrev pub ifRoom : List Record → Held
-ifRoom es = cond (leb (length es) capacity) (Held.held es) Held.full
-
-abbrev pub thenAdd : Record → Held → Held
-thenAdd x Held.full = Held.full
-thenAdd x (Held.held es) = ifRoom (insert x es)
-
-abbrev pub thenJoin : Held → Held → Held
-thenJoin Held.full u = Held.full
-thenJoin (Held.held es) Held.full = Held.full
-thenJoin (Held.held es) (Held.held fs) = ifRoom (inserts fs es)
-
--- The merges as grouped, each refused where there is no room.
-abbrev pub merged : Tree → Held
-merged Tree.empty = Held.held []
-merged (Tree.add x t) = thenAdd x (merged t)
-merged (Tree.join t u) = thenJoin (merged t) (merged u)
-
 -- The winner of the records of appliance a: one of them that wins over each, or none where there are none.
 abbrev pub Winner : Tree → ℕ → Found → Type 0
 Winner t a Found.none = (r : Record) → In r t → r .appliance ≡ a → ⊥
@@ -70,13 +47,9 @@ SizedIn t = (r : Record) → In r t → Sized r
 abbrev pub SameRecords : Tree → Tree → Type 0
 SameRecords t u = (r : Record) → In r t ↔ In r u
 
--- "any order and grouping of merges gives the same record": the same store, and refused are either both or none.
-pub record SameMerges (t u : Tree) : Type 0 where
-  pub store : storeOf t ≡ storeOf u
-  pub merges : merged t ≡ merged u
-
+-- "any order and grouping of merges gives the same record": the same store.
 abbrev pub AnyOrder : Type 0
-AnyOrder = (t u : Tree) → SizedIn t → SameRecords t u → SameMerges t u
+AnyOrder = (t u : Tree) → SizedIn t → SameRecords t u → storeOf t ≡ storeOf u
 
 -- "a record merged twice changes nothing"
 abbrev pub MergedTwice : Type 0
@@ -89,10 +62,7 @@ AnswersWinner = (t : Tree) (a : ℕ) → Winner t a (lookup a (storeOf t))
 abbrev pub OneWinner : Type 0
 OneWinner = (t : Tree) (a : ℕ) (x y : Found) → SizedIn t → Winner t a x → Winner t a y → x ≡ y
 
--- 60 exactly if all records together are of more than 1,024 appliances, whatever the grouping; "for so many at most" none is refused.
-abbrev pub RoomExactly : Type 0
-RoomExactly = (t : Tree) → SizedIn t → merged t ≡ ifRoom (storeOf t)
-
+-- "for so many at most" there is room, whatever the grouping.
 abbrev pub RoomForSoMany : Type 0
 RoomForSoMany =
     (t : Tree) (appliances : List ℕ)

@@ -1,0 +1,4 @@
+pub mod Begun
+pub mod Parts
+pub mod Steps
+pub mod Ends

@@ -1,0 +1,13 @@
+pub mod Refusing
+pub mod Newcomers
+pub mod Histories
+pub mod OfCalls
+pub mod Translated
+pub mod Possible
+pub mod KettleFacts
+pub mod Rulings
+pub mod Told
+pub mod Looks
+pub mod Fours
+pub mod Underway
+pub mod Whole
