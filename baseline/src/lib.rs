@@ -8,6 +8,7 @@ mod checker;
 mod lexer;
 mod listing;
 mod machine;
+pub mod merge;
 mod names;
 mod reader;
 pub mod table;

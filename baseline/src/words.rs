@@ -94,6 +94,7 @@ pub fn instruction_spelling(instruction: u8) -> &'static [u8] {
 }
 
 pub const TYPES: u8 = 10;
+pub const INT64: u8 = 3;
 pub const UINT: u8 = 9;
 /// The return type of a void function.
 pub const VOID: u8 = 10;

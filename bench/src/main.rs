@@ -1,7 +1,9 @@
-//! The verified library against the plain Rust implementation: same machine, same input, both built for release, one run. Calls of the
+//! The verified libraries against the plain Rust implementation: same machine, same input, both built for release, one run. Calls of the
 //! two alternate, figures are medians, and time is the processor time of the thread: on the wall a call of milliseconds that is interrupted
 //! counts the other work too, and the longer side is interrupted more often. Every call is lent the table that the last one left: each
 //! `read` clears it itself, and so is timed with it.
+
+mod merging;
 
 #[repr(C)]
 struct Answer {
@@ -209,10 +211,18 @@ fn nanoseconds(work: &mut impl FnMut()) -> f64 {
 /// The medians of so many rounds, each a call of one side and then of the other; the ratio is the median of the rounds' own. Our time is
 /// handed back.
 fn race(name: &str, rounds: usize, mut verified: impl FnMut(), mut plain: impl FnMut()) -> f64 {
+    race_on(name, rounds, &[], |_| verified(), |_| plain())
+}
+
+/// The same for calls that change what they are lent: each begins with these bytes, which are put there before its time begins.
+fn race_on(name: &str, rounds: usize, start: &[u8], mut verified: impl FnMut(&mut [u8]), mut plain: impl FnMut(&mut [u8])) -> f64 {
     let (mut ours, mut theirs, mut ratios) = (vec![], vec![], vec![]);
+    let mut lent = start.to_vec();
     for _ in 0..rounds {
-        let v = nanoseconds(&mut verified);
-        let p = nanoseconds(&mut plain);
+        lent.copy_from_slice(start);
+        let v = nanoseconds(&mut || verified(&mut lent));
+        lent.copy_from_slice(start);
+        let p = nanoseconds(&mut || plain(&mut lent));
         ours.push(v);
         theirs.push(p);
         ratios.push(p / v);
@@ -240,4 +250,5 @@ fn main() {
     println!("lex, a comment of {} bytes: verified {:.0} MB/s", comment.len(), comment.len() as f64 * 1000.0 / (lexed - empty));
     judge_run_translate();
     write_texts(&long);
+    merging::merge_and_join();
 }

@@ -12,7 +12,8 @@
  *     10 to 17  refused: the check; 2048 times the function's number plus the row
  *     20        refused: arguments; how many were given, or the first that does not fit, counted from 0
  *     21        refused: no such function; 0
- *     22        refused: a table output of another length (reading and translating), too few registers (running); 0
+ *     22        refused: a table output of another length (reading and translating), too few registers (running), other than four
+ *               numbers for each argument (running many); 0
  *     30, 31    refused: a translation of a function that is not ssa, or that is too large when translated; 0
  *     32, 33    refused: a text longer than the buffer, or than IAL_TEXT bytes (writing); 0
  *     27        stopped: a row met in a run breaks 9 to 16; 2048 times the function's number plus the row
@@ -41,7 +42,9 @@ extern "C" {
 #define IAL_READ_STACK (160 * 1024)
 #define IAL_READ_SHORT_STACK (704 * 1024) /* ial_read with an output of less than IAL_TABLE bytes */
 #define IAL_CHECK_STACK (16 * 1024)
+#define IAL_SIGNATURE_STACK (16 * 1024)
 #define IAL_RUN_STACK (32 * 1024)
+#define IAL_RUN_EACH_STACK (32 * 1024)
 #define IAL_TRANSLATE_STACK (16 * 1024)
 #define IAL_WRITE_STACK (16 * 1024)
 
@@ -71,6 +74,12 @@ ial_answer ial_read(const uint8_t *text, size_t text_length, uint8_t *table, siz
 /* Checks all of a table: 0, or refuses with 9 to 17. */
 ial_answer ial_check(const uint8_t *table, size_t table_length);
 
+/* Whether a function of the table gives a result of type `result` and takes exactly parameters of `types`, in their order: 1, or 0,
+ * also where there is no such function. Types by their numbers in a table: int8 to int64 0 to 3, uint8 to uint64 4 to 7, int 8, uint 9, and
+ * as a result void 10. Nothing else of the table is checked: call ial_check, without which the answer says little. */
+uint64_t ial_has_signature(const uint8_t *table, size_t table_length, uint64_t function, uint8_t result, const uint8_t *types,
+                           size_t type_count);
+
 /* Checks the table and runs one of its functions on arguments, for at most `budget` steps. `registers` needs as many cells
  * as the function has registers (IAL_REGISTERS always suffices); afterwards it holds them, and 0 in the cells past them.
  * Refuses with 9 to 17, then 21 (no such function), 20 (arguments), 22 (registers too few). Stops with 27, 40 to 43. A run
@@ -78,6 +87,15 @@ ial_answer ial_check(const uint8_t *table, size_t table_length);
  * are numbers below 2^w; a signed type's are two's complement. */
 ial_answer ial_run(const uint8_t *table, size_t table_length, uint64_t function, const uint64_t *arguments,
                    size_t argument_count, uint64_t budget, uint64_t *registers, size_t register_count);
+
+/* Runs one function of a table on each of many arguments, each alone as the one argument of a run of its own, for at most `budget`
+ * steps each. The table is checked once. `output` gets four numbers for each argument, one after the other: the number, place,
+ * value and steps that ial_run answers for it, refusals 9 to 17, 21, 20, 22 and stops among them; so the call itself
+ * answers 0. Refuses with 22 an output of other than four numbers for each argument, which is all zero then. `registers` as for
+ * ial_run; afterwards they are all zero. */
+ial_answer ial_run_each(const uint8_t *table, size_t table_length, uint64_t function, const uint64_t *arguments,
+                        size_t argument_count, uint64_t budget, uint64_t *registers, size_t register_count, uint64_t *output,
+                        size_t output_count);
 
 /* Checks the table and translates one of its functions out of ssa, to a table of that function alone, number 0. Refuses with
  * 9 to 17, then 21, 30 (not ssa), 31 (too large when translated), 22 (an output of another length). */

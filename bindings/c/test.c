@@ -10,8 +10,9 @@
 #include <ucontext.h>
 #include <unistd.h>
 
-static uint8_t text[IAL_TEXT], table[IAL_TABLE], output[IAL_TABLE + 1];
-static uint64_t arguments[3] = {7, 9, 2}, registers[IAL_REGISTERS];
+static uint8_t text[IAL_TEXT], table[IAL_TABLE], halves[IAL_TABLE], output[IAL_TABLE + 1];
+static const uint8_t types[3] = {7, 7, 4};
+static uint64_t arguments[3] = {7, 9, 2}, registers[IAL_REGISTERS], each[12];
 static ial_answer answer;
 
 /* Sixteen functions, each with a loop and the longest number, in a text of the largest size. */
@@ -30,11 +31,21 @@ static void write_text(void) {
     text[n] = ' ';
 }
 
+/* A function of one argument. */
+static const char half[] = "function uint64 half(uint64 a) { register uint64 two; register uint64 h; block entry { two = load.ui64 (2);"
+                           " h = ari.div a, two; return h; } }";
+
 static void read_right(void) { answer = ial_read(text, sizeof text, output, IAL_TABLE); }
 static void read_longer(void) { answer = ial_read(text, sizeof text, output, IAL_TABLE + 1); }
 static void read_shorter(void) { answer = ial_read(text, sizeof text, output, IAL_TABLE - 1); }
 static void check(void) { answer = ial_check(table, IAL_TABLE); }
 static void run(void) { answer = ial_run(table, IAL_TABLE, 15, arguments, 3, 1000, registers, IAL_REGISTERS); }
+static void has_signature(void) { answer.value = ial_has_signature(table, IAL_TABLE, 15, 7, types, 3); }
+static void run_each(void) {
+    answer = ial_run_each(halves, IAL_TABLE, 0, arguments, 3, 1000, registers, IAL_REGISTERS, each, 12);
+    answer.value = each[2] * 10000 + each[6] * 100 + each[10];
+    answer.steps = each[3] + each[7] + each[11];
+}
 static void translate(void) { answer = ial_translate(table, IAL_TABLE, 15, output, IAL_TABLE); }
 static void write_long(void) { answer = ial_write(table, IAL_TABLE, output, IAL_TEXT); }
 static void write_short(void) { answer = ial_write(table, IAL_TABLE, output, 100); }
@@ -53,10 +64,14 @@ static const struct entry {
     {"ial_read, output shorter", read_shorter, IAL_READ_SHORT_STACK, 22, 0, 0},
     {"ial_check", check, IAL_CHECK_STACK, 0, 0, 0},
     {"ial_run", run, IAL_RUN_STACK, 0, 7, 24},
+    {"ial_run_each", run_each, IAL_RUN_EACH_STACK, 0, 30401, 9},
     {"ial_translate", translate, IAL_TRANSLATE_STACK, 0, 0, 0},
     {"ial_write", write_long, IAL_WRITE_STACK, 0, WRITTEN, 0},
     {"ial_write, buffer short", write_short, IAL_WRITE_STACK, 32, 0, 0},
 };
+
+/* It needs so little that a quarter suffices as well. */
+static const struct entry small = {"ial_has_signature", has_signature, IAL_SIGNATURE_STACK, 0, 1, 0};
 
 static ucontext_t here, there;
 
@@ -85,7 +100,9 @@ static int status_on(const struct entry *e, size_t stack) {
 
 /* The stated stack suffices, and a quarter of it does not: so the number says something. */
 static int stacks(void) {
-    int wrong = 0;
+    int wrong = status_on(&small, small.stack) != 0;
+    if (wrong)
+        printf("%s on %zu bytes of stack\n", small.name, small.stack);
     for (size_t i = 0; i < sizeof entries / sizeof *entries; i++) {
         const struct entry *e = entries + i;
         int enough = status_on(e, e->stack), short_of = status_on(e, e->stack / 4);
@@ -114,8 +131,13 @@ static int nulls(void) {
     wrong |= is("no output", ial_read(f, 8, NULL, 0), 3, 8);
     wrong |= is("no table", ial_check(NULL, 0), 9, 0);
     wrong |= is("no table to run", ial_run(NULL, 0, 0, NULL, 0, 0, NULL, 0), 9, 0);
+    wrong |= is("no table to run on each", ial_run_each(NULL, 0, 0, arguments, 3, 0, NULL, 0, each, 12), 0, 0) | (each[4] != 9);
+    wrong |= is("no arguments to run on", ial_run_each(NULL, 0, 0, NULL, 0, 0, NULL, 0, NULL, 0), 0, 0);
+    wrong |= is("no room for numbers", ial_run_each(halves, IAL_TABLE, 0, arguments, 3, 0, NULL, 0, NULL, 0), 22, 0);
+    wrong |= ial_has_signature(NULL, 0, 0, 10, NULL, 0) != 0;
     wrong |= is("no table to translate", ial_translate(NULL, 0, 0, NULL, 0), 9, 0);
     wrong |= is("a text with no register", ial_read(f, sizeof nothing - 1, other, IAL_TABLE), 0, 0);
+    wrong |= ial_has_signature(other, IAL_TABLE, 0, 10, NULL, 0) != 1;
     wrong |= is("no arguments, no registers", ial_run(other, IAL_TABLE, 0, NULL, 0, 10, NULL, 0), 0, 0);
     wrong |= is("too few arguments", ial_run(table, IAL_TABLE, 0, NULL, 0, 10, NULL, 0), 20, 0);
     wrong |= is("too few registers", ial_run(table, IAL_TABLE, 0, arguments, 3, 10, NULL, 0), 22, 0);
@@ -129,7 +151,8 @@ static int nulls(void) {
 
 int main(void) {
     write_text();
-    if (is("the text", ial_read(text, sizeof text, table, IAL_TABLE), 0, 0))
+    if (is("the text", ial_read(text, sizeof text, table, IAL_TABLE), 0, 0)
+        || is("half", ial_read((const uint8_t *)half, sizeof half - 1, halves, IAL_TABLE), 0, 0))
         return 1;
     return stacks() | nulls();
 }

@@ -15,6 +15,18 @@ mod c {
         pub fn ial_read(text: *const u8, n: usize, out: *mut u8, m: usize) -> Answer;
         pub fn ial_check(table: *const u8, n: usize) -> Answer;
         pub fn ial_run(t: *const u8, n: usize, f: u64, args: *const u64, k: usize, budget: u64, g: *mut u64, m: usize) -> Answer;
+        pub fn ial_run_each(
+            t: *const u8,
+            n: usize,
+            f: u64,
+            args: *const u64,
+            k: usize,
+            budget: u64,
+            g: *mut u64,
+            m: usize,
+            out: *mut u64,
+            j: usize,
+        ) -> Answer;
         pub fn ial_translate(table: *const u8, n: usize, f: u64, out: *mut u8, m: usize) -> Answer;
         pub fn ial_write(table: *const u8, n: usize, out: *mut u8, m: usize) -> Answer;
     }
@@ -58,6 +70,21 @@ pub fn run(table: &[u8], f: u64, args: &[u64], budget: u64, g: &mut [u64], h: &m
     });
     let b = ial_baseline::run(table, f, args, budget, h).into();
     agree("run", (a, g), (b, h))
+}
+
+/// Runs on each argument alone, against the plain implementation's runs one after the other; the registers are zeroed.
+pub fn run_each(table: &[u8], f: u64, args: &[u64], budget: u64, g: &mut [u64]) -> Result<Answer, String> {
+    let mut plain = Vec::new();
+    for a in args {
+        let b: Answer = ial_baseline::run(table, f, &[*a], budget, &mut g.to_vec()).into();
+        plain.extend([b.number, b.place, b.value, b.steps]);
+    }
+    let mut out = vec![7; plain.len()];
+    let a = answer(unsafe {
+        c::ial_run_each(table.as_ptr(), table.len(), f, args.as_ptr(), args.len(), budget, g.as_mut_ptr(), g.len(), out.as_mut_ptr(), out.len())
+    });
+    agree("run each", (a, &*out), (Answer::default(), &*plain))?;
+    agree("run each", (a, &*g), (a, &*vec![0; g.len()]))
 }
 
 pub fn translate(table: &[u8], f: u64, out: &mut [u8], other: &mut [u8]) -> Result<Answer, String> {

@@ -1,8 +1,11 @@
-//! A differential test: the verified library against the plain implementation on generated inputs. Every answer and every lent
-//! cell must agree. `ial-differential [ROUNDS [FIRST]]`; a failure prints the round, and ROUNDS 1 FIRST that number repeats it.
+//! A differential test: the verified libraries against the plain implementation on generated inputs. Every answer and every lent
+//! cell must agree; of stores that no merge left, only that they get an answer and are not harmed by a refusal.
+//! `ial-differential [ROUNDS [FIRST]]`; a failure prints the round, and ROUNDS 1 FIRST that number repeats it.
 
+mod histories;
 mod library;
 mod rng;
+mod stores;
 mod texts;
 mod writings;
 
@@ -47,6 +50,8 @@ impl Bench {
             let budget = if rng.once_in(2) { 2_000 } else { rng.below(40) as u64 };
             let a = library::run(table, f, &args, budget, &mut g.clone(), &mut g)?;
             self.count(a);
+            let many: Vec<u64> = (0..rng.below(5)).map(|_| if rng.once_in(4) { rng.number() } else { rng.number() & params.first().copied().unwrap_or(u64::MAX) }).collect();
+            library::run_each(table, f, &many, budget, &mut g)?;
         }
         Ok(())
     }
@@ -95,6 +100,9 @@ impl Bench {
             }
         }
         (self.one, self.two) = (one, two);
+        if rng.once_in(8) {
+            histories::history(rng, &mut self.seen).map_err(|what| format!("merge: {what}"))?;
+        }
         Ok(())
     }
 }

@@ -10,8 +10,8 @@
 //! # Ok::<(), ial::Refused>(())
 //! ```
 //!
-//! A call needs free stack, since the library has no heap: [`READ_STACK`], [`CHECK_STACK`], [`RUN_STACK`], [`TRANSLATE_STACK`] and
-//! [`WRITE_STACK`] say how much. Give a thread that calls it some KiB more for itself: `std::thread::Builder::new().stack_size(ial::READ_STACK + 16 * 1024)`.
+//! A call needs free stack, since the library has no heap: [`READ_STACK`], [`CHECK_STACK`], [`SIGNATURE_STACK`], [`RUN_STACK`], [`RUN_EACH_STACK`],
+//! [`TRANSLATE_STACK`] and [`WRITE_STACK`] say how much. Give a thread that calls it some KiB more for itself: `std::thread::Builder::new().stack_size(ial::READ_STACK + 16 * 1024)`.
 
 mod refused;
 
@@ -26,15 +26,21 @@ pub const REGISTERS: usize = 256;
 /// The most bytes of a text.
 pub const TEXT: usize = 65_536;
 
-/// The bytes of stack that must be free when [`Table::read`] is called, for any text. This and the next four are those of the
+/// The bytes of stack that must be free when [`Table::read`] is called, for any text. This and the next six are those of the
 /// compiled library, with at least 8 KiB to spare, in whole 16 KiB; a call with less crashes at the end of the stack.
 pub const READ_STACK: usize = 160 * 1024;
 
 /// The same for [`Table::check`], and for [`Table::from_cells`] with another length.
 pub const CHECK_STACK: usize = 16 * 1024;
 
+/// The same for [`Table::has_signature`].
+pub const SIGNATURE_STACK: usize = 16 * 1024;
+
 /// The same for [`Table::run`].
 pub const RUN_STACK: usize = 32 * 1024;
+
+/// The same for [`Table::run_each`].
+pub const RUN_EACH_STACK: usize = 32 * 1024;
 
 /// The same for [`Table::translate`].
 pub const TRANSLATE_STACK: usize = 16 * 1024;
@@ -53,6 +59,14 @@ struct Answer {
 extern "C" {
     fn ial_read(text: *const u8, text_length: usize, table: *mut u8, table_length: usize) -> Answer;
     fn ial_check(table: *const u8, table_length: usize) -> Answer;
+    fn ial_has_signature(
+        table: *const u8,
+        table_length: usize,
+        function: u64,
+        result: u8,
+        types: *const u8,
+        type_count: usize,
+    ) -> u64;
     fn ial_run(
         table: *const u8,
         table_length: usize,
@@ -62,6 +76,18 @@ extern "C" {
         budget: u64,
         registers: *mut u64,
         register_count: usize,
+    ) -> Answer;
+    fn ial_run_each(
+        table: *const u8,
+        table_length: usize,
+        function: u64,
+        arguments: *const u64,
+        argument_count: usize,
+        budget: u64,
+        registers: *mut u64,
+        register_count: usize,
+        output: *mut u64,
+        output_count: usize,
     ) -> Answer;
     fn ial_translate(table: *const u8, table_length: usize, function: u64, output: *mut u8, output_length: usize) -> Answer;
     fn ial_write(table: *const u8, table_length: usize, buffer: *mut u8, buffer_length: usize) -> Answer;
@@ -74,6 +100,16 @@ impl Answer {
             return Ok(self.value);
         }
         Err(Refused { number: self.number, place: self.place })
+    }
+
+    /// How a run ended, if it was not refused.
+    fn ended(self) -> Result<Outcome, Refused> {
+        let end = match self.number {
+            0 => End::Ended(self.value),
+            27 | 40..=43 => End::Stopped { number: self.number, place: self.place },
+            number => return Err(Refused { number, place: self.place }),
+        };
+        Ok(Outcome { end, steps: self.steps })
     }
 }
 
@@ -90,6 +126,13 @@ pub enum End {
     Ended(u64),
     /// By a stop of document 01: 27, 40 to 42, or 43 for a budget used up. The place is 2,048 times the function plus the row.
     Stopped { number: u64, place: u64 },
+}
+
+/// How one run of many ended, and after how many steps.
+#[derive(Clone, Copy, Debug, PartialEq, Eq)]
+pub struct Outcome {
+    pub end: End,
+    pub steps: u64,
 }
 
 /// A run: how it ended, after how many steps, and what its registers held then.
@@ -127,6 +170,13 @@ impl Table {
         unsafe { ial_check(self.cells.as_ptr(), self.cells.len()) }.done().map(|_| ())
     }
 
+    /// Whether a function gives a result of this type and takes exactly parameters of these, by the types' numbers in a table: `int8` to `int64` 0
+    /// to 3, `uint8` to `uint64` 4 to 7, `int` 8, `uint` 9, and as a result `void` 10. Nothing else is checked: without [`Table::check`] the
+    /// answer says little.
+    pub fn has_signature(&self, function: u64, result: u8, types: &[u8]) -> bool {
+        unsafe { ial_has_signature(self.cells.as_ptr(), self.cells.len(), function, result, types.as_ptr(), types.len()) == 1 }
+    }
+
     /// Checks the table and runs a function on arguments, for at most `budget` steps. Arguments and values are below 2^w, those of
     /// signed types in two's complement.
     pub fn run(&self, function: u64, arguments: &[u64], budget: u64) -> Result<Run, Refused> {
@@ -143,12 +193,31 @@ impl Table {
                 registers.len(),
             )
         };
-        let end = match answer.number {
-            0 => End::Ended(answer.value),
-            27 | 40..=43 => End::Stopped { number: answer.number, place: answer.place },
-            number => return Err(Refused { number, place: answer.place }),
+        let Outcome { end, steps } = answer.ended()?;
+        Ok(Run { end, steps, registers })
+    }
+
+    /// Checks the table once and runs a function on each argument alone, for at most `budget` steps each: what [`Table::run`] answers for
+    /// `&[argument]`, without the registers.
+    pub fn run_each(&self, function: u64, arguments: &[u64], budget: u64) -> Vec<Result<Outcome, Refused>> {
+        let mut registers = Box::new([0; REGISTERS]);
+        let mut output = vec![0; 4 * arguments.len()];
+        // There are four numbers for each argument, so that the call itself is not refused.
+        unsafe {
+            ial_run_each(
+                self.cells.as_ptr(),
+                self.cells.len(),
+                function,
+                arguments.as_ptr(),
+                arguments.len(),
+                budget,
+                registers.as_mut_ptr(),
+                registers.len(),
+                output.as_mut_ptr(),
+                output.len(),
+            )
         };
-        Ok(Run { end, steps: answer.steps, registers })
+        output.chunks_exact(4).map(|n| Answer { number: n[0], place: n[1], value: n[2], steps: n[3] }.ended()).collect()
     }
 
     /// Checks the table and translates a function out of ssa: a table of that function alone, number 0.
@@ -197,6 +266,8 @@ mod tests {
             assert_eq!(numbers(ial_read(null(), 0, cells.as_mut_ptr(), cells.len())), [0; 4]);
             assert_eq!(numbers(ial_read(null(), 0, null_mut(), 0)), [22, 0, 0, 0]);
             assert_eq!(numbers(ial_check(null(), 0)), [9, 0, 0, 0]);
+            assert_eq!(ial_has_signature(null(), 0, 0, 0, null(), 0), 0);
+            assert_eq!(numbers(ial_run_each(null(), 0, 0, null(), 0, 0, null_mut(), 0, null_mut(), 0)), [0; 4]);
             assert_eq!(numbers(ial_write(null(), 0, null_mut(), 0)), [9, 0, 0, 0]);
             assert_eq!(numbers(ial_write(cells.as_ptr(), cells.len(), null_mut(), 0)), [0; 4]);
         }

@@ -1,7 +1,7 @@
 //! The interface over the library, on the paper's `turn` and on what it refuses. What the answers are is proved; what is tested
 //! here is that they arrive.
 
-use ial::{End, Refused, Table, REGISTERS, TABLE, TEXT};
+use ial::{End, Outcome, Refused, Table, REGISTERS, TABLE, TEXT};
 
 fn turn() -> Table {
     Table::read(include_bytes!("../../../examples/turn.ial")).unwrap()
@@ -21,6 +21,36 @@ fn reads_checks_runs_and_translates() {
         let run = translation.run(0, &[7, 9, n], u64::MAX).unwrap();
         assert_eq!((run.end, run.steps), (End::Ended(value), translated));
     }
+}
+
+#[test]
+fn signatures_are_told_apart() {
+    let table = turn();
+    assert!(table.has_signature(0, 7, &[7, 7, 4]));
+    assert!(!table.has_signature(0, 9, &[7, 7, 4]));
+    assert!(!table.has_signature(0, 7, &[7, 7]));
+    assert!(!table.has_signature(0, 7, &[7, 7, 4, 7]));
+    assert!(!table.has_signature(0, 7, &[7, 4, 7]));
+    assert!(!table.has_signature(1, 7, &[7, 7, 4]));
+    assert!(!Table::from_cells(&[255; TABLE]).unwrap().has_signature(0, 255, &[255; TABLE]));
+}
+
+#[test]
+fn many_runs_are_runs_of_each() {
+    let text = b"function uint8 share(uint8 a) { register uint8 c; register uint8 d; block entry { c = load.ui8 (100); d = ari.div c, a; return d; } }";
+    let table = Table::read(text).unwrap();
+    let arguments = [3, 0, 256, 100, u64::MAX, 7];
+    for (function, budget) in [(0, 3), (0, 2), (1, 3)] {
+        let each = table.run_each(function, &arguments, budget);
+        assert_eq!(each.len(), arguments.len());
+        for (argument, answer) in arguments.iter().zip(each) {
+            assert_eq!(answer, table.run(function, &[*argument], budget).map(|r| Outcome { end: r.end, steps: r.steps }));
+        }
+    }
+    assert_eq!(table.run_each(0, &arguments, 3)[5], Ok(Outcome { end: End::Ended(14), steps: 3 }));
+    assert_eq!(turn().run_each(0, &[7, 9], 100), [Err(Refused { number: 20, place: 1 }); 2]);
+    assert_eq!(Table::from_cells(&[255; TABLE]).unwrap().run_each(0, &[1], 1), [Err(Refused { number: 9, place: 0 })]);
+    assert_eq!(table.run_each(0, &[], 1), []);
 }
 
 #[test]

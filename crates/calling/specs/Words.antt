@@ -5,6 +5,8 @@ use Prim.Native.Nat.{ℕ}
 use lib.Dec.{eqb, ltb}
 use Rattle.laws.specs.Lists.{same, position}
 use Rattle.language.specs.Programs.{Program}
+use Rattle.language.specs.Answers.{ifAccepted, checkAnswer}
+use Rattle.language.specs.Table.{decode}
 use Rattle.decimal.specs.Meanings.{bitsIn}
 use Rattle.decimal.specs.Numbers.{numberOf}
 use Rattle.decimal.specs.declared.words.Decimal.{Decimal}
@@ -32,6 +34,10 @@ numberOr (decimals.Beyond s) k = cond s k most
 
 unfoldable pub functionNumber : Program → List ℕ → ℕ
 functionNumber p word = numberOr (numberOf word) (functionNamed p word)
+
+-- The same in a table: one that the check refuses has none, and 0 stands for it.
+unfoldable pub functionMeant : (t word : List ℕ) → ℕ
+functionMeant t word = ifAccepted (checkAnswer t) (λ n p. 0) (functionNumber (decode t) word)
 
 -- ---- a budget
 

@@ -14,4 +14,5 @@ pub use runs::run_text;
 pub use texts::write_text;
 pub use translations::translate_text;
 pub use words::Budget;
+pub use words::function_in;
 pub use words::read_budget;

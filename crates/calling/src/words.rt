@@ -3,9 +3,11 @@ ghost use mathlib.Core.Path.{_≡_};
 ghost use Rattle.language.specs.Checking.{Verdict as Verdictᴸ};
 ghost use Rattle.language.specs.Table.{decode};
 ghost use Rattle.language.specs.Answers.{checkAnswer};
-ghost use Rattle.calling.specs.Words.{functionNamed, functionNumber, numberOr, budgetFrom, budgetOf};
+ghost use Rattle.calling.specs.Words.{functionNamed, functionNumber, functionMeant, numberOr, budgetFrom, budgetOf};
 use decimal::Decimal;
 use decimal::read_decimal;
+use ial::Verdict;
+use ial::check;
 use table::find_name;
 use table::function_count;
 
@@ -48,6 +50,16 @@ pub fn function_number(t: &[u8], word: &[u8]) -> u64
     ensures { λ r. ⌜ r ≡ functionNumber (decode (now (t .entry))) (now (word .entry)) ⌝ }
 {
     number_or(read_decimal(word), function_named(t, word))
+}
+
+// The same in any table: one that its check refuses has none, and 0 stands for it.
+pub fn function_in(t: &[u8], word: &[u8]) -> u64
+    ensures { λ r. ⌜ r ≡ functionMeant (now (t .entry)) (now (word .entry)) ⌝ }
+{
+    match check(t) {
+        Verdict::Refused(_, _) => 0,
+        Verdict::Accepted => function_number(t, word),
+    }
 }
 
 // A budget of any size is one, and -0 is 0.

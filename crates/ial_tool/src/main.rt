@@ -13,11 +13,11 @@ use calling::run_text;
 use calling::translate_text;
 use calling::write_text;
 use files::answer;
-use files::load;
+use files::load_text;
 use files::say_argument;
 use files::say_budget;
 use files::say_wrong;
-use files::upto;
+use loading::upto;
 use table::same;
 
 // Room for the lines of 16 functions.
@@ -41,7 +41,7 @@ const KEPT: usize = 256;
 // `list FILE`: the listing of document 01.
 fn list(path: &[u8]) {
     let mut text = [0u8; TEXT];
-    let n = load(path, &mut text);
+    let n = load_text(path, &mut text);
     if TEXT < n {
         return;
     }
@@ -53,7 +53,7 @@ fn list(path: &[u8]) {
 // `write FILE`: its functions, each line as the writer puts it.
 fn write(path: &[u8]) {
     let mut text = [0u8; TEXT];
-    let n = load(path, &mut text);
+    let n = load_text(path, &mut text);
     if TEXT < n {
         return;
     }
@@ -65,7 +65,7 @@ fn write(path: &[u8]) {
 // `translate FILE FUNCTION`: the text of the translation.
 fn translate(path: &[u8], word: &[u8]) {
     let mut text = [0u8; TEXT];
-    let n = load(path, &mut text);
+    let n = load_text(path, &mut text);
     if TEXT < n {
         return;
     }
@@ -108,7 +108,7 @@ fn run(path: &[u8], word: &[u8], budget: u64, words: usize)
         return;
     }
     let mut text = [0u8; TEXT];
-    let n = load(path, &mut text);
+    let n = load_text(path, &mut text);
     if TEXT < n {
         return;
     }

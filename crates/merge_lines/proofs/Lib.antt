@@ -1,0 +1,3 @@
+pub mod Telling
+pub mod Showing
+pub mod Examples

@@ -1,0 +1,64 @@
+// Whether bytes are a store's: what a program asks of a file before it believes it.
+ghost use Prim.Native.Nat.{_+_, _*_, _≤_};
+ghost use lib.ListN.{length};
+ghost use Rattle.records.specs.Records.{Sized};
+ghost use Rattle.stored.specs.Known.{Tells, Follows, AllFollow, IsStore};
+use check::same;
+use joining::join;
+use records::Record;
+use store::appliance_at;
+use store::count;
+use store::record_at;
+
+const STORE: usize = 40968;
+
+// A record's verdict is a pass or a fail.
+fn is_record(r: Record) -> bool
+    ensures { λ b. ⌜ Tells b (Sized r) ⌝ }
+{
+    r.fail < 2
+}
+
+// Record i is one, and its appliance number is greater than that of the record before.
+fn follows(s: &[u8], i: usize) -> bool
+    requires { ⌜ 48 + 40 * i ≤ length (now s) ⌝ }
+    ensures { λ b. ⌜ Tells b (Follows (now (s .entry)) i) ⌝ }
+{
+    if !is_record(record_at(s, i)) {
+        return false;
+    }
+    if i == 0 {
+        return true;
+    }
+    appliance_at(s, i - 1) < appliance_at(s, i)
+}
+
+// The first n do.
+fn all_follow(s: &[u8], n: usize) -> bool
+    requires { ⌜ 8 + 40 * n ≤ length (now s) ⌝ }
+    ensures { λ b. ⌜ Tells b (AllFollow (now (s .entry)) n) ⌝ }
+{
+    let mut i = 0;
+    while i < n {
+        if !follows(s, i) {
+            return false;
+        }
+        i += 1;
+    }
+    true
+}
+
+// The bytes hold some records: their records rise, and merged into an empty store they are these bytes again.
+pub fn is_store(s: &[u8]) -> bool
+    ensures { λ b. ⌜ Tells b (IsStore (now (s .entry))) ⌝ }
+{
+    if s.len() != STORE {
+        return false;
+    }
+    if !all_follow(s, count(s)) {
+        return false;
+    }
+    let mut again = [0u8; STORE];
+    join(&mut again, s);
+    same(&again, s)
+}
