@@ -18,7 +18,7 @@ use Rattle.records.specs.declared.Record.{Record}
 use Rattle.merge_lines.specs.declared.told.Line.{Line}
 use Rattle.merge_lines.specs.declared.told.Line.the-variants as lines
 
--- ---- A line that is told: "records are lines of four decimal numbers parted by tabs" (document 02, A8: appliance, time and tablet are "each below
+-- ---- A line that is told: records are lines of four decimal numbers parted by tabs (document 02, A8: appliance, time and tablet are "each below
 -- 2^64", the reading is an `int64` by meaning). A number's form is that of the tool's other words: a minus may stand before the digits, leading
 -- zeros are free, `-0` is 0.
 

@@ -1,4 +1,4 @@
-// A line as it is told: "records are lines of four decimal numbers parted by tabs".
+// A line as it is told: records are lines of four decimal numbers parted by tabs.
 ghost use mathlib.Core.Path.{_≡_};
 ghost use Prim.Native.Nat.{_≤_};
 ghost use lib.Dec.{eqb};

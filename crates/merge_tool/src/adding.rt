@@ -143,7 +143,7 @@ fn take_bytes(
     q
 }
 
-// The end of the file: "a last LF ends the last line and begins none".
+// The end of the file: a last LF ends the last line and begins none.
 fn take_end(p: Progress, line: &[u8], numbers: &mut [u64], path: &[u8]) -> Progress {
     let mut q = p;
     q.state = ENDED;

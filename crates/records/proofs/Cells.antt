@@ -125,7 +125,7 @@ stored-holds es r s l = record { rising = r; sized = s; room = l; bytes = refl }
 pub empty-holds : Holds (storeCells []) []
 empty-holds = stored-holds [] tt tt (omega arith)
 
--- "An empty store is all zero."
+-- An empty store is all zero.
 zeros-padded : (n : ℕ) → 8 ≤ n → zeros n ≡ pad n (front [])
 unfolding zeros
 zeros-padded n h =
