@@ -15,7 +15,7 @@ use Rattle.language.specs.Answers.{Filled, ifAccepted, fill, refusedTable, chec
 use Rattle.theorems.specs.TableLaw.{Held}
 use Rattle.theorems.proofs.Acceptance.{accepted-translation}
 use Rattle.theorems.proofs.TableSound.{accepted-held}
-use Rattle.theorems.proofs.OverTables.{accepted-program}
+use Rattle.theorems.proofs.AcceptanceCheck.{accepted-program}
 use Rattle.checker.specs.declared.Verdict.{Verdict as Verdictᶜ}
 use Rattle.checker.specs.declared.Verdict.the-variants as verdicts
 use Rattle.ial.specs.Verdicts.{filledOf}

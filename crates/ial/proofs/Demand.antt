@@ -10,11 +10,12 @@ use Rattle.language.specs.Table.{tableLength}
 use Rattle.theorems.specs.OverTables.{functionInTable, Translated}
 use Rattle.theorems.proofs.NoRefusal.{checked-is-0, translated-is-0}
 use Rattle.theorems.proofs.StopNumbers.{answered-is-43}
+use Rattle.theorems.proofs.Never27.{never-27}
 use Rattle.theorems.proofs.OverTables.{demand3-over-tables, runs-over-tables, Tells, runs-told}
 use Rattle.checker.specs.declared.Verdict.the-variants as verdicts
 use Rattle.ial.specs.Verdicts.{filledOf}
 use Rattle.ial.proofs.Known.{verdict-known}
-use Rattle.ial.specs.Demand.{Demand3OfCalls, Demand3OfSymbols, SymbolChecked, CallTranslated, SymbolTranslated, Call43, Symbol43}
+use Rattle.ial.specs.Demand.{Demand3OfCalls, Demand3OfSymbols, SymbolChecked, CallTranslated, SymbolTranslated, Call43, Symbol43, CallNever27, SymbolNever27}
 
 pub demand3-of-calls : Demand3OfCalls
 demand3-of-calls t i r out h e =
@@ -81,3 +82,11 @@ pub symbol-43 : Symbol43
 symbol-43 t i args b c x g u n =
     let d = answered-is-43 t i args b c (sym (ap (λ (a : Answer). a .number) (u .0)) ∙ n) in
     (d .0, ap (λ (a : Answer). a .steps) (u .0) ∙ d .1)
+
+-- ---- 27
+
+pub call-never-27 : CallNever27
+call-never-27 t i args b c x g u e = never-27 t i args b c (sym (ap (λ (z : Finished). ranNumbers (z .answer) .number) u) ∙ e)
+
+pub symbol-never-27 : SymbolNever27
+symbol-never-27 t i args b c x g u e = never-27 t i args b c (sym (ap (λ (a : Answer). a .number) (u .0)) ∙ e)

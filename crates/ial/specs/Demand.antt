@@ -91,3 +91,16 @@ Symbol43 =
     → RunLinked t i args b c x g
     → x .number ≡ 43
     → NotEnded (functionInTable t i) args b × (x .steps ≡ b)
+
+-- Document 02, A10: "Show that 27 can't be given for any input": of `run`, and of `ial_run`.
+abbrev pub CallNever27 : Type 0
+CallNever27 =
+    (t : List ℕ) (i : ℕ) (args : List ℕ) (b c : ℕ) (x : Ran) (g : List ℕ)
+    → RunCalled t i args b c x g
+    → ¬ (ranNumbers (ranOf x) .number ≡ 27)
+
+abbrev pub SymbolNever27 : Type 0
+SymbolNever27 =
+    (t : List ℕ) (i : ℕ) (args : List ℕ) (b c : ℕ) (x : Answer) (g : List ℕ)
+    → RunLinked t i args b c x g
+    → ¬ (x .number ≡ 27)

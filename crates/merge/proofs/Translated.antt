@@ -21,10 +21,10 @@ use Rattle.language.specs.Answers.{Ran, Filled, ifAccepted, verdictNumbers, che
 use Rattle.language.specs.Translating.{translation, stepFormula}
 use Rattle.theorems.specs.Statements.{ranWith}
 use Rattle.theorems.specs.OverTables.{functionInTable, TranslatableIn, Translated}
-use Rattle.theorems.proofs.AcceptanceCheck.{Sound, sound-parts, tested, clean-of-check}
+use Rattle.theorems.proofs.AcceptanceCheck.{Sound, sound-parts, tested, clean-of-check, accepted-program}
 use Rattle.theorems.proofs.Budgets.{budget-agrees}
 use Rattle.theorems.proofs.NoRefusal.{translated-is-0}
-use Rattle.theorems.proofs.OverTables.{accepted-program, demand3-over-tables, run-answer, runs-over-tables}
+use Rattle.theorems.proofs.OverTables.{demand3-over-tables, run-answer, runs-over-tables}
 use Rattle.records.specs.declared.Record.{Record}
 use Rattle.records.specs.Stores.{insert, inserts, storeLength}
 use Rattle.records.specs.Limits.{Test, limitAnswer, failOf, judged}

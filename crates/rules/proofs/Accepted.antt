@@ -1,28 +1,24 @@
 -- What a table that passes its check whole gives of each of its functions: what runs, translations and texts ask for.
 -- Assumes nothing.
-use mathlib.Core.Path.{_≡_, sym, ap, subst, subst⁻¹, _∙_}
-use mathlib.Core.Bool.{Bool, true, and-eq-true-iff}
+use mathlib.Core.Path.{_≡_, subst, subst⁻¹}
+use mathlib.Core.Bool.{true, and-eq-true-iff}
 use mathlib.Core.List.{List, []}
-use Prim.Native.Nat.{ℕ, _+_, _*_, _≤_, _<_}
+use Prim.Native.Nat.{ℕ, _+_, _≤_, _<_}
 use native.Mathlib.Omega.{arith}
-use lib.Dec.{T, eqb, leb, eqb→eq, leb→le}
+use lib.Dec.{eqb, leb, eqb→eq, leb→le}
 use lib.Ieee.Bits.{is-true}
-use lib.ListN.{length, getD}
-use Rattle.language.specs.Programs.{Func, noFunction, maxFunctions}
+use lib.ListN.{length}
+use Rattle.language.specs.Programs.{maxFunctions}
 use Rattle.language.specs.Table.{tableLength, functionLength, functionAt, functionCount, functionParams, registerCount, blocksPlaced, phisPlaced, decode, decodeFunction}
 use Rattle.language.specs.Checking.{Verdict, check, judgeFrom}
 use Rattle.language.specs.Answers.{checkAnswer}
 use Rattle.theorems.specs.Clean.{Clean}
-use Rattle.theorems.proofs.AcceptanceCheck.{Sound, sound-parts, tested, clean-of-check}
+use Rattle.theorems.proofs.AcceptanceCheck.{Sound, sound-parts, tested, clean-of-check, accepted-program}
 use Rattle.theorems.proofs.TableView.{function-count, function-is, register-count, block-count, rows-count, sequence-entries}
 use Rattle.rules.specs.Prepared.{Sized}
 use Rattle.rules.specs.Preparing.{Fit}
 
 module _ (t : List ℕ) (e : checkAnswer t ≡ Verdict.accepted) where
-  pub accepted-program : check (decode t) ≡ Verdict.accepted
-  unfolding checkAnswer
-  accepted-program = tested (eqb (length t) tableLength) (check (decode t)) 9 0 e .1
-
   pub accepted-length : length t ≡ tableLength
   unfolding checkAnswer
   accepted-length = eqb→eq (length t) tableLength (tested (eqb (length t) tableLength) (check (decode t)) 9 0 e .0)
@@ -30,7 +26,7 @@ module _ (t : List ℕ) (e : checkAnswer t ≡ Verdict.accepted) where
   pub accepted-count : functionCount t ≤ 16
   unfolding check
   accepted-count =
-      omega (arith, function-count t, leb→le (length (decode t)) maxFunctions (tested (leb (length (decode t)) maxFunctions) (judgeFrom [] 0 (decode t)) 9 0 accepted-program .0))
+      omega (arith, function-count t, leb→le (length (decode t)) maxFunctions (tested (leb (length (decode t)) maxFunctions) (judgeFrom [] 0 (decode t)) 9 0 (accepted-program t e) .0))
 
   module _ (i : ℕ) (l : i < functionCount t) where
     abbrev a : ℕ
@@ -38,7 +34,7 @@ module _ (t : List ℕ) (e : checkAnswer t ≡ Verdict.accepted) where
 
     pub accepted-clean : Clean (decodeFunction t (functionAt i))
     accepted-clean =
-        subst Clean (function-is t i l) (clean-of-check (decode t) i accepted-program (subst⁻¹ (λ (n : ℕ). i < n) (function-count t) l))
+        subst Clean (function-is t i l) (clean-of-check (decode t) i (accepted-program t e) (subst⁻¹ (λ (n : ℕ). i < n) (function-count t) l))
 
     pub accepted-sound : Sound (decodeFunction t (functionAt i))
     accepted-sound = sound-parts [] (decodeFunction t (functionAt i)) (accepted-clean .head)

@@ -7,7 +7,7 @@ use Prim.Native.Nat.{ℕ, zero, suc, _+_, _≤_, _<_, suc-le-suc}
 use native.Mathlib.Nat.{not-suc-le-zero, le-of-suc-le-suc, zero-add, add-zero, zero-lt-suc, add-suc, suc-add}
 use native.Mathlib.Omega.{arith}
 use native.Mathlib.Decide.{decLt}
-use lib.Dec.{T, ltb, leb→le, le→leb, lit<, lit≤}
+use lib.Dec.{T, eqb, ltb, leb→le, le→leb, lit<, lit≤}
 use lib.Ieee.Bits.{is-true}
 use lib.Ieee.Fits.{and-l, and-r, and-i}
 use lib.ListN.{length, getD, List·getD-eq-default}
@@ -17,6 +17,8 @@ use Rattle.laws.proofs.Every.{Every, none, more, every-at, every-imp, every-gat
 use Rattle.language.specs.Programs.{Row, Func, Program, noBlock, maxRegisters, maxBlocks, maxRows, maxEntries, entryCount, blockAt, rowsAt, rowsOf, firstRow, maxFunctions, functionIn}
 use Rattle.language.specs.Checking.{Spot, spotAt, spotsFrom, spotsIn, spotsOf, inRange, breaks9, breaks10, breaks11, breaks12, breaks13, breaks14, breaks15, breaks16, breaks17, rowTests, breaksRow, Verdict, rowsThat, faults10, faults, firstFault, sizesRight, numbersRight, entryRight, namesRight, sound, judge, check, rowNumber, spelledOrNone, distinct}
 use Rattle.language.specs.Instructions.{typeCount, void}
+use Rattle.language.specs.Table.{tableLength, decode}
+use Rattle.language.specs.Answers.{checkAnswer}
 use Rattle.language.specs.Names.{spelled}
 use Rattle.theorems.specs.Clean.{Clean}
 use Rattle.theorems.specs.Accepted.{namesBefore}
@@ -319,3 +321,8 @@ alone-accepted f c =
   where
     first : (i : ℕ) → i < 1 → (P : ℕ → Type 0) → P 0 → P i
     first i l P h = subst P (let e : _≡_ {A = ℕ} 0 i = omega arith in e) h
+
+-- A table that passes its check holds a program that does.
+pub accepted-program : (t : List ℕ) → checkAnswer t ≡ Verdict.accepted → check (decode t) ≡ Verdict.accepted
+unfolding checkAnswer
+accepted-program t e = tested (eqb (length t) tableLength) (check (decode t)) 9 0 e .1

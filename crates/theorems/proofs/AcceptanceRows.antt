@@ -7,14 +7,15 @@ use Prim.Native.Nat.{ℕ, zero, suc, _<_, suc-le-suc}
 use native.Mathlib.Nat.{not-suc-le-zero, le-of-suc-le-suc, zero-lt-suc}
 use native.Mathlib.Omega.{arith}
 use borrow.Author.Tests.{ne-eqb}
-use lib.Dec.{T, eqb, eqb→eq, eqb·suc-suc, not-T}
+use lib.Dec.{T, eqb, ltb, ltb→lt, eqb→eq, eqb·suc-suc, not-T}
 use lib.Ieee.Bits.{is-true}
 use lib.Ieee.Fits.{and-l, and-r, and-i}
 use lib.ListN.{length, getD, length-append}
-use Rattle.laws.specs.Lists.{empty}
+use Rattle.laws.specs.Lists.{all, below, empty}
 use Rattle.laws.proofs.Tests.{of-not-false, beq-eq}
-use Rattle.laws.proofs.Every.{Every, none, more, every-append, every-of, every-imp, every-all, every-keep, every-under, all-under}
+use Rattle.laws.proofs.Every.{Every, none, more, every-append, every-of, every-imp, every-all, every-below-at, every-keep, every-under, all-under}
 use Rattle.laws.proofs.Gather.{keep-append}
+use Rattle.language.specs.Instructions.{Form, formOf, formNumber, instructionCount}
 use Rattle.language.specs.Programs.{Row, Func, rowsAt, typeAt, isPhi, isTerminator, targetsOf, sourcesOf, entriesOf, namedBy}
 use Rattle.language.specs.Checking.{Spot, spotAt, breaksRow, lastRow, predecessors, shaped, numberFits, inRange, typed, breaks9, breaks10, breaks11, breaks15}
 use Rattle.language.specs.Running.{phiTarget, phisOf}
@@ -68,6 +69,17 @@ entries-none Row.leave e = refl
 entries-none (Row.unknown op) e = refl
 
 -- ---- 9 of a row, in parts
+
+-- An instruction's number is of a known form.
+known-forms : T (all (λ n. not (eqb (formNumber (formOf n)) 9)) (below 36))
+unfolding formOf
+known-forms = tt
+
+known-form : (op : ℕ) → op < 36 → T (not (eqb (formNumber (formOf op)) 9))
+known-form op h = every-below-at 36 (every-all (λ n. not (eqb (formNumber (formOf n)) 9)) (below 36) known-forms) op h
+
+pub no-unknown : (op : ℕ) → op < 36 → formOf op ≡ Form.unknown → ⊥
+no-unknown op h e = subst (λ (g : Form). T (not (eqb (formNumber g) 9))) e (known-form op h)
 
 pub record InRange (f : Func) (r : Row) : Type 0 where
   pub shape : T (shaped r)
@@ -200,6 +212,18 @@ module _ (f : Func) (s : Spot) (e : breaksRow f s ≡ false) where
       let es = entriesOf (s .row) in
       let n = length (predecessors f (s .block)) in
       eqb→eq (length es) n (counted-of (isPhi (s .row)) (empty es) (eqb (length es) n) (passes15 f s e) h)
+
+-- A row that is no instruction breaks 9.
+pub unknown-out : (f : Func) (op : ℕ) → T (inRange f (Row.unknown op)) → ⊥
+unfolding shaped
+unknown-out f op h =
+    let form = eqb (formNumber (formOf op)) 9 in
+    let s : T (ltb op instructionCount && form) = range-parts f (Row.unknown op) h .shape in
+    T-not-both form (and-r (ltb op instructionCount) form s) (known-form op (ltb→lt op instructionCount (and-l (ltb op instructionCount) form s)))
+  where
+    T-not-both : (b : Bool) → T b → T (not b) → ⊥
+    T-not-both true x y = y
+    T-not-both false x y = x
 
 -- A row of block y, by 9, 11 and 15.
 pub record Source (f : Func) (y : ℕ) (r : Row) : Type 0 where

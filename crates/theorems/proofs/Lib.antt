@@ -28,6 +28,7 @@ pub mod SimulationKept
 pub mod SimulationPhis
 pub mod Simulation
 pub mod NoRefusal
+pub mod RunAnswers
 pub mod StopNumbers
 pub mod Demand
 pub mod OverTables
@@ -35,6 +36,7 @@ pub mod ReadMoves
 pub mod ReadFits
 pub mod Turn
 pub mod Values
+pub mod Never27
 pub mod WritingTokens
 pub mod WritingStates
 pub mod WritingDeclared

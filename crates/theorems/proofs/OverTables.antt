@@ -15,7 +15,7 @@ use Rattle.laws.specs.Lists.{together}
 use Rattle.language.specs.Instructions.{width}
 use Rattle.language.specs.Programs.{Func, Program, noFunction, isSsa, rowsOf}
 use Rattle.language.specs.Table.{tableLength, cells, decode}
-use Rattle.language.specs.Checking.{Verdict, check}
+use Rattle.language.specs.Checking.{Verdict}
 use Rattle.language.specs.Running.{Outcome, Ends, argumentsFit, firstUnfit, runOf, phisOf}
 use Rattle.language.specs.Answers.{Ran, ranNumbers, checkAnswer, runAnswer, runFunction, translateAnswer, translateFunction, fill, ranAs}
 use Rattle.language.specs.Translating.{translation, translationFits, stepFormula, registerFor}
@@ -23,7 +23,7 @@ use Rattle.theorems.specs.Statements.{ranWith}
 use Rattle.theorems.specs.Demand3.{RunsAlike, Translates}
 use Rattle.theorems.specs.TableLaw.{Held}
 use Rattle.theorems.specs.OverTables.{functionInTable, TranslatableIn, Translated, Demand3OverTables, EndedWith, UsedUp, EndBoth, Compared, RunsAgree, RunsOverTables}
-use Rattle.theorems.proofs.AcceptanceCheck.{sound-parts, tested, clean-of-check}
+use Rattle.theorems.proofs.AcceptanceCheck.{sound-parts, clean-of-check, accepted-program}
 use Rattle.theorems.proofs.Demand.{demand3}
 use Rattle.theorems.proofs.Budgets.{budget-agrees}
 use Rattle.theorems.proofs.TableSound.{accepted-held}
@@ -33,12 +33,6 @@ use Rattle.theorems.proofs.StopNumbers.{no-end-is-43, run-of-43}
 -- A case whose test holds.
 first : {A : Type 0} (b : Bool) (x y : A) → T b → cond b x y ≡ x
 first b x y h = ap (λ (c : Bool). cond c x y) (is-true b h)
-
-module _ (t : List ℕ) (e : checkAnswer t ≡ Verdict.accepted) where
-  -- A table that passes its check holds a program that does.
-  pub accepted-program : check (decode t) ≡ Verdict.accepted
-  unfolding checkAnswer
-  accepted-program = tested (eqb (length t) tableLength) (check (decode t)) 9 0 e .1
 
 -- ---- translating
 

@@ -2,26 +2,25 @@
 -- Assumes nothing.
 use mathlib.Core.Bool.{Bool, true, false, cond}
 use mathlib.Core.List.{List, _++_, map}
-use mathlib.Core.Logic.{_↔_}
 use mathlib.Core.Path.{_≡_, refl, sym, _∙_, ap, subst}
 use Prim.Native.Nat.{ℕ, _+_, _-_, _≤_, _<_}
 use native.Mathlib.Omega.{arith}
 use borrow.Author.Tests.{ltb-true, ltb-false, lt-ltb, le-ltb, eq-eqb}
 use lib.Dec.{eqb, ltb}
-use lib.ListN.{length, getD, take, drop, length-map}
+use lib.ListN.{length, take, drop, length-map}
 use lib.Seq.{take-append-seam, drop-append-seam}
 use Rattle.laws.proofs.Indexing.{getD-map}
 use Rattle.language.specs.Programs.{Func, Program, noFunction, functionIn, maxText, rowPlace}
-use Rattle.language.specs.Reading.{Reading, read}
+use Rattle.language.specs.Reading.{read}
 use Rattle.language.specs.Checking.{Verdict, check}
-use Rattle.language.specs.Table.{tableLength, cells, decode}
+use Rattle.language.specs.Table.{tableLength, decode}
 use Rattle.language.specs.Running.{Place, Outcome, Run, runOf, firstUnfit}
 use Rattle.language.specs.MadeNames.{namedFunction, named, written}
 use Rattle.language.specs.Answers.{Ran, Finished, Wrote, Shown, zeros, wroteNumbers, fill, filledFrom, readAnswer, checkAnswer, placeOf, ranAs, leftIn, refusedRun, runFunction, runAnswer, ifAccepted, refusedText, show, writeAnswer}
 use Rattle.theorems.specs.TableLaw.{Held}
-use Rattle.theorems.specs.RoundTrip.{AlikeButNames, Writes, WrittenExactly, NotWritten, NotWrittenExactly, LongIs33, FullIs32, WrittenIs0, RefusedZeroes, filledTable, RoundTrip, RoundTripLaw}
+use Rattle.theorems.specs.RoundTrip.{AlikeButNames, Writes, WrittenExactly, NotWritten, NotWrittenExactly, LongIs33, FullIs32, WrittenIs0, RefusedZeroes, filledTable, RoundTripLaw}
 use Rattle.theorems.proofs.NoRefusal.{refused-numbers}
-use Rattle.theorems.proofs.OverTables.{accepted-program}
+use Rattle.theorems.proofs.AcceptanceCheck.{accepted-program}
 use Rattle.theorems.proofs.Table.{unneeded-zero}
 use Rattle.theorems.proofs.TableSound.{accepted-fits, accepted-held}
 use Rattle.theorems.proofs.WritingAlike.{registers-alike, first-alike, unfit-alike, names-do-not-matter}

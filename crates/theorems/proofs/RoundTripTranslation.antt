@@ -8,18 +8,18 @@ use native.Mathlib.Omega.{arith}
 use lib.Dec.{T, eqb}
 use lib.ListN.{length, getD}
 use Rattle.laws.specs.Lists.{any}
-use Rattle.language.specs.Programs.{Row, Func, Program, noFunction, isPhi, rowsOf}
+use Rattle.language.specs.Programs.{Row, Func, Program, noFunction, isPhi}
 use Rattle.language.specs.Checking.{Verdict}
 use Rattle.language.specs.Table.{tableLength, decode}
-use Rattle.language.specs.Running.{Outcome, Ends, NotEnded, runOf, argumentsFit}
+use Rattle.language.specs.Running.{Outcome, Ends, NotEnded, argumentsFit}
 use Rattle.language.specs.Translating.{translation}
 use Rattle.language.specs.MadeNames.{namedFunction, named}
-use Rattle.language.specs.Answers.{Filled, Wrote, readAnswer, runAnswer, translateAnswer, writeAnswer}
+use Rattle.language.specs.Answers.{Filled, Wrote, runAnswer, translateAnswer, writeAnswer}
 use Rattle.theorems.specs.Demand3.{RunsAlike}
 use Rattle.theorems.specs.OverTables.{functionInTable, TranslatableIn, Translated, RunsAgree}
-use Rattle.theorems.specs.RoundTrip.{AlikeButNames, RoundTrip, filledTable, textIn, TranslatedAsText, Demand3AsText}
-use Rattle.theorems.proofs.AcceptanceCheck.{clean-of-check, sound-parts}
-use Rattle.theorems.proofs.OverTables.{accepted-program, demand3-over-tables, run-answer, fits-translation, agree}
+use Rattle.theorems.specs.RoundTrip.{AlikeButNames, RoundTrip, filledTable, TranslatedAsText, Demand3AsText}
+use Rattle.theorems.proofs.AcceptanceCheck.{clean-of-check, sound-parts, accepted-program}
+use Rattle.theorems.proofs.OverTables.{demand3-over-tables, run-answer, fits-translation, agree}
 use Rattle.theorems.proofs.WritingAlike.{all-rows-alike, unfit-alike, names-do-not-matter}
 use Rattle.theorems.proofs.WritingNamed.{only-names-filled}
 use Rattle.theorems.proofs.RoundTrip.{round-trip}

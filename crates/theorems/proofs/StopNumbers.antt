@@ -1,29 +1,31 @@
 -- The numbers with which a run stops are four, and 43 is none of them, so that an answer 43 says that the run has not ended.
 -- Assumes nothing.
 use mathlib.Core.Path.{_≡_, refl, subst}
-use mathlib.Core.Bool.{Bool, true, false, cond}
+use mathlib.Core.Bool.{Bool, true, false, cond, _||_}
 use mathlib.Core.List.{List, [], _∷_}
-use Prim.Native.Nat.{ℕ, suc, _<_}
+use Prim.Native.Nat.{ℕ, suc}
 use native.Mathlib.Omega.{arith}
 use lib.Dec.{T, eqb, ltb}
-use lib.ListN.{length, drop}
+use lib.ListN.{drop}
 use Rattle.laws.specs.Lists.{any, member}
 use Rattle.language.specs.Arithmetic.{Computed, binaryOf, div, rem, within, overflows}
 use Rattle.language.specs.Programs.{Row, Func, rowsAt, typeAt, isPhi}
-use Rattle.language.specs.Checking.{Verdict, breaksRow}
-use Rattle.language.specs.Running.{Place, Outcome, Next, Run, NotEnded, onward, valueAt, writeAll, phisOf, cameBy, phiStep, assign, perform, performAt, step, start, startRegisters, runOf, firstUnfit}
-use Rattle.language.specs.Table.{decode}
-use Rattle.language.specs.Answers.{Finished, ranNumbers, checkAnswer, refusedRun, ifAccepted, runFunction, runAnswer, ranAs, leftIn}
-use Rattle.theorems.specs.OverTables.{stopNumbers, StopsWithThese, NoEndIs43, AnsweredIs43, functionInTable}
-use Rattle.theorems.proofs.NoRefusal.{refused-numbers}
+use Rattle.language.specs.Checking.{breaksRow}
+use Rattle.language.specs.Running.{Place, Outcome, Next, Run, NotEnded, onward, valueAt, writeAll, phisOf, cameBy, phiStep, assign, perform, performAt, step, start, startRegisters, runOf}
+use Rattle.language.specs.Answers.{ranNumbers, refusedRun, ranAs}
+use Rattle.theorems.specs.OverTables.{stopNumbers, StopsWithThese, NoEndIs43, AnsweredIs43, functionInTable, runRefusals}
+use Rattle.theorems.proofs.RunAnswers.{answer-by}
 use Rattle.theorems.proofs.Budgets.{going-counts}
 use Rattle.theorems.proofs.SimulationRuns.{ended-stops, ends-stops}
 
 -- ---- what an instruction, a row and a step stop with
 
-abbrev StopsAs : Computed → Type 0
+abbrev pub computedStops : List ℕ
+computedStops = 40 ∷ 41 ∷ 42 ∷ []
+
+abbrev pub StopsAs : Computed → Type 0
 StopsAs (Computed.value v) = Unit {0}
-StopsAs (Computed.stops k) = T (member k stopNumbers)
+StopsAs (Computed.stops k) = T (member k computedStops)
 
 stops-cond : (b : Bool) (x y : Computed) → StopsAs x → StopsAs y → StopsAs (cond b x y)
 stops-cond true x y p q = p
@@ -41,7 +43,7 @@ stops-within : (w k x : ℕ) → StopsAs (within w k x)
 unfolding within
 stops-within w k x = stops-cond (ltb k w) _ _ tt tt
 
-stops-binary : (op t a b : ℕ) → StopsAs (binaryOf op t a b)
+pub stops-binary : (op t a b : ℕ) → StopsAs (binaryOf op t a b)
 unfolding binaryOf
 stops-binary op t a b =
     stops-cond (eqb op 9) _ _ tt
@@ -73,7 +75,11 @@ ends-cond false x y p q = q
 ends-assign : (p : Place) (g : List ℕ) (t : ℕ) (c : Computed) → StopsAs c → EndsAs (assign p g t c)
 unfolding assign
 ends-assign p g t (Computed.value v) s = tt
-ends-assign p g t (Computed.stops n) s = s
+ends-assign p g t (Computed.stops n) s = more (eqb 27 n) s
+  where
+    more : (b : Bool) → T (member n computedStops) → T (b || member n computedStops)
+    more true h = tt
+    more false h = h
 
 ends-row : (f : Func) (p : Place) (g : List ℕ) (r : Row) → EndsAs (perform f p g r)
 unfolding perform phiStep
@@ -132,41 +138,10 @@ run-of-43 i f args b = by (runOf f args b) refl
 
 -- ---- what a call answers
 
--- Where the number is 43, the run has not ended.
-abbrev Told43 : Func → List ℕ → ℕ → Finished → Type 0
-Told43 f args b x = ranNumbers (x .answer) .number ≡ 43 → NotEnded f args b × (ranNumbers (x .answer) .steps ≡ b)
-
-module _ (f : Func) (args : List ℕ) (b : ℕ) where
-  told-cond : (c : Bool) (x y : Finished) → Told43 f args b x → Told43 f args b y → Told43 f args b (cond c x y)
-  told-cond true x y p q = p
-  told-cond false x y p q = q
-
-  told-refused : (n k p : ℕ) → k < 43 → Told43 f args b (refusedRun n k p)
-  unfolding refusedRun ranNumbers
-  told-refused n k p l e = absurd (omega (arith, l, e))
-
-  told-accepted : (t : List ℕ) (n : ℕ) (x : Finished) → Told43 f args b x → Told43 f args b (ifAccepted (checkAnswer t) (refusedRun n) x)
-  told-accepted t n x h = by (checkAnswer t) refl
-    where
-      by : (v : Verdict) → checkAnswer t ≡ v → Told43 f args b (ifAccepted v (refusedRun n) x)
-      by Verdict.accepted e = h
-      by (Verdict.refused k p) e = told-refused n k p (omega (arith, refused-numbers t k p e .1))
-
 pub answered-is-43 : AnsweredIs43
-unfolding runAnswer runFunction
+unfolding refusedRun ranNumbers
 answered-is-43 t i args b c =
     let f = functionInTable t i in
-    let d = decode t in
-    let unfit = firstUnfit f args in
-    let done : Finished = record { answer = ranAs i f (runOf f args b); registers = leftIn c (runOf f args b) } in
-    let roomy = cond (ltb c (length (f .registers))) (refusedRun c 22 0) done in
-    let fitted = cond (eqb unfit (length args)) roomy (refusedRun c 20 unfit) in
-    let counted = cond (eqb (length args) (f .params)) fitted (refusedRun c 20 (length args)) in
-    told-accepted f args b t c (runFunction d i args b c)
-    (told-cond f args b (ltb i (length d)) counted (refusedRun c 21 0)
-    (told-cond f args b (eqb (length args) (f .params)) fitted (refusedRun c 20 (length args))
-    (told-cond f args b (eqb unfit (length args)) roomy (refusedRun c 20 unfit)
-    (told-cond f args b (ltb c (length (f .registers))) (refusedRun c 22 0) done (told-refused f args b c 22 0 (omega arith)) (run-of-43 i f args b))
-    (told-refused f args b c 20 unfit (omega arith)))
-    (told-refused f args b c 20 (length args) (omega arith)))
-    (told-refused f args b c 21 0 (omega arith)))
+    answer-by t i args b c (λ x. ranNumbers (x .answer) .number ≡ 43 → NotEnded f args b × (ranNumbers (x .answer) .steps ≡ b))
+    (λ k p h e. absurd (subst (λ (n : ℕ). T (member n runRefusals)) e h))
+    (λ accepted there fit room. run-of-43 i f args b)

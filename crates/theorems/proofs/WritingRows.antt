@@ -1,19 +1,19 @@
 -- A row, read back: what stands in the draft is the row with the numbers of its mentions for the blocks it names.
 -- Assumes nothing.
-use mathlib.Core.Bool.{Bool, true, false, not}
+use mathlib.Core.Bool.{true, false}
 use mathlib.Core.List.{List, [], _∷_, _++_, map, append-assoc, append-nil, map-append}
-use mathlib.Core.Path.{_≡_, refl, sym, _∙_, ap, subst}
+use mathlib.Core.Path.{_≡_, refl, sym, _∙_, ap}
 use Prim.Native.Nat.{ℕ, suc, _+_, _-_, _^_, _≤_, _<_}
 use native.Mathlib.Omega.{arith}
-use lib.Dec.{T, eqb, ltb, ltb→lt}
+use lib.Dec.{T, ltb→lt}
 use lib.ListN.{length, getD, length-append, length-map}
 use borrow.Author.Tests.{lt-ltb, le-leb}
-use Rattle.laws.specs.Lists.{gather, all, below}
-use Rattle.laws.proofs.Every.{Every, none as every-nil, more as every-cons, every-all, every-below-at}
+use Rattle.laws.specs.Lists.{gather}
+use Rattle.laws.proofs.Every.{Every, more as every-cons}
 use Rattle.laws.proofs.Sums.{gather-append}
 use Rattle.language.specs.Bytes.{comma, leftParen, rightParen, equals, semicolon}
 use Rattle.language.specs.Words.{isInstruction, firstInstruction, wordCount}
-use Rattle.language.specs.Instructions.{Form, Operand, formOf, formNumber, hasTarget, sourceCount, operandOf, loadType, width}
+use Rattle.language.specs.Instructions.{Form, Operand, formOf, hasTarget, sourceCount, operandOf, loadType, width}
 use Rattle.language.specs.Programs.{Row, Block, Func, noRegister, blockAt, rowsOf, entryCount, opOf, formIn, targetsOf, sourcesOf, entriesOf, namedBy, isPhi, maxRows, maxEntries}
 use Rattle.language.specs.Checking.{numberFits}
 use Rattle.language.specs.Tokens.{Token, token}
@@ -22,6 +22,7 @@ use Rattle.language.specs.Reading.{Mention, Parts, partsOf, noParts, Parse, fun
 use Rattle.language.specs.Writing.{registerToken, blockToken, opToken, numberToken, inParens, registersPart, operandPart, rowLine}
 use Rattle.language.proofs.Rooms.{entriesIn}
 use Rattle.theorems.specs.RoundTrip.{none, more}
+use Rattle.theorems.proofs.AcceptanceRows.{no-unknown}
 use Rattle.theorems.proofs.WritingStates.{State, Takes, nothing, then, after, step, passes, pass-then, draft}
 use Rattle.theorems.proofs.WritingDeclared.{Apart, numbers}
 use Rattle.theorems.proofs.WritingHeads.{nameOf}
@@ -58,18 +59,6 @@ pub record RowReady (f : Func) (r : Row) : Type 0 where
   pub entries : Every (λ u. u < length (f .registers)) (entriesOf r)
   pub number : T (numberFits r)
   pub some : T (isPhi r) → 0 < length (entriesOf r)
-
-unknown-form : Form → Bool
-unknown-form f = eqb (formNumber f) 9
-
-forms-known : T (all (λ n. not (unknown-form (formOf n))) (below 36))
-unfolding unknown-form formOf
-forms-known = tt
-
-no-unknown : (op : ℕ) → op < 36 → formOf op ≡ Form.unknown → ⊥
-unfolding unknown-form
-no-unknown op h e =
-    subst (λ (f : Form). T (not (unknown-form f))) e (every-below-at 36 (every-all (λ n. not (unknown-form (formOf n))) (below 36) forms-known) op h)
 
 first : {P : ℕ → Type 0} {x : ℕ} {xs : List ℕ} → Every P (x ∷ xs) → P x
 first (every-cons p h) = p

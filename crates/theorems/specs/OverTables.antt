@@ -61,6 +61,14 @@ AnsweredIs43 =
     (t : List ℕ) (i : ℕ) (args : List ℕ) (b c : ℕ)
     → (let a = ranNumbers (runAnswer t i args b c .answer) in a .number ≡ 43 → NotEnded (functionInTable t i) args b × (a .steps ≡ b))
 
+-- What running refuses with: "9 to 17", "then 21; running then 20, 22".
+abbrev pub runRefusals : List ℕ
+runRefusals = 9 ∷ 10 ∷ 11 ∷ 12 ∷ 13 ∷ 14 ∷ 15 ∷ 16 ∷ 17 ∷ 20 ∷ 21 ∷ 22 ∷ []
+
+-- Document 02, A10: "Show that 27 can't be given for any input": no call answers it, whatever it is given.
+abbrev pub Never27 : Type 0
+Never27 = (t : List ℕ) (i : ℕ) (args : List ℕ) (b c : ℕ) → ¬ (ranNumbers (runAnswer t i args b c .answer) .number ≡ 27)
+
 -- An answer as a caller has it, `told` giving its form: that the run ended with outcome o after n steps; that its budget b was used up.
 abbrev pub EndedWith : {A : Type 0} → (Ran → A) → Outcome → ℕ → A → Type 0
 EndedWith told o n x = (p : ℕ) × (x ≡ told (ranWith o p n))

@@ -1,7 +1,7 @@
 -- `list_table`: the refusal of the check, or the lines of the table.
 use native.Mathlib.Omega.{arith}
 use borrow.Author.Needs.{needs}
-use Rattle.theorems.proofs.OverTables.{accepted-program}
+use Rattle.theorems.proofs.AcceptanceCheck.{accepted-program}
 use Rattle.calling.proofs.Printing.{judged-refused, judged-accepted}
 use Rattle.calling.proofs.TextLaws.{accepted-table}
 use Rattle.calling.proofs.listings.list_table.Statement.{statement}

@@ -5,7 +5,8 @@ use borrow.Author.Needs.{needs}
 use Rattle.language.specs.Answers.{zeros}
 use Rattle.language.specs.Table.{decode}
 use Rattle.language.specs.MadeNames.{written}
-use Rattle.rules.proofs.Accepted.{accepted-length, accepted-program}
+use Rattle.theorems.proofs.AcceptanceCheck.{accepted-program}
+use Rattle.rules.proofs.Accepted.{accepted-length}
 use Rattle.ial.proofs.WriteLaws.{show-long, show-larger, show-whole}
 use Rattle.ial.proofs.writing.write_checked.Statement.{statement}
 use Rattle.ial.proofs.writing.write_checked.Tie as tie
