@@ -1,8 +1,10 @@
-//! The verified libraries against the plain Rust implementation: same machine, same input, both built for release, one run. Calls of the
+//! The verified libraries against the plain Rust implementation (and, for runs, other interpreters: `interpreters.rs` says how): same
+//! machine, same input, both built for release, one run. Calls of the
 //! two alternate, figures are medians, and time is the processor time of the thread: on the wall a call of milliseconds that is interrupted
 //! counts the other work too, and the longer side is interrupted more often. Every call is lent the table that the last one left: each
 //! `read` clears it itself, and so is timed with it.
 
+mod interpreters;
 mod merging;
 
 #[repr(C)]
@@ -59,11 +61,6 @@ fn large_table() -> Vec<u8> {
     cells
 }
 
-const COUNT: &str = include_str!("../loops/count.ial");
-const TURNS: &str = include_str!("../loops/turns.ial");
-const EIGHT: &str = include_str!("../loops/eight.ial");
-const DIVIDE: &str = include_str!("../loops/divide.ial");
-
 /// Check, runs and the translation, each side's answers compared first.
 fn judge_run_translate() {
     let mut turn = vec![0u8; ial_baseline::TABLE];
@@ -73,16 +70,8 @@ fn judge_run_translate() {
         assert_eq!((verified_check(t), ial_baseline::check(t).is_ok()), (0, true));
         race(name, rounds, || { verified_check(t); }, || { ial_baseline::check(t).unwrap(); });
     }
+    interpreters::run_loops();
     let (mut g, mut h) = ([0u64; 256], [0u64; 256]);
-    let loops: [(&str, &str, &[u64]); 4] = [("a counting loop", COUNT, &[100_000]), ("turn's loop", TURNS, &[7, 9, 50_000]), ("a loop with eight phi", EIGHT, &[7, 50_000]), ("a loop of multiplications and divisions", DIVIDE, &[100_000])];
-    for (name, text, args) in loops {
-        let mut t = vec![0u8; ial_baseline::TABLE];
-        ial_baseline::read(text.as_bytes(), &mut t).unwrap();
-        let (number, _, steps) = verified_run(&t, args, &mut g);
-        assert_eq!(verified_run(&t, args, &mut g), plain_run(&t, args, &mut h));
-        assert!(number == 0 && g == h);
-        race(&format!("run, {name}, {steps} steps"), 200, || { verified_run(&t, args, &mut g); }, || { plain_run(&t, args, &mut h); });
-    }
     race("run, turn(7, 9, 2), check included", 20000, || { verified_run(&turn, &[7, 9, 2], &mut g); }, || { plain_run(&turn, &[7, 9, 2], &mut h); });
     let (mut a, mut b) = (vec![0u8; ial_baseline::TABLE], vec![0u8; ial_baseline::TABLE]);
     assert_eq!((verified_translate(&turn, &mut a), ial_baseline::translate(&turn, 0, &mut b).is_ok()), (0, true));
@@ -216,19 +205,23 @@ fn race(name: &str, rounds: usize, mut verified: impl FnMut(), mut plain: impl F
 
 /// The same for calls that change what they are lent: each begins with these bytes, which are put there before its time begins.
 fn race_on(name: &str, rounds: usize, start: &[u8], mut verified: impl FnMut(&mut [u8]), mut plain: impl FnMut(&mut [u8])) -> f64 {
-    let (mut ours, mut theirs, mut ratios) = (vec![], vec![], vec![]);
     let mut lent = start.to_vec();
-    for _ in 0..rounds {
-        lent.copy_from_slice(start);
-        let v = nanoseconds(&mut || verified(&mut lent));
-        lent.copy_from_slice(start);
-        let p = nanoseconds(&mut || plain(&mut lent));
-        ours.push(v);
-        theirs.push(p);
-        ratios.push(p / v);
-    }
-    let ours = median(ours);
-    println!("{name}: verified {:.1} us, plain {:.1} us, ratio {:.2}", ours / 1000.0, median(theirs) / 1000.0, median(ratios));
+    let times: Vec<_> = (0..rounds)
+        .map(|_| {
+            lent.copy_from_slice(start);
+            let v = nanoseconds(&mut || verified(&mut lent));
+            lent.copy_from_slice(start);
+            (v, nanoseconds(&mut || plain(&mut lent)))
+        })
+        .collect();
+    report(name, "plain", &times)
+}
+
+/// Prints what rounds of our time and the other's come to, and hands our median back.
+fn report(name: &str, other: &str, rounds: &[(f64, f64)]) -> f64 {
+    let of = |part: fn(&(f64, f64)) -> f64| median(rounds.iter().map(part).collect());
+    let ours = of(|r| r.0);
+    println!("{name}: verified {:.1} us, {other} {:.1} us, ratio {:.2}", ours / 1000.0, of(|r| r.1) / 1000.0, of(|r| r.1 / r.0));
     ours
 }
 
