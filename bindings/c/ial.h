@@ -16,8 +16,8 @@
  *               numbers for each argument (running many); 0
  *     30, 31    refused: a translation of a function that is not ssa, or that is too large when translated; 0
  *     32, 33    refused: a text longer than the buffer, or than IAL_TEXT bytes (writing); 0
- *     27        stopped: a row met in a run breaks 9 to 16; 2048 times the function's number plus the row
- *     40 to 42  stopped: zero divisor, shift or rotation by w or more, least number divided by -1; likewise
+ *     40 to 42  stopped: zero divisor, shift or rotation by w or more, least number divided by -1; 2048 times the function's
+ *               number plus the row
  *     43        stopped: budget used up; likewise, the next row
  * After a refusal every lent output is all zero. Numbers that are not stated are 0.
  */
@@ -59,7 +59,7 @@ typedef struct ial_answer {
 
 /* Whether a run stopped: it was no refusal, its registers hold what the last finished step left. */
 static inline int ial_stopped(ial_answer a) {
-    return a.number == 27 || (a.number >= 40 && a.number <= 43);
+    return a.number >= 40 && a.number <= 43;
 }
 
 /* Whether a call was refused: every lent output is all zero. */
@@ -82,7 +82,7 @@ uint64_t ial_has_signature(const uint8_t *table, size_t table_length, uint64_t f
 
 /* Checks the table and runs one of its functions on arguments, for at most `budget` steps. `registers` needs as many cells
  * as the function has registers (IAL_REGISTERS always suffices); afterwards it holds them, and 0 in the cells past them.
- * Refuses with 9 to 17, then 21 (no such function), 20 (arguments), 22 (registers too few). Stops with 27, 40 to 43. A run
+ * Refuses with 9 to 17, then 21 (no such function), 20 (arguments), 22 (registers too few). Stops with 40 to 43. A run
  * that ends normally has number 0 and the returned value; a function with no result leaves value 0. Arguments and values
  * are numbers below 2^w; a signed type's are two's complement. */
 ial_answer ial_run(const uint8_t *table, size_t table_length, uint64_t function, const uint64_t *arguments,

@@ -106,7 +106,7 @@ impl Answer {
     fn ended(self) -> Result<Outcome, Refused> {
         let end = match self.number {
             0 => End::Ended(self.value),
-            27 | 40..=43 => End::Stopped { number: self.number, place: self.place },
+            40..=43 => End::Stopped { number: self.number, place: self.place },
             number => return Err(Refused { number, place: self.place }),
         };
         Ok(Outcome { end, steps: self.steps })
@@ -124,7 +124,7 @@ pub struct Table {
 pub enum End {
     /// By `return`, with the value, or by `leave`, with 0.
     Ended(u64),
-    /// By a stop of document 01: 27, 40 to 42, or 43 for a budget used up. The place is 2,048 times the function plus the row.
+    /// By a stop of document 01: 40 to 42, or 43 for a budget used up. The place is 2,048 times the function plus the row.
     Stopped { number: u64, place: u64 },
 }
 

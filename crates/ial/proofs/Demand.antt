@@ -9,8 +9,7 @@ use Rattle.language.specs.Answers.{Answer, Filled, Finished, runAnswer, transla
 use Rattle.language.specs.Table.{tableLength}
 use Rattle.theorems.specs.OverTables.{functionInTable, Translated}
 use Rattle.theorems.proofs.NoRefusal.{checked-is-0, translated-is-0}
-use Rattle.theorems.proofs.StopNumbers.{answered-is-43}
-use Rattle.theorems.proofs.Never27.{never-27}
+use Rattle.theorems.proofs.StopNumbers.{answered-is-43, never-27}
 use Rattle.theorems.proofs.OverTables.{demand3-over-tables, runs-over-tables, Tells, runs-told}
 use Rattle.checker.specs.declared.Verdict.the-variants as verdicts
 use Rattle.ial.specs.Verdicts.{filledOf}

@@ -106,7 +106,7 @@ pub fn run_numbers(r: Ran) -> Answer
     }
 }
 
-// Runs a function of a lent table on arguments, for at most `budget` steps: 9 to 17, 21, 20, 22; 27, 40 to 43. After a refusal the lent
+// Runs a function of a lent table on arguments, for at most `budget` steps: 9 to 17, 21, 20, 22; 40 to 43. After a refusal the lent
 // registers are all zero.
 #[no_mangle]
 pub extern "C" fn ial_run(

@@ -1,4 +1,5 @@
-// Running a function of a lent table on many arguments, each by itself: the table is checked and the function prepared once.
+// Running a function of a lent table on many arguments, each by itself: the table is checked, the predecessors counted and the scratch of the
+// phi cleared once.
 ghost use mathlib.Core.Path.{_≡_};
 ghost use mathlib.Core.List.{[], _∷_};
 ghost use Prim.Native.Nat.{_+_, _*_, _<_, _≤_};
@@ -6,9 +7,9 @@ ghost use lib.Dec.{eqb};
 ghost use lib.ListN.{length};
 ghost use lib.Seq.{sets};
 ghost use Rattle.language.specs.Checking.{Verdict as Verdictᴸ};
-ghost use Rattle.language.specs.Table.{functionAt, functionCount, decode, decodeFunction};
+ghost use Rattle.language.specs.Table.{functionAt, functionCount, blockCount, decode, decodeFunction};
 ghost use Rattle.language.specs.Answers.{checkAnswer, numberCells, ranNumbers, runFunction, runEach};
-ghost use Rattle.rules.specs.Prepared.{Prepared};
+ghost use Rattle.rules.specs.Preparing.{Flowed};
 ghost use Rattle.ial.specs.Numbers.{numbersOf};
 ghost use Rattle.ial.specs.Runs.{cellsFrom};
 ghost use Rattle.ial.specs.Calls.{RunEachCalled};
@@ -19,7 +20,7 @@ use crate::running::run_prepared;
 use checker::Verdict;
 use checker::check_table;
 use machine::start;
-use rules::prepare;
+use rules::flow;
 use table::function_count;
 
 // The cells of a function.
@@ -48,25 +49,27 @@ fn same_each(x: Answer, args: &[u64], out: &mut [u64])
     }
 }
 
-// A function of a table that passes its check, prepared: a run for every argument, whatever the registers hold.
+// A function of a table that passes its check, its predecessors counted: a run for every argument, whatever the registers hold.
 fn run_all(
     t: &[u8],
     i: usize,
     m: &[u16],
     args: &[u64],
     budget: u64,
+    taken: &mut [u64],
     registers: &mut [u64],
     out: &mut [u64],
 )
     requires { ⌜ checkAnswer (now t) ≡ Verdictᴸ.accepted ⌝ }
-    requires { ⌜ (i < functionCount (now t)) × Prepared (decodeFunction (now t) (functionAt i)) (now m) ⌝ }
+    requires { ⌜ i < functionCount (now t) ⌝ }
+    requires { ⌜ Flowed (decodeFunction (now t) (functionAt i)) (now m) (blockCount (now t) (functionAt i)) × (length (now taken) ≡ 1024) ⌝ }
     requires { ⌜ length (now out) ≡ 4 * length (now args) ⌝ }
     ensures { λ _. ⌜ now (out .exit) ≡ cellsFrom (λ a. ranNumbers (runFunction (decode (now (t .entry))) i (a ∷ []) budget (length (now (registers .entry))) .answer)) (now (args .entry)) ⌝ }
 {
     let mut k = 0;
     while k < args.len() {
         let e = k + 1;
-        let r = run_prepared(t, i, m, &args[k..e], budget, registers);
+        let r = run_prepared(t, i, m, &args[k..e], budget, taken, registers);
         put_numbers(out, 4 * k, run_numbers(r));
         k += 1;
     }
@@ -91,8 +94,9 @@ fn each_checked(
     }
     let i = function as usize;
     let mut m = [0u16; 768];
-    prepare(t, 1 + FUNCTION * i, &mut m);
-    run_all(t, i, &m, args, budget, registers, out);
+    flow(t, 1 + FUNCTION * i, &mut m);
+    let mut taken = [0u64; 1024];
+    run_all(t, i, &m, args, budget, &mut taken, registers, out);
 }
 
 // What `run` answers for every argument.

@@ -3,9 +3,9 @@ ghost use mathlib.Core.Path.{_≡_};
 ghost use Prim.Native.Nat.{_<_};
 ghost use lib.ListN.{length};
 ghost use Rattle.language.specs.Checking.{Verdict as Verdictᴸ};
-ghost use Rattle.language.specs.Table.{functionAt, functionCount, decode, decodeFunction};
+ghost use Rattle.language.specs.Table.{functionAt, functionCount, blockCount, decode, decodeFunction};
 ghost use Rattle.language.specs.Answers.{zeros, checkAnswer, runFunction};
-ghost use Rattle.rules.specs.Prepared.{Prepared};
+ghost use Rattle.rules.specs.Preparing.{Flowed};
 ghost use Rattle.machine.specs.Runs.{ranIn};
 ghost use Rattle.ial.specs.Runs.{ranOf, finishedOf, stopPlace, RunsTo};
 ghost use Rattle.ial.specs.Calls.{RunCalled};
@@ -16,7 +16,7 @@ use machine::Run;
 use machine::first_unfit;
 use machine::run_on;
 use machine::start;
-use rules::prepare;
+use rules::flow;
 use table::function_count;
 use table::function_params;
 use table::register_count;
@@ -47,18 +47,20 @@ fn answer_of(i: usize, r: Run) -> Ran
     }
 }
 
-// A function of a table that passes its check, prepared: "running then 20, 22". The registers may hold anything; where they are all zero, a
-// refusal leaves them so. This is the one place that calls `run_on`, for a run and for many.
+// A function of a table that passes its check, its predecessors counted: "running then 20, 22". The registers may hold anything; where they
+// are all zero, a refusal leaves them so. This is the one place that calls `run_on`, for a run and for many.
 pub fn run_prepared(
     t: &[u8],
     i: usize,
     m: &[u16],
     args: &[u64],
     budget: u64,
+    taken: &mut [u64],
     registers: &mut [u64],
 ) -> Ran
     requires { ⌜ checkAnswer (now t) ≡ Verdictᴸ.accepted ⌝ }
-    requires { ⌜ (i < functionCount (now t)) × Prepared (decodeFunction (now t) (functionAt i)) (now m) ⌝ }
+    requires { ⌜ i < functionCount (now t) ⌝ }
+    requires { ⌜ Flowed (decodeFunction (now t) (functionAt i)) (now m) (blockCount (now t) (functionAt i)) × (length (now taken) ≡ 1024) ⌝ }
     ensures { λ r. ⌜ RunsTo (decode (now (t .entry))) i (now (args .entry)) budget (now (registers .entry)) r (now (registers .exit)) ⌝ }
 {
     let a = 1 + FUNCTION * i;
@@ -72,7 +74,7 @@ pub fn run_prepared(
     if registers.len() < register_count(t, a) {
         return Ran::Refused(22, 0);
     }
-    answer_of(i, run_on(t, a, m, args, budget, registers))
+    answer_of(i, run_on(t, a, m, args, budget, taken, registers))
 }
 
 // A table that passes its check: "then 21; running then 20, 22".
@@ -86,11 +88,12 @@ fn run_checked(t: &[u8], function: u64, args: &[u64], budget: u64, registers: &m
     }
     let i = function as usize;
     let mut m = [0u16; 768];
-    prepare(t, 1 + FUNCTION * i, &mut m);
-    run_prepared(t, i, &m, args, budget, registers)
+    flow(t, 1 + FUNCTION * i, &mut m);
+    let mut taken = [0u64; 1024];
+    run_prepared(t, i, &m, args, budget, &mut taken, registers)
 }
 
-// Runs a function of a lent table on arguments, for at most `budget` steps: 9 to 17, 21, 20, 22; 27, 40 to 43. The lent registers hold the
+// Runs a function of a lent table on arguments, for at most `budget` steps: 9 to 17, 21, 20, 22; 40 to 43. The lent registers hold the
 // function's registers afterwards, and 0 past them; after a refusal they are all zero.
 pub fn run(t: &[u8], function: u64, args: &[u64], budget: u64, registers: &mut [u64]) -> Ran
     ensures { λ r. ⌜ RunCalled (now (t .entry)) function (now (args .entry)) budget (length (now (registers .entry))) r (now (registers .exit)) ⌝ }

@@ -7,7 +7,7 @@ use lib.IntN.{ℤ, pos, negℤ}
 use Rattle.language.specs.Instructions.{uint, void}
 use Rattle.language.specs.Arithmetic.{meaning}
 use Rattle.language.specs.Programs.{Row, Func}
-use Rattle.language.specs.Running.{Place, Outcome, Run, runOf}
+use Rattle.language.specs.Running.{Outcome, Run, runOf}
 use Rattle.language.proofs.Computing.{computing}
 use Rattle.language.proofs.Examples.{func}
 
@@ -124,11 +124,13 @@ pub budget-none : summary (runOf leaves (5 ∷ []) 0) ≡ record { outcome = Out
 unfolding computing
 budget-none = refl
 
--- 27: a place without a row, and a row that breaks a rule.
-pub no-row : summary (runOf (func 0 void 0 [] ([] ∷ [])) [] 3) .outcome ≡ Outcome.stopped 27
+-- A step that has no instruction to do stays and counts: at a place without a row, and at a row that is no instruction.
+pub no-row : summary (runOf (func 0 void 0 [] ([] ∷ [])) [] 3) ≡ record { outcome = Outcome.stopped 43; row = 0; steps = 3; registers = [] }
 unfolding computing
 no-row = refl
 
-pub broken-row : summary (runOf (func 0 void 0 (4 ∷ []) ((Row.load 1 0 1 ∷ Row.leave ∷ []) ∷ [])) [] 3) .outcome ≡ Outcome.stopped 27
+pub no-instruction :
+    summary (runOf (func 0 void 0 (4 ∷ []) ((Row.nop ∷ Row.unknown 36 ∷ Row.leave ∷ []) ∷ [])) [] 5)
+    ≡ record { outcome = Outcome.stopped 43; row = 1; steps = 5; registers = 0 ∷ [] }
 unfolding computing
-broken-row = refl
+no-instruction = refl

@@ -5,8 +5,8 @@ use mathlib.Core.List.{List, [], _∷_, _++_, map}
 use Prim.Native.Nat.{ℕ, zero, suc, _+_, _-_, _^_}
 use lib.Dec.{eqb, leb, ltb, T}
 use lib.ListN.{length, getD, take}
-use Rattle.laws.specs.Lists.{any, all, keep, position, empty, gather, together, below, member, same}
-use Rattle.language.specs.Instructions.{Form, formOf, formNumber, instructionCount, typeCount, loadType, width, uint, void}
+use Rattle.laws.specs.Lists.{any, all, keep, empty, gather, together, below, member, same}
+use Rattle.language.specs.Instructions.{formOf, formNumber, instructionCount, typeCount, loadType, width, uint, void}
 use Rattle.language.specs.Programs.{Row, Register, Block, Func, Program, maxFunctions, maxRegisters, maxBlocks, maxRows, maxEntries, isSsa, blockAt, rowsAt, typeAt, rowsOf, firstRow, rowPlace, isPhi, isTerminator, targetsOf, sourcesOf, entriesOf, namedBy, opOf, formIn, entryCount}
 use Rattle.language.specs.Names.{spelled}
 
@@ -146,7 +146,7 @@ unfoldable pub rowTests : Func → Spot → List Bool
 rowTests f s =
     breaks9 f s ∷ breaks10 f s ∷ breaks11 f s ∷ breaks12 f s ∷ breaks13 f s ∷ breaks14 f s ∷ breaks15 f s ∷ breaks16 f s ∷ []
 
--- "a row .. breaks 9 to 16": one test for the check and for stop 27.
+-- A row breaks one of 9 to 16: what is said of rows of an accepted function, in one test.
 unfoldable pub breaksRow : Func → Spot → Bool
 breaksRow f s = any (λ b. b) (rowTests f s)
 

@@ -3,11 +3,11 @@
 -- Assumes nothing.
 use mathlib.Core.Bool.{Bool, true, false, cond, _&&_}
 use mathlib.Core.List.{List, [], _∷_, map}
-use Prim.Native.Nat.{ℕ, zero, _+_, _*_}
+use Prim.Native.Nat.{ℕ, _+_, _*_}
 use lib.Dec.{eqb}
 use lib.ListN.{length, getD, take}
-use Rattle.laws.specs.Lists.{gather, sum, any, empty, same}
-use Rattle.language.specs.Instructions.{Form, formOf}
+use Rattle.laws.specs.Lists.{gather, sum, any, same}
+use Rattle.language.specs.Instructions.{Form, instructionCount}
 
 -- A row is an instruction with its numbers: registers and blocks by their place in the function's lists, an instruction
 -- (`op`) by its number where its form has several. `unknown` is a row whose number is no instruction's.
@@ -79,6 +79,10 @@ noBlock = record { name = []; rows = [] }
 
 abbrev pub noFunction : Func
 noFunction = record { name = []; ssa = 0; result = 0; params = 0; registers = []; blocks = []; entry = 0; placed = true }
+
+-- What stands at a place without a row: no instruction.
+abbrev pub noRow : Row
+noRow = Row.unknown instructionCount
 
 -- Function number i of a program.
 abbrev pub functionIn : Program → ℕ → Func

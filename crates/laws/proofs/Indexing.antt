@@ -185,6 +185,12 @@ module _ {A : Type 0} (p : A → Bool) where
       first true later = omega arith
       first false later = suc-le-suc later
 
+-- an element of a list is not its default
+pub getD-inside : {A : Type 0} (xs : List A) (i : ℕ) (d e : A) → i < length xs → getD xs i d ≡ getD xs i e
+getD-inside [] i d e l = absurd (not-suc-le-zero l)
+getD-inside (x ∷ xs) zero d e l = refl
+getD-inside (x ∷ xs) (suc i) d e l = getD-inside xs i d e (le-of-suc-le-suc l)
+
 -- an element of a list of numbers below n, or a default below n
 pub getD-lt : (n : ℕ) (xs : List ℕ) (i d : ℕ) → T (all (λ x. ltb x n) xs) → d < n → getD xs i d < n
 getD-lt n [] i d t h = h

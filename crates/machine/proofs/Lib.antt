@@ -5,7 +5,6 @@ pub mod Ranking
 pub mod PhiSteps
 pub mod Starting
 pub mod Values
-pub mod Testing
 pub mod Dispatch
 pub mod Midway
 pub mod Passing

@@ -3,7 +3,6 @@ mod phis;
 mod places;
 mod runs;
 mod starts;
-mod tests;
 
 pub use places::Outcome;
 pub use places::Place;

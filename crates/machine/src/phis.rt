@@ -6,7 +6,8 @@ ghost use lib.ListN.{length};
 ghost use Rattle.language.specs.Table.{blockCount, decodeFunction};
 ghost use Rattle.language.specs.Checking.{goesTo};
 ghost use Rattle.theorems.specs.Clean.{Clean};
-ghost use Rattle.rules.specs.Prepared.{Sized, Prepared, rankOf};
+ghost use Rattle.rules.specs.Prepared.{Sized, rankOf};
+ghost use Rattle.rules.specs.Preparing.{Flowed};
 ghost use Rattle.machine.specs.Phis.{Readable, Taken, written};
 use table::block_first;
 use table::block_rows;
@@ -25,7 +26,7 @@ fn wide(x: u16) -> usize
 // The place of block x among the predecessors of block b, which it goes to: prepared for each of the two blocks it may name.
 pub fn rank(t: &[u8], a: usize, m: &[u16], x: usize, b: usize) -> usize
     requires { ⌜ Sized (now t) a × Clean (decodeFunction (now t) a) ⌝ }
-    requires { ⌜ Prepared (decodeFunction (now t) a) (now m) ⌝ }
+    requires { ⌜ Flowed (decodeFunction (now t) a) (now m) (blockCount (now t) a) ⌝ }
     requires { ⌜ (x < blockCount (now t) a) × (goesTo (decodeFunction (now t) a) x b ≡ true) ⌝ }
     ensures { λ r. ⌜ r ≡ rankOf (decodeFunction (now (t .entry)) a) x b ⌝ }
 {

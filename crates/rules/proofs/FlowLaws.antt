@@ -1,19 +1,19 @@
 -- Blocks one by one: their leading phi, and the targets that their last rows name, counted.
 -- Assumes nothing.
 use mathlib.Core.Path.{_≡_, refl, sym, ap, _∙_, subst}
-use mathlib.Core.Bool.{Bool, true, false, cond, not, _||_, Bool·beq}
+use mathlib.Core.Bool.{Bool, true, false, cond, _||_, Bool·beq}
 use mathlib.Core.List.{List, [], _∷_, map}
 use Prim.Native.Nat.{ℕ, zero, suc, _+_, _-_, _*_, _≤_, _<_}
-use native.Mathlib.Nat.{add-zero, zero-add, zero-lt-suc, not-suc-le-zero, le-of-suc-le-suc}
+use native.Mathlib.Nat.{add-zero, not-suc-le-zero}
 use native.Mathlib.Numerals.{add-one}
 use native.Mathlib.Decide.{decLt}
 use native.Mathlib.Omega.{arith}
 use lib.Dec.{T, eqb}
-use borrow.Author.Tests.{eq-eqb, ne-eqb, eqb-true}
+use borrow.Author.Tests.{ne-eqb, eqb-true}
 use borrow.Author.Count.{below-more}
 use lib.ListN.{length, getD, set, length-set}
 use lib.Seq.{getD-set-same, getD-set-other}
-use Rattle.laws.specs.Lists.{all, below, from, keep, leading, member, position}
+use Rattle.laws.specs.Lists.{all, below, from, leading, member, position}
 use Rattle.laws.proofs.Indexing.{any-at, all-at, length-below}
 use Rattle.laws.proofs.Ranges.{length-map-from, getD-map-from}
 use Rattle.laws.proofs.Sums.{length-keeps}
@@ -25,8 +25,8 @@ use Rattle.language.specs.Table.{blockCount, blockFirst, blockRows, rowCount, r
 use Rattle.language.specs.Checking.{inRange, assignedIn, lastRow, goesTo, predecessors}
 use Rattle.theorems.proofs.TableView.{block-count, block-is, block-rows-count, block-row-is, row-is, row-count}
 use Rattle.theorems.proofs.AcceptanceRows.{range-parts}
-use Rattle.rules.specs.Prepared.{Sized, Prepared, assignedAt, homeOf, rankOf, leadingPhis, targetsFrom}
-use Rattle.rules.specs.Preparing.{Fit, Kept, Seen, never, since, Noted, Flowed, counted}
+use Rattle.rules.specs.Prepared.{Prepared, assignedAt, homeOf, rankOf, leadingPhis, targetsFrom}
+use Rattle.rules.specs.Preparing.{Fit, Kept, Seen, never, since, Noted, Flowed, Led, counted}
 use Rattle.rules.proofs.Counting.{length-counted, counted-other, counted-rank, counted-count}
 use Rattle.rules.proofs.Ends.{keep-below-suc}
 use Rattle.rules.proofs.Firsts.{position-at, any-nowhere, leading-to, leading-all}
@@ -204,78 +204,54 @@ module _ (t : List ℕ) (a : ℕ) (fit : Fit t a) (b : ℕ) (l : b < blockCount 
   few-blocks : blockCount t a ≤ 64
   few-blocks = fit .sized .blocks
 
-  module _ (m : List ℕ) (h : Flowed f m b) (lead : ℕ) where
-    -- with its leading phi stored
-    abbrev led : List ℕ
-    led = set m (576 + b) lead
-
-    led-other : (p : ℕ) → (p ≡ 576 + b → ⊥) → getD led p 0 ≡ getD m p 0
-    led-other p n = getD-set-other m (576 + b) p lead 0 n
-
+  module _ (m : List ℕ) (h : Flowed f m b) where
     small : Every (λ y. y < 64) (targetsFrom f b)
     small = every-imp (λ y q. let w : blockCount t a ≤ 64 = few-blocks in omega arith) target-blocks
 
     -- what is counted so far are ranks
-    pub ranks : (c : ℕ) → c < blockCount t a → getD led (512 + c) 0 ≡ rankOf f b c
-    ranks c q =
-        let w : blockCount t a ≤ 64 = few-blocks in
-        led-other (512 + c) (λ e. omega arith) ∙ h .incoming c (rw (block-count t a) q)
+    ranks : (c : ℕ) → c < blockCount t a → getD m (512 + c) 0 ≡ rankOf f b c
+    ranks c q = h .incoming c (rw (block-count t a) q)
 
-    pub ranks-small : (c : ℕ) → c < blockCount t a → getD led (512 + c) 0 < 64
+    ranks-small : (c : ℕ) → c < blockCount t a → getD m (512 + c) 0 < 64
     ranks-small c q = let w : blockCount t a ≤ 64 = few-blocks in omega (arith, ranks c q, rank-le f b c)
 
-    pub flow-more : lead ≡ leadingPhis f b → Flowed f (counted led led (640 + 2 * b) (targetsFrom f b)) (b + 1)
-    flow-more e =
+    flow-more : Flowed f (counted m m (640 + 2 * b) (targetsFrom f b)) (b + 1)
+    flow-more =
         let w : blockCount t a ≤ 64 = few-blocks in
-        let n : length led ≡ 768 = length-set m (576 + b) lead ∙ h .count in
+        let n : length m ≡ 768 = h .count in
         let ys : List ℕ = targetsFrom f b in
         let s : ℕ = 640 + 2 * b in
         let two : length ys ≤ 2 = named-few (lastRow (rowsAt f b)) in
         record {
-          count = length-counted led ys led s ∙ n;
+          count = length-counted m ys m s ∙ n;
           incoming =
               λ c q.
               let q′ : c < blockCount t a = rw (block-count t a) at q in
-              counted-count led ys led s c small (omega arith) (omega arith) (omega arith)
+              counted-count m ys m s c small (omega arith) (omega arith) (omega arith)
               ∙ ap (λ x. cond (member c ys) (x + 1) x) (ranks c q′)
               ∙ sym (rank-suc f b c);
-          phis =
-              below-more (λ x. getD (counted led led s ys) (576 + x) 0 ≡ leadingPhis f x) b
-              (λ x q.
-              counted-other led ys led s (576 + x) small (λ i r d. omega arith) (λ c r d. omega arith)
-              ∙ led-other (576 + x) (λ d. omega arith)
-              ∙ h .phis x q)
-              (counted-other led ys led s (576 + b) small (λ i r d. omega arith) (λ c r d. omega arith)
-              ∙ getD-set-same m (576 + b) lead 0 (omega (arith, h .count))
-              ∙ e);
           rank =
               λ y k q.
-              below-more (λ y. (k : ℕ) → k < length (targetsFrom f y) → getD (counted led led s ys) (640 + 2 * y + k) 0 ≡ rankOf f y (getD (targetsFrom f y) k 0)) b
+              below-more (λ y. (k : ℕ) → k < length (targetsFrom f y) → getD (counted m m s ys) (640 + 2 * y + k) 0 ≡ rankOf f y (getD (targetsFrom f y) k 0)) b
               (λ y q k r.
               let few : length (targetsFrom f y) ≤ 2 = named-few (lastRow (rowsAt f y)) in
-              counted-other led ys led s (640 + 2 * y + k) small (λ i z d. omega arith) (λ c z d. omega arith)
-              ∙ led-other (640 + 2 * y + k) (λ d. omega arith)
-              ∙ h .rank y k q r)
-              (λ k r.
-              counted-rank led ys led s k small r (omega arith) (omega arith) ∙ ranks (getD ys k 0) (every-at target-blocks 0 k r))
+              counted-other m ys m s (640 + 2 * y + k) small (λ i z d. omega arith) (λ c z d. omega arith) ∙ h .rank y k q r)
+              (λ k r. counted-rank m ys m s k small r (omega arith) (omega arith) ∙ ranks (getD ys k 0) (every-at target-blocks 0 k r))
               y q k;
         }
 
-    pub flow-kept : Kept 512 m (counted led led (640 + 2 * b) (targetsFrom f b))
+    flow-kept : Kept 512 m (counted m m (640 + 2 * b) (targetsFrom f b))
     flow-kept i q =
         let w : blockCount t a ≤ 64 = few-blocks in
-        counted-other led (targetsFrom f b) led (640 + 2 * b) i small (λ j r d. omega arith) (λ c r d. omega arith) ∙ led-other i (λ d. omega arith)
+        counted-other m (targetsFrom f b) m (640 + 2 * b) i small (λ j r d. omega arith) (λ c r d. omega arith)
 
     -- ---- the same of what the code has at hand
 
     module _ (first rows : ℕ) (p : first ≡ blockFirst t a b) (q : rows ≡ blockRows t a b) where
-      pub lead-is : lead ≡ length (leading isPhi (map (decodeRow t a) (from first rows))) → lead ≡ leadingPhis f b
-      lead-is e = e ∙ rw (p, q) (leading-is t a b l)
-
-      pub bare-more : rows ≡ 0 → lead ≡ length (leading isPhi (map (decodeRow t a) (from first rows))) → Flowed f led (b + 1) × Kept 512 m led
-      bare-more z e =
+      pub bare-more : rows ≡ 0 → Flowed f m (b + 1) × Kept 512 m m
+      bare-more z =
           let w : targetsFrom f b ≡ [] = no-rows-name (sym q ∙ z) in
-          (rw w at (flow-more (lead-is e)), rw w at flow-kept)
+          (rw w at flow-more, rw w at flow-kept)
 
       last-named : (rows ≡ 0 → ⊥) → targetsFrom f b ≡ namedBy (decodeRow t a (first + rows - 1))
       last-named z =
@@ -283,7 +259,7 @@ module _ (t : List ℕ) (a : ℕ) (fit : Fit t a) (b : ℕ) (l : b < blockCount 
           let d : first + rows - 1 ≡ blockFirst t a b + n = omega arith in
           last-names n (omega arith) ∙ ap (λ k. namedBy (decodeRow t a k)) (sym d)
 
-      pub named-small : (rows ≡ 0 → ⊥) → (y : ℕ) → T (member y (namedBy (decodeRow t a (first + rows - 1)))) → (y < 64) × (getD led (512 + y) 0 < 64)
+      pub named-small : (rows ≡ 0 → ⊥) → (y : ℕ) → T (member y (namedBy (decodeRow t a (first + rows - 1)))) → (y < 64) × (getD m (512 + y) 0 < 64)
       named-small z y r =
           let w : blockCount t a ≤ 64 = few-blocks in
           let c : y < blockCount t a = of-member (targetsFrom f b) y (rw (last-named z) r) target-blocks in
@@ -292,27 +268,53 @@ module _ (t : List ℕ) (a : ℕ) (fit : Fit t a) (b : ℕ) (l : b < blockCount 
       pub ended-more :
           (rows ≡ 0 → ⊥)
           → (m′ : List ℕ)
-          → lead ≡ length (leading isPhi (map (decodeRow t a) (from first rows)))
-          → m′ ≡ counted led led (640 + 2 * b) (namedBy (decodeRow t a (first + rows - 1)))
+          → m′ ≡ counted m m (640 + 2 * b) (namedBy (decodeRow t a (first + rows - 1)))
           → Flowed f m′ (b + 1) × Kept 512 m m′
-      ended-more z m′ e r =
-          let d : m′ ≡ counted led led (640 + 2 * b) (targetsFrom f b) = r ∙ ap (counted led led (640 + 2 * b)) (sym (last-named z)) in
-          (rw d (flow-more (lead-is e)), rw d flow-kept)
+      ended-more z m′ r =
+          let d : m′ ≡ counted m m (640 + 2 * b) (targetsFrom f b) = r ∙ ap (counted m m (640 + 2 * b)) (sym (last-named z)) in
+          (rw d flow-more, rw d flow-kept)
 
 -- ---- before the first block, and at the end
 
 pub none-flowed : (f : Func) (m : List ℕ) → length m ≡ 768 → length (f .blocks) ≤ 64 → ((c : ℕ) → c < 64 → getD m (512 + c) 0 ≡ 0) → Flowed f m 0
 unfolding rankOf
-none-flowed f m e l h =
+none-flowed f m e l h = record { count = e; incoming = λ c q. h c (omega arith); rank = λ y k q. absurd (not-suc-le-zero q) }
+
+-- ---- leading phi
+
+pub lead-is :
+    (t : List ℕ) (a b : ℕ) → b < blockCount t a → (first rows : ℕ) → first ≡ blockFirst t a b → rows ≡ blockRows t a b
+    → (v : ℕ)
+    → v ≡ length (leading isPhi (map (decodeRow t a) (from first rows)))
+    → v ≡ leadingPhis (decodeFunction t a) b
+lead-is t a b l first rows p q v e = e ∙ rw (p, q) (leading-is t a b l)
+
+pub none-led : (f : Func) (m : List ℕ) → Led f m m 0
+none-led f m = record { count = refl; phis = λ b q. absurd (not-suc-le-zero q); before = λ i q. refl; after = λ i. refl }
+
+-- one block more
+pub led-more :
+    (f : Func) (m m′ : List ℕ) (b v : ℕ)
+    → length m ≡ 768
+    → b < 64
+    → v ≡ leadingPhis f b
+    → Led f m m′ b
+    → Led f m (set m′ (576 + b) v) (b + 1)
+led-more f m m′ b v n l e h =
     record {
-      count = e;
-      incoming = λ c q. h c (omega arith);
-      phis = λ c q. absurd (not-suc-le-zero q);
-      rank = λ y k q. absurd (not-suc-le-zero q);
+      count = length-set m′ (576 + b) v ∙ h .count;
+      phis =
+          below-more (λ x. getD (set m′ (576 + b) v) (576 + x) 0 ≡ leadingPhis f x) b
+          (λ x q. getD-set-other m′ (576 + b) (576 + x) v 0 (λ d. omega arith) ∙ h .phis x q)
+          (getD-set-same m′ (576 + b) v 0 (omega (arith, h .count)) ∙ e);
+      before = λ i q. getD-set-other m′ (576 + b) i v 0 (λ d. omega arith) ∙ h .before i q;
+      after = λ i. getD-set-other m′ (576 + b) (640 + i) v 0 (λ d. omega arith) ∙ h .after i;
     }
 
--- the rows noted and the blocks counted are all that is to be prepared
-module _ (f : Func) (m m′ : List ℕ) (noted : Noted f m (length (rowsOf f))) (flowed : Flowed f m′ (length (f .blocks))) (kept : Kept 512 m m′) where
+-- the rows noted, the blocks counted and their leading phi are all that is to be prepared
+module _
+    (f : Func) (few : length (f .blocks) ≤ 64) (m m′ m″ : List ℕ)
+    (noted : Noted f m (length (rowsOf f))) (flowed : Flowed f m′ (length (f .blocks))) (kept : Kept 512 m m′) (led : Led f m′ m″ (length (f .blocks))) where
   first-of : (u : ℕ) → Seen f m (length (rowsOf f)) u → getD m u 0 ≡ assignedAt f u
   unfolding assignedAt assignedIn
   first-of u (never e h) = e ∙ sym (ap (λ b. cond b (suc (position (λ r. member u (targetsOf r)) (rowsOf f))) 0) (any-nowhere (λ r. member u (targetsOf r)) (rowsOf f) Row.nop h))
@@ -327,14 +329,17 @@ module _ (f : Func) (m m′ : List ℕ) (noted : Noted f m (length (rowsOf f))) 
   home-of u (never e h) q = absurd (subst T (any-nowhere (λ r. member u (targetsOf r)) (rowsOf f) Row.nop h) q)
   home-of u (since i l e w y h) q = w
 
-  pub all-prepared : Prepared f m′
+  pub all-prepared : Prepared f m″
   unfolding rankOf predecessors
   all-prepared =
       record {
-        count = flowed .count;
-        assigned = λ u l. kept u (omega arith) ∙ first-of u (noted .seen u l);
-        home = λ u l q. kept (256 + u) (omega arith) ∙ home-of u (noted .seen u l) q;
-        incoming = λ c l. flowed .incoming c l;
-        phis = λ c l. flowed .phis c l;
-        rank = λ x k l q. flowed .rank x k l q;
+        count = led .count ∙ flowed .count;
+        assigned = λ u l. led .before u (omega arith) ∙ kept u (omega arith) ∙ first-of u (noted .seen u l);
+        home = λ u l q. led .before (256 + u) (omega arith) ∙ kept (256 + u) (omega arith) ∙ home-of u (noted .seen u l) q;
+        incoming = λ c l. led .before (512 + c) (omega arith) ∙ flowed .incoming c l;
+        phis = λ c l. led .phis c l;
+        rank =
+            λ x k l q.
+            let e : 640 + 2 * x + k ≡ 640 + (2 * x + k) = omega arith in
+            ap (λ (n : ℕ). getD m″ n 0) e ∙ led .after (2 * x + k) ∙ ap (λ (n : ℕ). getD m′ n 0) (sym e) ∙ flowed .rank x k l q;
       }

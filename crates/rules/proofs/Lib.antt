@@ -10,5 +10,4 @@ pub mod Images
 pub mod NotingLaws
 pub mod RangeLaws
 pub mod Standing
-pub mod TestLaws
 pub mod WholeRow

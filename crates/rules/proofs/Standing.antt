@@ -1,26 +1,28 @@
 -- Rows of a function whose sizes are within the limits: where they stand in it, and that their cells may be looked at.
 -- Assumes nothing.
-use mathlib.Core.Path.{_≡_, refl, sym, ap, _∙_}
+use mathlib.Core.Path.{_≡_, sym, ap}
 use mathlib.Core.Bool.{cond}
-use mathlib.Core.List.{List, map}
+use mathlib.Core.List.{List}
 use Prim.Native.Nat.{ℕ, _+_, _≤_, _<_}
 use native.Mathlib.Omega.{arith}
-use lib.Dec.{eqb}
 use lib.ListN.{length, getD}
 use borrow.Author.Tests.{eq-eqb}
-use Rattle.laws.specs.Lists.{below, sum}
 use Rattle.laws.proofs.Sums.{sum-below-le}
 use Rattle.language.specs.Programs.{Row, rowsAt, rowsOf}
-use Rattle.language.specs.Table.{blockCount, blockFirst, blockRows, rowCount, rowsBefore, rowOp, rowEntries, entriesBefore, phiFirst, phiCount, decodeRow, decodeFunction}
-use Rattle.language.specs.Checking.{Spot, spotAt, rowNumber}
+use Rattle.language.specs.Table.{blockCount, blockFirst, blockRows, rowCount, rowOp, rowEntries, entriesBefore, phiFirst, phiCount, decodeRow, decodeFunction}
+use Rattle.language.specs.Checking.{spotAt, rowNumber}
 use Rattle.theorems.proofs.TableView.{block-first-is, block-row-is, phi-first-is, first-row-is, row-is, row-count}
-use Rattle.rules.specs.Prepared.{Sized, Prepared}
+use Rattle.rules.specs.Prepared.{Sized}
 use Rattle.rules.specs.Cells.{Stands, spot}
 
 module _ (t : List ℕ) (a : ℕ) (h : Sized t a) where
   -- the rows of a block are rows of the function
   pub block-within : (b : ℕ) → b < blockCount t a → blockFirst t a b + blockRows t a b ≤ rowCount t a
   block-within b l = rw (block-first-is t a (h .placed) b l) (sum-below-le (blockRows t a) b (blockCount t a) l)
+
+  -- and among the 1,024
+  pub block-limit : (b first rows : ℕ) → b < blockCount t a → first ≡ blockFirst t a b → rows ≡ blockRows t a b → first + rows ≤ 1024
+  block-limit b first rows l p q = omega (arith, block-within b l, h .rows)
 
   pub row-within : (b j : ℕ) → b < blockCount t a → j < blockRows t a b → blockFirst t a b + j < rowCount t a
   row-within b j l m = omega (arith, block-within b l)

@@ -1,29 +1,27 @@
--- The whole test of a row, put together: by its form, then 10, then 9.
+-- The whole test of a row, put together: by its form, then 10.
 -- Assumes nothing.
-use mathlib.Core.Path.{_≡_, refl, sym, ap, ap₂, _∙_, subst}
-use mathlib.Core.Bool.{Bool, true, false, cond, not, Bool·beq, false≢true}
+use mathlib.Core.Path.{_≡_, refl, sym, ap, _∙_, subst}
+use mathlib.Core.Bool.{Bool, true, false, cond, not, Bool·beq}
 use mathlib.Core.List.{List, [], _∷_}
-use Prim.Native.Nat.{ℕ, suc, _+_, _≤_, _<_}
+use Prim.Native.Nat.{ℕ, _+_, _<_}
 use native.Mathlib.Decide.{decLt}
 use native.Mathlib.Numerals.{add-one}
 use native.Mathlib.Omega.{arith}
 use lib.Dec.{T, eqb, leb}
-use lib.ListN.{length}
 use Rattle.laws.specs.Lists.{all, below}
 use Rattle.laws.proofs.Matches.{None, past}
 use Rattle.laws.proofs.Tests.{beq-eq, of-true}
 use Rattle.language.specs.Instructions.{Form, formOf, formNumber, uint, void}
-use Rattle.language.specs.Programs.{Func, Row, rowsAt, isTerminator}
+use Rattle.language.specs.Programs.{Func, Row, isTerminator}
 use Rattle.language.specs.Table.{functionResult, registerType, blockRows, rowOp, rowLeft, decodeAs, decodeRow, decodeFunction}
 use Rattle.language.specs.Checking.{Spot, spotAt, inRange, breaks10}
 use Rattle.theorems.proofs.TableView.{block-rows-count}
-use Rattle.rules.specs.Tests.{lowest, laterTests, formFault, rowFault}
+use Rattle.rules.specs.Tests.{lowest, laterTests, formFault}
 use Rattle.rules.specs.Cells.{Stands, Judged, spot, unset}
-use Rattle.rules.proofs.Forms.{each, form-is, form-past, unknown-past}
+use Rattle.rules.proofs.Forms.{each, form-past, unknown-past}
 use Rattle.rules.proofs.RangeLaws.{row-form, unknown-range}
 use Rattle.rules.proofs.FaultForms.{nop-judged, jump-judged, branch-judged, return-judged, leave-judged}
 use Rattle.rules.proofs.Standing.{spot-here}
-use Rattle.rules.proofs.TestLaws.{form-fault, row-fault}
 
 -- ---- 11 to 16, by the form
 
@@ -120,6 +118,11 @@ module _ (t : List ℕ) (a k : ℕ) (n : T (inRange (decodeFunction t a) (decode
       ends-as (formOf (rowOp t a k)) t a k
       ∙ beq-eq (ends (formOf (rowOp t a k))) (leb 32 (rowOp t a k)) (of-true _ (each (λ op. Bool·beq (ends (formOf op)) (leb 32 op)) terminators (rowOp t a k) known-op))
 
+-- 10 first, then the later ones
+form-fault : (f : Func) (s : Spot) → formFault f s ≡ cond (breaks10 f s) 10 (lowest 11 (laterTests f s))
+unfolding formFault laterTests
+form-fault f s = refl
+
 module _ (t : List ℕ) (a : ℕ) (m : List ℕ) (b j k : ℕ) (h : Stands t a m b j k) where
   abbrev f : Func
   f = decodeFunction t a
@@ -135,18 +138,3 @@ module _ (t : List ℕ) (a : ℕ) (m : List ℕ) (b j k : ℕ) (h : Stands t a m
 
     pub form-later : (v : ℕ) → r ≡ false → v ≡ lowest 11 (laterTests f (spot b j (decodeRow t a k))) → v ≡ formFault f (spotAt f b j)
     form-later v e p = rw (spot-here t a m b j k h, form-fault f (spot b j (decodeRow t a k)), ← ended-is, e) p
-
-  -- ---- 9
-
-  module _ (r : Bool) (tested : r ≡ inRange f (decodeRow t a k)) where
-    here : inRange f (spotAt f b j .row) ≡ r
-    here = ap (λ s. inRange f (s .row)) (spot-here t a m b j k h) ∙ sym tested
-
-    pub row-9 : r ≡ false → 9 ≡ rowFault f (spotAt f b j)
-    row-9 e = rw (row-fault f (spotAt f b j), here, e)
-
-    pub row-ranged : r ≡ true → T (inRange f (decodeRow t a k))
-    row-ranged e = of-true _ (sym tested ∙ e)
-
-    pub row-form-fault : (v : ℕ) → r ≡ true → v ≡ formFault f (spotAt f b j) → v ≡ rowFault f (spotAt f b j)
-    row-form-fault v e p = rw (row-fault f (spotAt f b j), here, e) p

@@ -3,7 +3,7 @@
 use mathlib.Core.Bool.{Bool, true, false, cond}
 use mathlib.Core.Path.{_≡_}
 use mathlib.Core.List.{List, [], _∷_}
-use Prim.Native.Nat.{ℕ, suc, _+_, _*_, _<_, _≤_}
+use Prim.Native.Nat.{ℕ, suc, _+_, _*_, _<_}
 use lib.Dec.{T, eqb}
 use lib.ListN.{length, getD, set}
 use Rattle.laws.specs.Lists.{all, member}
@@ -70,6 +70,12 @@ counted m₀ m s (y ∷ ys) =
 pub record Flowed (f : Func) (m : List ℕ) (x : ℕ) : Type 0 where
   pub count : length m ≡ 768
   pub incoming : (b : ℕ) → b < length (f .blocks) → getD m (512 + b) 0 ≡ rankOf f x b
-  pub phis : (b : ℕ) → b < x → getD m (576 + b) 0 ≡ leadingPhis f b
   pub rank :
       (y k : ℕ) → y < x → k < length (targetsFrom f y) → getD m (640 + 2 * y + k) 0 ≡ rankOf f y (getD (targetsFrom f y) k 0)
+
+-- The leading phi of the first x blocks are put into m, which becomes m′, and nothing else changes.
+pub record Led (f : Func) (m m′ : List ℕ) (x : ℕ) : Type 0 where
+  pub count : length m′ ≡ length m
+  pub phis : (b : ℕ) → b < x → getD m′ (576 + b) 0 ≡ leadingPhis f b
+  pub before : Kept 576 m m′
+  pub after : (i : ℕ) → getD m′ (640 + i) 0 ≡ getD m (640 + i) 0

@@ -1,4 +1,4 @@
-// 10 to 16 of a row whose numbers are in their ranges, and 9 to 16 of any row. What a test would have to scan the function for is
+// 10 to 16 of a row whose numbers are in their ranges. What a test would have to scan the function for is
 // prepared (`prepare`): the first row that assigns a register, a block's leading phi, its number of predecessors.
 ghost use mathlib.Core.Path.{_≡_};
 ghost use mathlib.Core.Bool.{false, not, _&&_, _||_, Bool·beq};
@@ -10,12 +10,10 @@ ghost use Rattle.laws.specs.Lists.{all, from};
 ghost use Rattle.language.specs.Instructions.{Form, void};
 ghost use Rattle.language.specs.Table.{functionEntry, functionResult, registerType, rowOp, rowLeft, phiFirst, phiCount, phiEntry, decodeAs, decodeRow, decodeFunction};
 ghost use Rattle.language.specs.Checking.{inRange, spotAt};
-ghost use Rattle.rules.specs.Tests.{lowest, laterTests, formFault, rowFault};
+ghost use Rattle.rules.specs.Tests.{lowest, laterTests, formFault};
 ghost use Rattle.rules.specs.Cells.{Stands, Judged, spot, retaken as retakenBy, unset as unsetBy, binaryTyped};
 use crate::ranges::form_of;
-use crate::ranges::in_range;
 use instructions::load_type;
-use table::block_count;
 use table::block_rows;
 use table::function_entry;
 use table::function_params;
@@ -24,7 +22,6 @@ use table::function_ssa;
 use table::phi_count;
 use table::phi_entry;
 use table::phi_first;
-use table::register_count;
 use table::register_type;
 use table::row_left;
 use table::row_op;
@@ -281,15 +278,4 @@ pub fn form_fault(t: &[u8], a: usize, m: &[u16], b: usize, j: usize, k: usize) -
         return 10;
     }
     later_fault(t, a, m, b, j, k, op)
-}
-
-// The lowest of 9 to 16 that it breaks, or 0: the test of one row, for the check and for stop 27.
-pub fn row_fault(t: &[u8], a: usize, m: &[u16], b: usize, j: usize, k: usize) -> u8
-    requires { ⌜ Stands (now t) a (now m) b j k ⌝ }
-    ensures { λ r. ⌜ r ≡ rowFault (decodeFunction (now (t .entry)) a) (spotAt (decodeFunction (now (t .entry)) a) b j) ⌝ }
-{
-    if in_range(t, a, register_count(t, a), block_count(t, a), k) {
-        return form_fault(t, a, m, b, j, k);
-    }
-    9
 }

@@ -8,7 +8,7 @@ ghost use Rattle.laws.specs.Lists.{from, leading, member};
 ghost use Rattle.language.specs.Programs.{isPhi, targetsOf, namedBy};
 ghost use Rattle.language.specs.Table.{blockCount, blockFirst, blockRows, rowCount, decodeRow, decodeFunction};
 ghost use Rattle.rules.specs.Prepared.{Prepared};
-ghost use Rattle.rules.specs.Preparing.{Fit, Cleared, Noted, noted, notedAll, counted, Flowed, Kept};
+ghost use Rattle.rules.specs.Preparing.{Fit, Cleared, Noted, noted, notedAll, counted, Flowed, Led, Kept};
 use crate::faults::at;
 use table::block_count;
 use table::block_first;
@@ -134,22 +134,21 @@ fn count_targets(t: &[u8], a: usize, m: &mut [u16], s: usize, k: usize)
     count(m, s + 1, y, o);
 }
 
-// Block b's leading phi and targets.
+// The blocks that block b goes to are counted.
 fn flow_block(t: &[u8], a: usize, m: &mut [u16], b: usize)
     requires { ⌜ Fit (now t) a × (b < blockCount (now t) a) × Flowed (decodeFunction (now t) a) (now m) b ⌝ }
     ensures { λ _. ⌜ Flowed (decodeFunction (now (t .entry)) a) (now (m .exit)) (b + 1) × Kept 512 (now (m .entry)) (now (m .exit)) ⌝ }
 {
     let first = block_first(t, a, b);
     let rows = block_rows(t, a, b);
-    m[576 + b] = leading_phis(t, a, first, rows) as u16;
     if rows == 0 {
         return;
     }
     count_targets(t, a, m, 640 + 2 * b, first + rows - 1);
 }
 
-// The predecessors of each block, counted.
-fn flow(t: &[u8], a: usize, m: &mut [u16])
+// The predecessors of each block, counted, and each block's rank among those it goes to: all that a run needs, whatever stood in m before.
+pub fn flow(t: &[u8], a: usize, m: &mut [u16])
     requires { ⌜ Fit (now t) a × (length (now m) ≡ 768) ⌝ }
     ensures { λ _. ⌜ Flowed (decodeFunction (now (t .entry)) a) (now (m .exit)) (blockCount (now (t .entry)) a) × Kept 512 (now (m .entry)) (now (m .exit)) ⌝ }
 {
@@ -162,6 +161,21 @@ fn flow(t: &[u8], a: usize, m: &mut [u16])
     }
 }
 
+// The leading phi of each block.
+fn lead(t: &[u8], a: usize, m: &mut [u16])
+    requires { ⌜ Fit (now t) a × (length (now m) ≡ 768) ⌝ }
+    ensures { λ _. ⌜ Led (decodeFunction (now (t .entry)) a) (now (m .entry)) (now (m .exit)) (blockCount (now (t .entry)) a) ⌝ }
+{
+    let blocks = block_count(t, a);
+    let mut b = 0;
+    while b < blocks {
+        let first = block_first(t, a, b);
+        let rows = block_rows(t, a, b);
+        m[576 + b] = leading_phis(t, a, first, rows) as u16;
+        b += 1;
+    }
+}
+
 // All that the tests of a function's rows need, whatever stood in m before.
 pub fn prepare(t: &[u8], a: usize, m: &mut [u16])
     requires { ⌜ Fit (now t) a × (length (now m) ≡ 768) ⌝ }
@@ -169,4 +183,5 @@ pub fn prepare(t: &[u8], a: usize, m: &mut [u16])
 {
     assignments(t, a, m);
     flow(t, a, m);
+    lead(t, a, m);
 }

@@ -6,7 +6,7 @@ use mathlib.Core.List.{List, [], _∷_, _++_}
 use Prim.Native.Nat.{ℕ, zero, suc, _<_, suc-le-suc}
 use native.Mathlib.Nat.{not-suc-le-zero, le-of-suc-le-suc, zero-lt-suc}
 use native.Mathlib.Omega.{arith}
-use borrow.Author.Tests.{ne-eqb}
+use borrow.Author.Tests.{ne-eqb, not-true}
 use lib.Dec.{T, eqb, ltb, ltb→lt, eqb→eq, eqb·suc-suc, not-T}
 use lib.Ieee.Bits.{is-true}
 use lib.Ieee.Fits.{and-l, and-r, and-i}
@@ -75,11 +75,13 @@ known-forms : T (all (λ n. not (eqb (formNumber (formOf n)) 9)) (below 36))
 unfolding formOf
 known-forms = tt
 
-known-form : (op : ℕ) → op < 36 → T (not (eqb (formNumber (formOf op)) 9))
-known-form op h = every-below-at 36 (every-all (λ n. not (eqb (formNumber (formOf n)) 9)) (below 36) known-forms) op h
+known-form : (op : ℕ) → op < 36 → eqb (formNumber (formOf op)) 9 ≡ false
+known-form op h =
+    let passes = every-below-at 36 (every-all (λ n. not (eqb (formNumber (formOf n)) 9)) (below 36) known-forms) op h in
+    not-true (eqb (formNumber (formOf op)) 9) (is-true (not (eqb (formNumber (formOf op)) 9)) passes)
 
 pub no-unknown : (op : ℕ) → op < 36 → formOf op ≡ Form.unknown → ⊥
-no-unknown op h e = subst (λ (g : Form). T (not (eqb (formNumber g) 9))) e (known-form op h)
+no-unknown op h e = true≢false (sym (ap (λ (g : Form). eqb (formNumber g) 9) e) ∙ known-form op h)
 
 pub record InRange (f : Func) (r : Row) : Type 0 where
   pub shape : T (shaped r)
@@ -219,11 +221,8 @@ unfolding shaped
 unknown-out f op h =
     let form = eqb (formNumber (formOf op)) 9 in
     let s : T (ltb op instructionCount && form) = range-parts f (Row.unknown op) h .shape in
-    T-not-both form (and-r (ltb op instructionCount) form s) (known-form op (ltb→lt op instructionCount (and-l (ltb op instructionCount) form s)))
-  where
-    T-not-both : (b : Bool) → T b → T (not b) → ⊥
-    T-not-both true x y = y
-    T-not-both false x y = x
+    let l = ltb→lt op instructionCount (and-l (ltb op instructionCount) form s) in
+    subst T (known-form op l) (and-r (ltb op instructionCount) form s)
 
 -- A row of block y, by 9, 11 and 15.
 pub record Source (f : Func) (y : ℕ) (r : Row) : Type 0 where

@@ -36,7 +36,7 @@ pub mod ReadMoves
 pub mod ReadFits
 pub mod Turn
 pub mod Values
-pub mod Never27
+pub mod NeverStuck
 pub mod WritingTokens
 pub mod WritingStates
 pub mod WritingDeclared

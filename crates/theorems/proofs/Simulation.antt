@@ -91,14 +91,14 @@ formula-le (suc n) f p g =
 
 -- ---- the run
 
-module _ (f : Func) (c : Clean f) (ct : Clean (translation f)) where
+module _ (f : Func) (c : Clean f) where
   -- "Each instruction .. is one step": one of the source's, matched
   step-matched :
       (p : Place) (g : List ℕ) (q : Place) (h : List ℕ) (d : ℕ)
       → Related f p g q h d
       → Matched f (rowHere f p) q h d (step f p g)
-  step-matched p g q h d (Related.level v e) = rw e (level-step f c ct p g q h v)
-  step-matched p g q h d (Related.crossing v e) = rw e (crossing-step f c ct p g q h v)
+  step-matched p g q h d (Related.level v e) = rw e (level-step f c p g q h v)
+  step-matched p g q h d (Related.crossing v e) = rw e (crossing-step f c p g q h v)
 
   -- the steps owed do not end the run
   owed-run :
@@ -106,7 +106,7 @@ module _ (f : Func) (c : Clean f) (ct : Clean (translation f)) where
       → Related f p g q h d
       → (q' : Place) × (h' : List ℕ) × Goes (translation f) q h d q' h'
   owed-run {q = q} {h = h} (Related.level v e) = (q, h, rw e Goes.here)
-  owed-run {p} {q} {g} {h} (Related.crossing v e) = rw e (crossing-owed f c ct p g q h v)
+  owed-run {p} {q} {g} {h} (Related.crossing v e) = rw e (crossing-owed f c p g q h v)
 
   -- As long as the source's run goes on, the translation's meets it.
   follows :
@@ -154,7 +154,7 @@ module _ (f : Func) (c : Clean f) (ct : Clean (translation f)) where
 
 -- ---- demand 3
 
-module _ (f : Func) (args : List ℕ) (c : Clean f) (ct : Clean (translation f)) (fit : T (argumentsFit f args)) where
+module _ (f : Func) (args : List ℕ) (c : Clean f) (fit : T (argumentsFit f args)) where
   args-known : length args ≤ length (f .registers)
   unfolding argumentsFit
   args-known =
@@ -181,7 +181,7 @@ module _ (f : Func) (args : List ℕ) (c : Clean f) (ct : Clean (translation f))
   unfolding stepFormula formula
   sim-ends n o e =
       let s = ends-stops f args e in
-      let t = stops-follow f c ct (start (translation f)) (startRegisters (translation f) args) start-related (s .2) in
+      let t = stops-follow f c (start (translation f)) (startRegisters (translation f) args) start-related (s .2) in
       rw (s .1, ← (t .1)) (stops-ends (translation f) args (t .2))
 
   -- "if the source has not ended after n steps, the translation has not ended after n steps either"
@@ -189,8 +189,8 @@ module _ (f : Func) (args : List ℕ) (c : Clean f) (ct : Clean (translation f))
   unfolding runOf formula
   sim-notEnded n e =
       let w = after-goes n f (start f) (startRegisters f args) (e .place) (e .registers) (e .run) in
-      let a = follows f c ct (start (translation f)) (startRegisters (translation f) args) 0 w start-related in
-      let all = goes-more (a .goes) (owed-run f c ct (a .related) .2) in
+      let a = follows f c (start (translation f)) (startRegisters (translation f) args) 0 w start-related in
+      let all = goes-more (a .goes) (owed-run f c (a .related) .2) in
       let r = goes-less n (omega (arith, a .count)) all in
       record { place = r .0; registers = r .1; run = goes-after (r .2) }
 

@@ -13,13 +13,13 @@ use lib.Seq.{sets, length-sets, append-snoc, getD-append-seam, getD-append-add, 
 use Rattle.laws.specs.Lists.{together, from}
 use Rattle.laws.proofs.Indexing.{length-together-from, set-append-add, drop-sets, getD-of-drop, drop-of-drop}
 use Rattle.language.specs.Arithmetic.{unaryOf}
-use Rattle.language.specs.Programs.{Row, Func, rowsAt, hasPhi}
+use Rattle.language.specs.Programs.{Row, Func, noRow, rowsAt, hasPhi}
 use Rattle.language.specs.Checking.{predecessors}
 use Rattle.language.specs.Running.{Place, Next, onward, valueAt, phisOf, phiTarget, entryAt, writeAll, perform, step, rowHere}
 use Rattle.language.specs.Translating.{copyRow, edgeRows, translation, newRegister, pairsBefore, phisBefore, phiCount}
 use Rattle.theorems.specs.Clean.{Clean}
 use Rattle.theorems.proofs.SimulationRuns.{Goes, goes-one, goes-more}
-use Rattle.theorems.proofs.SimulationRows.{step-row, phi-target, phi-entry}
+use Rattle.theorems.proofs.SimulationRows.{phi-target, phi-entry}
 use Rattle.theorems.proofs.SimulationBlocks.{edge-rows, phis-fit}
 
 -- The translation's registers h are the source's g, and the new ones after them.
@@ -58,17 +58,15 @@ copied to of [] ps h = h
 copied to of (m ∷ ms) [] h = h
 copied to of (m ∷ ms) (r ∷ ps) h = copied to of ms ps (set h (to m r) (valueAt h (of m r)))
 
-module _ (t : Func) (c : Clean t) where
+module _ (t : Func) where
   -- the row that stands at a seam is performed
   step-at :
       (q : Place) (h : List ℕ) (done : List Row) (r : Row) (rest : List Row)
       → rowsAt t (q .block) ≡ done ++ r ∷ rest
       → q .row ≡ length done
       → step t q h ≡ perform t q h r
-  unfolding rowHere
-  step-at q h done r rest e i =
-      let l : q .row < length (rowsAt t (q .block)) = rw (e, i, length-append) (omega arith) in
-      step-row t c q h l ∙ ap (perform t q h) (rw (e, i) (getD-append-seam done r rest Row.nop))
+  unfolding step rowHere
+  step-at q h done r rest e i = ap (perform t q h) (rw (e, i) (getD-append-seam done r rest noRow))
 
   -- a copy
   copy-step : (q : Place) (h : List ℕ) (a b : ℕ) → perform t q h (copyRow a b) ≡ onward q (set h a (valueAt h b))
@@ -76,16 +74,16 @@ module _ (t : Func) (c : Clean t) where
   copy-step q h a b = refl
 
   -- no copy
-  stay : (q : Place) (h : List ℕ) (j : ℕ) → q .row ≡ j → Reaches t q h 0 (q .block) (j + 0) h
-  stay q h j i = record { place = q; goes = Goes.here; block = refl; row = i ∙ sym (add-zero j) }
+  copied-none : (q : Place) (h : List ℕ) (j : ℕ) → q .row ≡ j → Reaches t q h 0 (q .block) (j + 0) h
+  copied-none q h j i = record { place = q; goes = Goes.here; block = refl; row = i ∙ sym (add-zero j) }
 
   copies-run :
       (to of : ℕ → Row → ℕ) (ms : List ℕ) (ps done tail : List Row) (q : Place) (h : List ℕ)
       → rowsAt t (q .block) ≡ done ++ (copiesOf to of ms ps ++ tail)
       → q .row ≡ length done
       → (let n = length (copiesOf to of ms ps) in Reaches t q h n (q .block) (length done + n) (copied to of ms ps h))
-  copies-run to of [] ps done tail q h e i = stay q h (length done) i
-  copies-run to of (m ∷ ms) [] done tail q h e i = stay q h (length done) i
+  copies-run to of [] ps done tail q h e i = copied-none q h (length done) i
+  copies-run to of (m ∷ ms) [] done tail q h e i = copied-none q h (length done) i
   copies-run to of (m ∷ ms) (r ∷ ps) done tail q h e i =
       let x = copyRow (to m r) (of m r) in
       let rest = copiesOf to of ms ps ++ tail in
@@ -167,7 +165,7 @@ length-writeAll old k g (r ∷ ps) =
 abbrev pub edgeLength : Func → ℕ → ℕ
 edgeLength f y = 2 * length (phisOf (rowsAt f y)) + 1
 
-module _ (f : Func) (c : Clean f) (ct : Clean (translation f)) (y k : ℕ) (l : y < length (f .blocks)) where
+module _ (f : Func) (c : Clean f) (y k : ℕ) (l : y < length (f .blocks)) where
   abbrev ps : List Row
   ps = phisOf (rowsAt f y)
 
@@ -198,11 +196,11 @@ module _ (f : Func) (c : Clean f) (ct : Clean (translation f)) (y k : ℕ) (l : 
       let j = Row.jump y ∷ [] in
       let h' = movedIn k ms ps h in
       let e' : rowsAt t (q .block) ≡ ins ++ outs ++ j = e ∙ sym (append-assoc ins outs j) in
-      reaches-more (copies-run t ct (λ m r. m) (λ m r. entryAt k r) ms ps [] (outs ++ j) q h e i)
+      reaches-more (copies-run t (λ m r. m) (λ m r. entryAt k r) ms ps [] (outs ++ j) q h e i)
       λ u b a.
-      reaches-more (copies-run t ct (λ m r. phiTarget r) (λ m r. m) ms ps ins j u h' (rw b e) (a ∙ zero-add (length ins)))
+      reaches-more (copies-run t (λ m r. phiTarget r) (λ m r. m) ms ps ins j u h' (rw b e) (a ∙ zero-add (length ins)))
       λ u' b' a'.
-      jump-run t ct y (ins ++ outs) [] u' (movedOut ms ps h') (rw (b', b) e') (a' ∙ sym (length-append ins outs))
+      jump-run t y (ins ++ outs) [] u' (movedOut ms ps h') (rw (b', b) e') (a' ∙ sym (length-append ins outs))
 
   -- what they do to the registers
   moved :

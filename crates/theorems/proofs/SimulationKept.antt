@@ -19,7 +19,8 @@ use Rattle.language.specs.Running.{Place, Outcome, Next, onward, enter, valueAt
 use Rattle.language.specs.Translating.{keptOf, retarget, retargeted, edgeOf, translation}
 use Rattle.theorems.specs.Clean.{Clean}
 use Rattle.theorems.proofs.SimulationRuns.{goes-one}
-use Rattle.theorems.proofs.SimulationRows.{rowOf, in-range, rows-count, kept-at, kept-is, more-rows, last-row, step-row, targets-known, sources-known, named-known, first-lt, second-lt}
+use Rattle.theorems.proofs.AcceptanceRows.{unknown-out}
+use Rattle.theorems.proofs.SimulationRows.{rowOf, in-range, rows-count, kept-at, kept-is, more-rows, last-row, rowHere-is, targets-known, sources-known, named-known, first-lt, second-lt}
 use Rattle.theorems.proofs.SimulationBlocks.{kept-rows, type-kept}
 use Rattle.theorems.proofs.SimulationEdges.{Beside}
 use Rattle.theorems.proofs.SimulationRelation.{Level, Crossing, Related, Matched, cost, nextRow, entered}
@@ -211,12 +212,12 @@ module _ (f : Func) (c : Clean f) (p : Place) (g : List ℕ) (q : Place) (h : Li
       let s' = s ∙ ap (λ (x : ℕ). Next.end (Outcome.returned x)) (value-same (v .beside) a la) in
       record { plain = n; none = refl; stop = s' }
   perform-matched Row.leave n t more last s = record { plain = n; none = refl; stop = s }
-  perform-matched (Row.unknown op) n t more last s = record { plain = n; none = refl; stop = s }
+  perform-matched (Row.unknown op) n t more last s = absurd (unknown-out f op t)
 
 -- ---- the rows of both runs
 
 module _
-    (f : Func) (c : Clean f) (ct : Clean (translation f))
+    (f : Func) (c : Clean f)
     (p : Place) (g : List ℕ) (q : Place) (h : List ℕ) (v : Level f p g q h) where
   abbrev kept : List Row
   kept = keptOf (rowsAt f (p .block))
@@ -241,22 +242,19 @@ module _
   rows-there = ap (rowsAt (translation f)) (v .block) ∙ kept-rows f (p .block) (v .known)
 
   there : rowHere (translation f) q ≡ retarget f (p .block) kept-row
-  unfolding rowHere kept-row retarget
+  unfolding kept-row retarget
   there =
-      ap (λ (rs : List Row). getD rs (q .row) Row.nop) rows-there
+      rowHere-is (translation f) q (rw (rows-there, length-map) kept-inside)
+      ∙ ap (λ (rs : List Row). getD rs (q .row) Row.nop) rows-there
       ∙ List·getD-map (retarget f (p .block)) kept (q .row) Row.nop
 
-  step-there : step (translation f) q h ≡ perform (translation f) q h (retarget f (p .block) kept-row)
-  step-there =
-      step-row (translation f) ct q h (rw (rows-there, length-map) kept-inside) ∙ ap (perform (translation f) q h) there
-
   pub level-step : Matched f (rowHere f p) q h 0 (step f p g)
-  unfolding rowHere
+  unfolding step
   level-step =
       let b = p .block in
       let i = v .inside in
       let range : T (inRange f kept-row) = rw here at (in-range f c b (p .row) i) in
-      rw (step-row f c p g i, here)
+      rw (rowHere-is f p i, here)
       (perform-matched f c p g q h v kept-row plain range (λ e. more-rows f c b (p .row) i (ap isTerminator here ∙ e))
       (λ e. last-row f c b (p .row) i (ap isTerminator here ∙ e) ∙ here)
-      step-there)
+      (ap (perform (translation f) q h) there))

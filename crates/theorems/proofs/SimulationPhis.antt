@@ -17,12 +17,12 @@ use Rattle.language.specs.Running.{Place, onward, writeAll, phisOf, cameBy, phi
 use Rattle.language.specs.Translating.{keptOf, edgeOf, translation}
 use Rattle.theorems.specs.Clean.{Clean}
 use Rattle.theorems.proofs.SimulationRuns.{Goes, goes-less}
-use Rattle.theorems.proofs.SimulationRows.{IsPhi, is-phi, rowOf, rows-count, rows-split, phi-at, phi-is, more-rows, step-row}
+use Rattle.theorems.proofs.SimulationRows.{IsPhi, is-phi, rowOf, rows-count, rows-split, phi-at, phi-is, more-rows, rowHere-is}
 use Rattle.theorems.proofs.SimulationEdges.{Beside, Reaches, edgeLength, edge-run}
 use Rattle.theorems.proofs.SimulationRelation.{Level, Crossing, Related, Matched, owedAt, nextRow}
 
 module _
-    (f : Func) (c : Clean f) (ct : Clean (translation f))
+    (f : Func) (c : Clean f)
     (p : Place) (g : List ℕ) (q : Place) (h : List ℕ) (v : Crossing f p g q h) where
   abbrev rows : List Row
   rows = rowsAt f (p .block)
@@ -40,8 +40,8 @@ module _
   phi-row = Row.phi (phi-here .target) (phi-here .entries)
 
   phi-stepped : step f p g ≡ phiStep f p g
-  unfolding perform rowHere
-  phi-stepped = step-row f c p g phi-inside ∙ ap (perform f p g) (phi-here .is)
+  unfolding step perform
+  phi-stepped = ap (perform f p g) (rowHere-is f p phi-inside ∙ phi-here .is)
 
   -- whether another phi comes after it
   not-last : suc (p .row) < length (phisOf rows) → any isPhi (drop (suc (p .row)) rows) ≡ true
@@ -67,7 +67,7 @@ module _
   unfolding edgeOf cameBy
   crossed =
       let has : hasPhi f (p .block) ≡ true = any-at isPhi rows (p .row) Row.nop phi-inside (ap isPhi (phi-here .is)) in
-      edge-run f c ct (p .block) (cameBy f p) (v .known) q g h has (v .came) (v .block) (v .row) (v .beside)
+      edge-run f c (p .block) (cameBy f p) (v .known) q g h has (v .came) (v .block) (v .row) (v .beside)
 
   -- an earlier phi: the translation waits
   earlier : suc (p .row) < length (phisOf rows) → Matched f phi-row q h (owedAt (p .row)) (onward p g)
@@ -105,8 +105,8 @@ module _
       }
 
   pub crossing-step : Matched f (rowHere f p) q h (owedAt (p .row)) (step f p g)
-  unfolding rowHere phiStep phi-row
-  crossing-step = rw (phi-stepped, phi-here .is) (case (decLt (suc (p .row)) (length (phisOf rows))))
+  unfolding phiStep phi-row
+  crossing-step = rw (phi-stepped, rowHere-is f p phi-inside, phi-here .is) (case (decLt (suc (p .row)) (length (phisOf rows))))
     where
       case : Dec (suc (p .row) < length (phisOf rows)) → Matched f phi-row q h (owedAt (p .row)) (phiStep f p g)
       case (yes l) = rw (not-last l) (earlier l)

@@ -1,5 +1,4 @@
--- What an accepted function's rows are like: each is in range, the terminator is the last, the phi are the first; so a step
--- performs its row.
+-- What an accepted function's rows are like: each is in range, the terminator is the last, the phi are the first.
 -- Assumes nothing.
 use mathlib.Core.Path.{_≡_, refl, sym, ap, _∙_}
 use mathlib.Core.Bool.{Bool, true, false, not, _||_, Bool·beq, true≢false, false≢true}
@@ -9,20 +8,25 @@ use native.Mathlib.Omega.{arith}
 use lib.Dec.{T, eqb, ltb, leb, lit<, ltb→lt, leb→le}
 use borrow.Author.Tests.{eqb-true, eqb-false, not-true}
 use lib.ListN.{length, getD, take, length-append, List·getD-append}
-use lib.Seq.{drop-cons, getD-append-add}
+use lib.Seq.{getD-append-add}
 use lib.Ieee.Fits.{and-l, and-r}
 use Rattle.laws.specs.Lists.{any, all}
-use Rattle.laws.proofs.Indexing.{or-first, or-rest, none-at, all-append-left, all-append-right, getD-lt}
+use Rattle.laws.proofs.Indexing.{or-first, or-rest, none-at, all-append-left, all-append-right, getD-lt, getD-inside}
 use Rattle.laws.proofs.Keep.{keep-none, keep-leads, keep-passes}
-use Rattle.language.specs.Programs.{Row, Func, rowsAt, isPhi, isTerminator, targetsOf, sourcesOf, entriesOf, namedBy}
+use Rattle.language.specs.Programs.{Row, Func, noRow, rowsAt, isPhi, isTerminator, targetsOf, sourcesOf, entriesOf, namedBy}
 use Rattle.language.specs.Checking.{spotAt, inRange, rowTests, breaksRow, breaks9, breaks10, breaks14, sound, numbersRight, entryRight, lastRow}
-use Rattle.language.specs.Running.{Place, phisOf, phiTarget, entryAt, perform, performAt, step, rowHere}
+use Rattle.language.specs.Running.{Place, phisOf, phiTarget, entryAt, rowHere}
 use Rattle.language.specs.Translating.{keptOf}
 use Rattle.theorems.specs.Clean.{Clean}
 
 -- The row at place j of block b.
 abbrev pub rowOf : Func → ℕ → ℕ → Row
 rowOf f b j = getD (rowsAt f b) j Row.nop
+
+-- It is the row that a run has to do there.
+pub rowHere-is : (f : Func) (p : Place) → p .row < length (rowsAt f (p .block)) → rowHere f p ≡ rowOf f (p .block) (p .row)
+unfolding rowHere
+rowHere-is f p l = getD-inside (rowsAt f (p .block)) (p .row) noRow Row.nop l
 
 -- The phi of block b and its other rows, and those at place j among them.
 abbrev pub phisAt : Func → ℕ → List Row
@@ -197,11 +201,6 @@ module _ (f : Func) (c : Clean f) where
   phi-entry b j k l =
       let known = entries-known f (phiOf f b j) (phi-in-range b j l) in
       getD-lt (length (f .registers)) (entriesOf (phiOf f b j)) k 0 known (omega (arith, phi-target b j l))
-
-  -- a step performs its row
-  pub step-row : (p : Place) (g : List ℕ) → p .row < length (rowsAt f (p .block)) → step f p g ≡ perform f p g (rowHere f p)
-  unfolding step performAt rowHere
-  step-row p g l = rw (drop-cons (rowsAt f (p .block)) (p .row) Row.nop l, c .rows (p .block) (p .row) l)
 
   pub entry-known : f .entry < length (f .blocks)
   unfolding sound entryRight

@@ -1,31 +1,29 @@
--- The numbers with which a run stops are four, and 43 is none of them, so that an answer 43 says that the run has not ended.
+-- The numbers with which a run stops are three, and 43 is none of them, so that an answer 43 says that the run has not ended; and all
+-- numbers that running answers.
 -- Assumes nothing.
 use mathlib.Core.Path.{_≡_, refl, subst}
-use mathlib.Core.Bool.{Bool, true, false, cond, _||_}
-use mathlib.Core.List.{List, [], _∷_}
+use mathlib.Core.Bool.{Bool, true, false, cond}
+use mathlib.Core.List.{List}
 use Prim.Native.Nat.{ℕ, suc}
 use native.Mathlib.Omega.{arith}
 use lib.Dec.{T, eqb, ltb}
 use lib.ListN.{drop}
 use Rattle.laws.specs.Lists.{any, member}
+use Rattle.laws.proofs.Agreeing.{all-member}
 use Rattle.language.specs.Arithmetic.{Computed, binaryOf, div, rem, within, overflows}
 use Rattle.language.specs.Programs.{Row, Func, rowsAt, typeAt, isPhi}
-use Rattle.language.specs.Checking.{breaksRow}
-use Rattle.language.specs.Running.{Place, Outcome, Next, Run, NotEnded, onward, valueAt, writeAll, phisOf, cameBy, phiStep, assign, perform, performAt, step, start, startRegisters, runOf}
+use Rattle.language.specs.Running.{Place, Outcome, Next, Run, NotEnded, onward, valueAt, writeAll, phisOf, cameBy, phiStep, assign, perform, step, start, startRegisters, runOf, rowHere}
 use Rattle.language.specs.Answers.{ranNumbers, refusedRun, ranAs}
-use Rattle.theorems.specs.OverTables.{stopNumbers, StopsWithThese, NoEndIs43, AnsweredIs43, functionInTable, runRefusals}
+use Rattle.theorems.specs.OverTables.{stopNumbers, StopsWithThese, NoEndIs43, AnsweredIs43, functionInTable, runRefusals, runNumbers, RunAnswersThese, Never27}
 use Rattle.theorems.proofs.RunAnswers.{answer-by}
 use Rattle.theorems.proofs.Budgets.{going-counts}
 use Rattle.theorems.proofs.SimulationRuns.{ended-stops, ends-stops}
 
 -- ---- what an instruction, a row and a step stop with
 
-abbrev pub computedStops : List ℕ
-computedStops = 40 ∷ 41 ∷ 42 ∷ []
-
-abbrev pub StopsAs : Computed → Type 0
+abbrev StopsAs : Computed → Type 0
 StopsAs (Computed.value v) = Unit {0}
-StopsAs (Computed.stops k) = T (member k computedStops)
+StopsAs (Computed.stops k) = T (member k stopNumbers)
 
 stops-cond : (b : Bool) (x y : Computed) → StopsAs x → StopsAs y → StopsAs (cond b x y)
 stops-cond true x y p q = p
@@ -43,7 +41,7 @@ stops-within : (w k x : ℕ) → StopsAs (within w k x)
 unfolding within
 stops-within w k x = stops-cond (ltb k w) _ _ tt tt
 
-pub stops-binary : (op t a b : ℕ) → StopsAs (binaryOf op t a b)
+stops-binary : (op t a b : ℕ) → StopsAs (binaryOf op t a b)
 unfolding binaryOf
 stops-binary op t a b =
     stops-cond (eqb op 9) _ _ tt
@@ -75,11 +73,7 @@ ends-cond false x y p q = q
 ends-assign : (p : Place) (g : List ℕ) (t : ℕ) (c : Computed) → StopsAs c → EndsAs (assign p g t c)
 unfolding assign
 ends-assign p g t (Computed.value v) s = tt
-ends-assign p g t (Computed.stops n) s = more (eqb 27 n) s
-  where
-    more : (b : Bool) → T (member n computedStops) → T (b || member n computedStops)
-    more true h = tt
-    more false h = h
+ends-assign p g t (Computed.stops n) s = s
 
 ends-row : (f : Func) (p : Place) (g : List ℕ) (r : Row) → EndsAs (perform f p g r)
 unfolding perform phiStep
@@ -97,15 +91,9 @@ ends-row f p g (Row.return s) = tt
 ends-row f p g Row.leave = tt
 ends-row f p g (Row.unknown op) = tt
 
-ends-at : (f : Func) (p : Place) (g : List ℕ) (rs : List Row) → EndsAs (performAt f p g rs)
-unfolding performAt
-ends-at f p g [] = tt
-ends-at f p g (r ∷ rs) =
-    ends-cond (breaksRow f (record { block = p .block; index = p .row; row = r })) (Next.end (Outcome.stopped 27)) (perform f p g r) tt (ends-row f p g r)
-
 step-stops : (f : Func) (p : Place) (g : List ℕ) (k : ℕ) → step f p g ≡ Next.end (Outcome.stopped k) → T (member k stopNumbers)
 unfolding step
-step-stops f p g k e = subst EndsAs e (ends-at f p g (drop (p .row) (rowsAt f (p .block))))
+step-stops f p g k e = subst EndsAs e (ends-row f p g (rowHere f p))
 
 -- ---- what a run ends with
 
@@ -145,3 +133,27 @@ answered-is-43 t i args b c =
     answer-by t i args b c (λ x. ranNumbers (x .answer) .number ≡ 43 → NotEnded f args b × (ranNumbers (x .answer) .steps ≡ b))
     (λ k p h e. absurd (subst (λ (n : ℕ). T (member n runRefusals)) e h))
     (λ accepted there fit room. run-of-43 i f args b)
+
+-- ---- all numbers that are answered
+
+run-numbers : (i : ℕ) (f : Func) (args : List ℕ) (b : ℕ) → T (member (ranNumbers (ranAs i f (runOf f args b)) .number) runNumbers)
+unfolding runOf ranNumbers
+run-numbers i f args b = by (runOf f args b) refl
+  where
+    by : (r : Run) → runOf f args b ≡ r → T (member (ranNumbers (ranAs i f r) .number) runNumbers)
+    by (Run.going q g) r = tt
+    by (Run.ended (Outcome.returned v) q g) r = tt
+    by (Run.ended Outcome.left q g) r = tt
+    by (Run.ended (Outcome.stopped k) q g) r =
+        let h = ended-stops b f (start f) (startRegisters f args) (Outcome.stopped k) q g r .2 in
+        all-member (λ n. member n runNumbers) k stopNumbers tt (step-stops f _ _ k (h .stop))
+
+pub run-answers-these : RunAnswersThese
+unfolding refusedRun ranNumbers
+run-answers-these t i args b c =
+    answer-by t i args b c (λ x. T (member (ranNumbers (x .answer) .number) runNumbers))
+    (λ k p h. all-member (λ n. member n runNumbers) k runRefusals tt h)
+    (λ accepted there fit room. run-numbers i (functionInTable t i) args b)
+
+pub never-27 : Never27
+never-27 t i args b c e = subst (λ (n : ℕ). T (member n runNumbers)) e (run-answers-these t i args b c)

@@ -9,9 +9,9 @@ use lib.ListN.{length, getD, set, take, drop, replicate, length-map, List·getD-
 use Rattle.laws.specs.Lists.{any, all, keep, position, empty, gather, sum, below, member, together}
 use Rattle.language.specs.Instructions.{width, loadType, uint, void}
 use Rattle.language.specs.Arithmetic.{unaryOf, binaryOf}
-use Rattle.language.specs.Programs.{Row, Register, Block, Func, noRegister, noBlock, rowsAt, typeAt, rowsOf, firstRow, isPhi, isTerminator, targetsOf, sourcesOf, entriesOf, namedBy, opOf, maxBlocks}
+use Rattle.language.specs.Programs.{Row, Register, Block, Func, noRegister, noBlock, noRow, rowsAt, typeAt, rowsOf, firstRow, isPhi, isTerminator, targetsOf, sourcesOf, entriesOf, namedBy, opOf, maxBlocks}
 use Rattle.language.specs.Checking.{Spot, lastRow, goesTo, predecessors, rowNumber, assignedIn, shaped, numberFits, inRange, typed, breaks9, breaks10, breaks11, breaks12, breaks13, breaks14, breaks15, breaks16, rowTests, breaksRow, Path, Late, Missing}
-use Rattle.language.specs.Running.{Place, Outcome, Next, counted, onward, valueAt, phisOf, writeAll, cameBy, phiStep, assign, perform, performAt, step, start, startRegisters, Run, after, runOf, firstUnfit}
+use Rattle.language.specs.Running.{Place, Next, counted, onward, valueAt, phisOf, writeAll, cameBy, phiStep, assign, perform, step, start, startRegisters, Run, after, runOf, rowHere, firstUnfit}
 use Rattle.theorems.specs.RoundTrip.{AlikeButNames, NamesDoNotMatter}
 
 -- ---- what goes by the rows of blocks and the types of registers alone
@@ -188,17 +188,10 @@ module _ (f g : Func) (h : AlikeButNames f g) where
   perform-alike p v Row.leave = refl
   perform-alike p v (Row.unknown op) = refl
 
-  perform-at-alike : (p : Place) (v : List ℕ) (rs : List Row) → performAt g p v rs ≡ performAt f p v rs
-  unfolding performAt
-  perform-at-alike p v [] = refl
-  perform-at-alike p v (r ∷ rs) =
-      λ i.
-      cond (breaks-alike (record { block = p .block; index = p .row; row = r }) i) (Next.end (Outcome.stopped 27)) (perform-alike p v r i)
-
   step-alike : (p : Place) (v : List ℕ) → step g p v ≡ step f p v
-  unfolding step
+  unfolding step rowHere
   step-alike p v =
-      perform-at-alike p v (drop (p .row) (rowsAt g (p .block))) ∙ ap (λ (rs : List Row). performAt f p v (drop (p .row) rs)) (rows-alike (p .block))
+      perform-alike p v (rowHere g p) ∙ ap (λ (rs : List Row). perform f p v (getD rs (p .row) noRow)) (rows-alike (p .block))
 
   after-alike : (n : ℕ) (p : Place) (v : List ℕ) → after n g p v ≡ after n f p v
   unfolding after

@@ -6,4 +6,5 @@ pub mod OverTables
 pub mod Clean
 pub mod Accepted
 pub mod Values
+pub mod NeverStuck
 pub mod RoundTrip

@@ -1,7 +1,7 @@
 -- Demand 3 for what the entry points answer: over tables as they are lent, and over budgets.
 -- Assumes nothing.
 use mathlib.Core.Path.{_≡_}
-use mathlib.Core.List.{List, [], _∷_}
+use mathlib.Core.List.{List, [], _∷_, _++_}
 use Prim.Native.Nat.{ℕ, _*_, _≤_, _<_}
 use lib.Dec.{T}
 use lib.ListN.{length}
@@ -46,7 +46,7 @@ TranslatedIs0 = (t : List ℕ) (i n : ℕ) → verdictNumbers (translateAnswer t
 
 -- "Each refusal and each stop is a number in document 01": the stops that end a run.
 abbrev pub stopNumbers : List ℕ
-stopNumbers = 27 ∷ 40 ∷ 41 ∷ 42 ∷ []
+stopNumbers = 40 ∷ 41 ∷ 42 ∷ []
 
 abbrev pub StopsWithThese : Type 0
 StopsWithThese = (f : Func) (args : List ℕ) (n k : ℕ) → Ends f args n (Outcome.stopped k) → T (member k stopNumbers)
@@ -65,7 +65,14 @@ AnsweredIs43 =
 abbrev pub runRefusals : List ℕ
 runRefusals = 9 ∷ 10 ∷ 11 ∷ 12 ∷ 13 ∷ 14 ∷ 15 ∷ 16 ∷ 17 ∷ 20 ∷ 21 ∷ 22 ∷ []
 
--- Document 02, A10: "Show that 27 can't be given for any input": no call answers it, whatever it is given.
+-- All numbers that running answers: 0 where it returns, with a value or without one.
+abbrev pub runNumbers : List ℕ
+runNumbers = 0 ∷ runRefusals ++ stopNumbers ++ 43 ∷ []
+
+abbrev pub RunAnswersThese : Type 0
+RunAnswersThese = (t : List ℕ) (i : ℕ) (args : List ℕ) (b c : ℕ) → T (member (ranNumbers (runAnswer t i args b c .answer) .number) runNumbers)
+
+-- Document 02, A10: "27 stays unused in later papers".
 abbrev pub Never27 : Type 0
 Never27 = (t : List ℕ) (i : ℕ) (args : List ℕ) (b c : ℕ) → ¬ (ranNumbers (runAnswer t i args b c .answer) .number ≡ 27)
 

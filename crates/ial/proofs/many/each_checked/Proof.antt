@@ -1,4 +1,4 @@
--- `each_checked`: 21 for every argument, or the function prepared once and run.
+-- `each_checked`: 21 for every argument, or the predecessors counted once and the runs.
 use mathlib.Core.Path.{refl}
 use Prim.Native.Nat.{_<_}
 use native.Mathlib.Omega.{arith}
@@ -31,10 +31,11 @@ each-checked-spec =
     let l : s .args .function < functionCount (s .args .t .now) = omega (arith, c .before .before .function-count .ensures .0, c .before .if1 .left) in
     (accepted-fit (s .args .t .now) (s .pre .0) (s .args .function) l, refl))
     (λ c. search needs)
+    (λ c. search needs)
     (λ c κs.
-    let s = c .before .before .before .before .before .before .before .before .before .before .before .before in
-    let l : s .args .function < functionCount (s .args .t .now) = omega (arith, c .before .before .before .before .before .before .before .function-count .ensures .0, c .before .before .before .before .before .before .if1 .left) in
-    (s .pre .0, ((l, c .before .before .before .before .prepare .ensures), s .pre .1)))
+    let s = c .before .before .before .before .before .before .before .before .before .before .before .before .before in
+    let l : s .args .function < functionCount (s .args .t .now) = omega (arith, c .before .before .before .before .before .before .before .before .function-count .ensures .0, c .before .before .before .before .before .before .before .if1 .left) in
+    (s .pre .0, (l, ((c .before .before .before .before .before .flow .ensures .0, refl), s .pre .1))))
     (λ c. search needs)
     (λ c. search needs)
-    (λ c. c .before .before .before .before .run-all .ensures))
+    (λ c. c .before .before .before .before .before .run-all .ensures))

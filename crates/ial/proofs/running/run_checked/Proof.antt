@@ -1,4 +1,4 @@
--- `run_checked`: a function that is there is prepared and run.
+-- `run_checked`: a function that is there has its predecessors counted and is run.
 use mathlib.Core.Path.{refl}
 use Prim.Native.Nat.{_<_}
 use native.Mathlib.Omega.{arith}
@@ -28,11 +28,12 @@ run-checked-spec =
     let l : s .args .function < functionCount (s .args .t .now) = omega (arith, c .before .before .function-count .ensures .0, c .before .if1 .left) in
     (accepted-fit (s .args .t .now) (s .pre .0) (s .args .function) l, refl))
     (λ c. search needs)
+    (λ c. search needs)
     (λ c κs.
-    let s = c .before .before .before .before .before .before .before .before .before .before in
-    let l : s .args .function < functionCount (s .args .t .now) = omega (arith, c .before .before .before .before .before .before .function-count .ensures .0, c .before .before .before .before .before .if1 .left) in
-    (s .pre .0, (l, c .before .before .before .prepare .ensures)))
+    let s = c .before .before .before .before .before .before .before .before .before .before .before in
+    let l : s .args .function < functionCount (s .args .t .now) = omega (arith, c .before .before .before .before .before .before .before .function-count .ensures .0, c .before .before .before .before .before .before .if1 .left) in
+    (s .pre .0, (l, (c .before .before .before .before .flow .ensures .0, refl))))
     (λ c. search needs)
     (λ c.
-    let s = c .before .before .before .before .before .before .before .before .before .before .before .before .before in
-    from-zeros (decode (s .args .t .now)) (s .args .function) (s .args .args .now) (s .args .budget) (s .args .registers .now) _ (c .before .before .run-prepared .ensures) (s .pre .1)))
+    let s = c .before .before .before .before .before .before .before .before .before .before .before .before .before .before .before in
+    from-zeros (decode (s .args .t .now)) (s .args .function) (s .args .args .now) (s .args .budget) (s .args .registers .now) _ (c .before .before .before .run-prepared .ensures) (s .pre .1)))

@@ -16,53 +16,54 @@ run-prepared-spec =
     tie.close
     (tie.spec
     (λ c.
-    let s = c .before .before .before .before in
+    let s = c .before .before .before .before .before in
     omega (arith, accepted-count (s .args .t .now) (s .pre .0)))
     (λ c.
-    let s = c .before .before .before .before in
+    let s = c .before .before .before .before .before in
     omega (arith, accepted-count (s .args .t .now) (s .pre .0)))
     (λ c κs.
-    let s = c .before .before .before .before in
+    let s = c .before .before .before .before .before in
     accepted-within (s .args .t .now) (s .pre .0) (s .args .i) (s .pre .1 .0))
     (λ c.
-    let s = c .before .before .before .before .before .before in
+    let s = c .before .before .before .before .before .before .before in
     refused-to (decode (s .args .t .now)) (s .args .i) (s .args .args .now) (s .args .budget) (s .args .registers .now) _ (λ z e. run-count (s .args .t .now) (s .args .i) (s .args .args .now) (s .args .budget) (length (s .args .registers .now)) (s .pre .1 .0) (λ h. c .if1 .taken (h ∙ sym (c .before .function-params .ensures .0))) e))
     (λ c κs.
-    let s = c .before .before .before .before .before .before in
+    let s = c .before .before .before .before .before .before .before in
     let same = c .if1 .left ∙ c .before .function-params .ensures .0 in
     let few : length (s .args .args .now) ≤ registerCount (s .args .t .now) (functionAt (s .args .i)) = omega (arith, same, accepted-params (s .args .t .now) (s .pre .0) (s .args .i) (s .pre .1 .0)) in
     ((accepted-within (s .args .t .now) (s .pre .0) (s .args .i) (s .pre .1 .0), accepted-sized (s .args .t .now) (s .pre .0) (s .args .i) (s .pre .1 .0) .registers), few))
     (λ c.
-    let s = c .before .before .before .before .before .before .before .before in
+    let s = c .before .before .before .before .before .before .before .before .before in
     let same = c .before .before .if1 .left ∙ c .before .before .before .function-params .ensures .0 in
     refused-to (decode (s .args .t .now)) (s .args .i) (s .args .args .now) (s .args .budget) (s .args .registers .now) _ (λ z e. run-unfit (s .args .t .now) (s .args .i) (s .args .args .now) (s .args .budget) (length (s .args .registers .now)) (s .pre .1 .0) same (c .before .first-unfit .result) (c .before .first-unfit .ensures) (c .if2 .taken) e))
     (λ c κs.
-    let s = c .before .before .before .before .before .before .before .before in
+    let s = c .before .before .before .before .before .before .before .before .before in
     accepted-within (s .args .t .now) (s .pre .0) (s .args .i) (s .pre .1 .0))
     (λ c.
-    let s = c .before .before .before .before .before .before .before .before .before .before in
+    let s = c .before .before .before .before .before .before .before .before .before .before .before in
     let same = c .before .before .before .before .if1 .left ∙ c .before .before .before .before .before .function-params .ensures .0 in
     let few : length (s .args .args .now) ≤ registerCount (s .args .t .now) (functionAt (s .args .i)) = omega (arith, same, accepted-params (s .args .t .now) (s .pre .0) (s .args .i) (s .pre .1 .0)) in
     let fits = all-fit (s .args .t .now) (s .args .i) (s .args .args .now) (s .args .budget) (length (s .args .registers .now)) (s .pre .1 .0) same (c .before .before .before .first-unfit .result) few (c .before .before .before .first-unfit .ensures) (c .before .before .if2 .left) in
     refused-to (decode (s .args .t .now)) (s .args .i) (s .args .args .now) (s .args .budget) (s .args .registers .now) _ (λ z e. run-short (s .args .t .now) (s .args .i) (s .args .args .now) (s .args .budget) (length (s .args .registers .now)) (s .pre .1 .0) same fits (omega (arith, c .before .register-count .ensures .0, c .if3 .taken)) e))
     (λ c κs.
-    let s = c .before .before .before .before .before .before .before .before .before .before .before in
-    let same = c .before .before .before .before .before .if1 .left ∙ c .before .before .before .before .before .before .function-params .ensures .0 in
+    let s = c .before .before .before .before .before .before .before .before .before .before .before .before .before in
+    let same = c .before .before .before .before .before .before .if1 .left ∙ c .before .before .before .before .before .before .before .function-params .ensures .0 in
     let few : length (s .args .args .now) ≤ registerCount (s .args .t .now) (functionAt (s .args .i)) = omega (arith, same, accepted-params (s .args .t .now) (s .pre .0) (s .args .i) (s .pre .1 .0)) in
-    let fits = all-fit (s .args .t .now) (s .args .i) (s .args .args .now) (s .args .budget) (length (s .args .registers .now)) (s .pre .1 .0) same (c .before .before .before .before .first-unfit .result) few (c .before .before .before .before .first-unfit .ensures) (c .before .before .before .if2 .left) in
-    let room : registerCount (s .args .t .now) (functionAt (s .args .i)) ≤ length (s .args .registers .now) = omega (arith, c .before .before .register-count .ensures .0, c .before .if3 .left) in
+    let fits = all-fit (s .args .t .now) (s .args .i) (s .args .args .now) (s .args .budget) (length (s .args .registers .now)) (s .pre .1 .0) same (c .before .before .before .before .before .first-unfit .result) few (c .before .before .before .before .before .first-unfit .ensures) (c .before .before .before .before .if2 .left) in
+    let room : registerCount (s .args .t .now) (functionAt (s .args .i)) ≤ length (s .args .registers .now) = omega (arith, c .before .before .before .register-count .ensures .0, c .before .before .if3 .left) in
     ((accepted-sized (s .args .t .now) (s .pre .0) (s .args .i) (s .pre .1 .0), accepted-clean (s .args .t .now) (s .pre .0) (s .args .i) (s .pre .1 .0)), (s .pre .1 .1, (arguments-fit (s .args .t .now) (s .args .i) (s .args .args .now) (s .args .budget) (length (s .args .registers .now)) (s .pre .1 .0) same fits, room))))
     (λ c κs.
-    let s = c .before .before .before .before .before .before .before .before .before .before .before .before .before .before in
-    let same = c .before .before .before .before .before .before .before .before .if1 .left ∙ c .before .before .before .before .before .before .before .before .before .function-params .ensures .0 in
+    let s = c .before .before .before .before .before .before .before .before .before .before .before .before .before .before .before .before .before .before in
+    let same = c .before .before .before .before .before .before .before .before .before .before .before .if1 .left ∙ c .before .before .before .before .before .before .before .before .before .before .before .before .function-params .ensures .0 in
     let few : length (s .args .args .now) ≤ registerCount (s .args .t .now) (functionAt (s .args .i)) = omega (arith, same, accepted-params (s .args .t .now) (s .pre .0) (s .args .i) (s .pre .1 .0)) in
-    let fits = all-fit (s .args .t .now) (s .args .i) (s .args .args .now) (s .args .budget) (length (s .args .registers .now)) (s .pre .1 .0) same (c .before .before .before .before .before .before .before .first-unfit .result) few (c .before .before .before .before .before .before .before .first-unfit .ensures) (c .before .before .before .before .before .before .if2 .left) in
-    answer-small (s .args .i) (omega (arith, s .pre .1 .0, accepted-count (s .args .t .now) (s .pre .0))) (accepted-clean (s .args .t .now) (s .pre .0) (s .args .i) (s .pre .1 .0)) (arguments-fit (s .args .t .now) (s .args .i) (s .args .args .now) (s .args .budget) (length (s .args .registers .now)) (s .pre .1 .0) same fits) (c .before .before .run-on .ensures))
+    let fits = all-fit (s .args .t .now) (s .args .i) (s .args .args .now) (s .args .budget) (length (s .args .registers .now)) (s .pre .1 .0) same (c .before .before .before .before .before .before .before .before .before .before .first-unfit .result) few (c .before .before .before .before .before .before .before .before .before .before .first-unfit .ensures) (c .before .before .before .before .before .before .before .before .before .if2 .left) in
+    answer-small (s .args .i) (omega (arith, s .pre .1 .0, accepted-count (s .args .t .now) (s .pre .0))) (accepted-clean (s .args .t .now) (s .pre .0) (s .args .i) (s .pre .1 .0)) (arguments-fit (s .args .t .now) (s .args .i) (s .args .args .now) (s .args .budget) (length (s .args .registers .now)) (s .pre .1 .0) same fits) (c .before .before .before .before .run-on .ensures))
+    (λ c. search needs)
     (λ c. search needs)
     (λ c.
-    let s = c .before .before .before .before .before .before .before .before .before .before .before .before .before .before .before in
-    let same = c .before .before .before .before .before .before .before .before .before .if1 .left ∙ c .before .before .before .before .before .before .before .before .before .before .function-params .ensures .0 in
+    let s = c .before .before .before .before .before .before .before .before .before .before .before .before .before .before .before .before .before .before .before in
+    let same = c .before .before .before .before .before .before .before .before .before .before .before .before .if1 .left ∙ c .before .before .before .before .before .before .before .before .before .before .before .before .before .function-params .ensures .0 in
     let few : length (s .args .args .now) ≤ registerCount (s .args .t .now) (functionAt (s .args .i)) = omega (arith, same, accepted-params (s .args .t .now) (s .pre .0) (s .args .i) (s .pre .1 .0)) in
-    let fits = all-fit (s .args .t .now) (s .args .i) (s .args .args .now) (s .args .budget) (length (s .args .registers .now)) (s .pre .1 .0) same (c .before .before .before .before .before .before .before .before .first-unfit .result) few (c .before .before .before .before .before .before .before .before .first-unfit .ensures) (c .before .before .before .before .before .before .before .if2 .left) in
-    let room : registerCount (s .args .t .now) (functionAt (s .args .i)) ≤ length (s .args .registers .now) = omega (arith, c .before .before .before .before .before .before .register-count .ensures .0, c .before .before .before .before .before .if3 .left) in
-    done-to (decode (s .args .t .now)) (s .args .i) (s .args .args .now) (s .args .budget) (s .args .registers .now) _ _ (run-done (s .args .t .now) (s .args .i) (s .args .args .now) (s .args .budget) (length (s .args .registers .now)) (s .pre .1 .0) same fits (c .answer-of .result) (c .before .before .before .run-on .result) _ (c .answer-of .ensures) room (c .before .before .before .run-on .ensures))))
+    let fits = all-fit (s .args .t .now) (s .args .i) (s .args .args .now) (s .args .budget) (length (s .args .registers .now)) (s .pre .1 .0) same (c .before .before .before .before .before .before .before .before .before .before .before .first-unfit .result) few (c .before .before .before .before .before .before .before .before .before .before .before .first-unfit .ensures) (c .before .before .before .before .before .before .before .before .before .before .if2 .left) in
+    let room : registerCount (s .args .t .now) (functionAt (s .args .i)) ≤ length (s .args .registers .now) = omega (arith, c .before .before .before .before .before .before .before .before .before .register-count .ensures .0, c .before .before .before .before .before .before .before .before .if3 .left) in
+    done-to (decode (s .args .t .now)) (s .args .i) (s .args .args .now) (s .args .budget) (s .args .registers .now) _ _ (run-done (s .args .t .now) (s .args .i) (s .args .args .now) (s .args .budget) (length (s .args .registers .now)) (s .pre .1 .0) same fits (c .answer-of .result) (c .before .before .before .before .before .run-on .result) _ (c .answer-of .ensures) room (c .before .before .before .before .before .run-on .ensures))))
