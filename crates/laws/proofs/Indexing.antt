@@ -185,7 +185,7 @@ module _ {A : Type 0} (p : A → Bool) where
       first true later = omega arith
       first false later = suc-le-suc later
 
--- an element of a list is not its default
+-- at a place within a list the default does not matter
 pub getD-inside : {A : Type 0} (xs : List A) (i : ℕ) (d e : A) → i < length xs → getD xs i d ≡ getD xs i e
 getD-inside [] i d e l = absurd (not-suc-le-zero l)
 getD-inside (x ∷ xs) zero d e l = refl

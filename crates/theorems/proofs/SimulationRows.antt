@@ -23,7 +23,7 @@ use Rattle.theorems.specs.Clean.{Clean}
 abbrev pub rowOf : Func → ℕ → ℕ → Row
 rowOf f b j = getD (rowsAt f b) j Row.nop
 
--- It is the row that a run has to do there.
+-- Within its block it is the row that a run has to do there.
 pub rowHere-is : (f : Func) (p : Place) → p .row < length (rowsAt f (p .block)) → rowHere f p ≡ rowOf f (p .block) (p .row)
 unfolding rowHere
 rowHere-is f p l = getD-inside (rowsAt f (p .block)) (p .row) noRow Row.nop l
