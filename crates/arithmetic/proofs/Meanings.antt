@@ -13,8 +13,8 @@ use borrow.Author.Tests.{leb-true, leb-false, lt-ltb, le-ltb, ne-eqb}
 use Rattle.language.specs.Instructions.{width, signed}
 use Rattle.language.specs.Arithmetic.{Computed, meaning, wrap, neg, flip, overflows, div, rem, shr, conv}
 use Rattle.laws.proofs.Tests.{same-less, same-equal, both-le, le-not-lt}
-use Rattle.language.proofs.Widths.{powers}
-use Rattle.arithmetic.specs.Results.{isNegative, rankOf}
+use Rattle.language.proofs.Widths.{powers, meaning-is}
+use Rattle.arithmetic.specs.Results.{isNegative, meaningRank}
 
 -- ---- a number's meaning
 
@@ -23,26 +23,22 @@ abbrev pub reads : ℕ → ℕ → Bool
 reads t x = signed t && leb (2 ^ (width t - 1)) x
 
 module _ (t x : ℕ) (l : x < 2 ^ width t) where
-  pub meaning-is : meaning t x ≡ cond (reads t x) (negsuc (flip (width t) x)) (pos x)
-  unfolding meaning
-  meaning-is = let e : 2 ^ width t - x ≡ suc (flip (width t) x) = omega arith in rw e
-
   pub meaning-sign : isNegative (meaning t x) ≡ reads t x
-  meaning-sign = rw meaning-is (by (reads t x))
+  meaning-sign = rw (meaning-is t x l) (by (reads t x))
     where
       by : (b : Bool) → isNegative (cond b (negsuc (flip (width t) x)) (pos x)) ≡ b
       by true = refl
       by false = refl
 
   pub meaning-negative : isNegative (meaning t x) ≡ true → meaning t x ≡ negsuc (flip (width t) x)
-  meaning-negative e = meaning-is ∙ ap (λ (b : Bool). cond b (negsuc (flip (width t) x)) (pos x)) (sym meaning-sign ∙ e)
+  meaning-negative e = meaning-is t x l ∙ ap (λ (b : Bool). cond b (negsuc (flip (width t) x)) (pos x)) (sym meaning-sign ∙ e)
 
   pub meaning-positive : isNegative (meaning t x) ≡ false → meaning t x ≡ pos x
-  meaning-positive e = meaning-is ∙ ap (λ (b : Bool). cond b (negsuc (flip (width t) x)) (pos x)) (sym meaning-sign ∙ e)
+  meaning-positive e = meaning-is t x l ∙ ap (λ (b : Bool). cond b (negsuc (flip (width t) x)) (pos x)) (sym meaning-sign ∙ e)
 
   -- the magnitude fits
   pub magnitude-below : natAbs (meaning t x) < 2 ^ width t
-  magnitude-below = rw meaning-is (by (signed t) (leb (2 ^ (width t - 1)) x) refl)
+  magnitude-below = rw (meaning-is t x l) (by (signed t) (leb (2 ^ (width t - 1)) x) refl)
     where
       by : (g b : Bool) → leb (2 ^ (width t - 1)) x ≡ b → natAbs (cond (g && b) (negsuc (flip (width t) x)) (pos x)) < 2 ^ width t
       by true true e = let h = leb-true (2 ^ (width t - 1)) x e in omega (arith, powers t)
@@ -51,7 +47,7 @@ module _ (t x : ℕ) (l : x < 2 ^ width t) where
 
   -- only 0 means 0
   pub magnitude-positive : (x ≡ 0 → ⊥) → 0 < natAbs (meaning t x)
-  magnitude-positive n = rw meaning-is (by (reads t x))
+  magnitude-positive n = rw (meaning-is t x l) (by (reads t x))
     where
       by : (b : Bool) → 0 < natAbs (cond b (negsuc (flip (width t) x)) (pos x))
       by true = omega arith
@@ -112,8 +108,8 @@ module _ (w : ℕ) where
 -- ---- the order of meanings
 
 module _ (t a b : ℕ) (l : a < 2 ^ width t) (m : b < 2 ^ width t) where
-  pub less-by-rank : ltZ (meaning t a) (meaning t b) ≡ ltb (rankOf t a) (rankOf t b)
-  unfolding rankOf
+  pub less-by-rank : ltZ (meaning t a) (meaning t b) ≡ ltb (meaningRank t a) (meaningRank t b)
+  unfolding meaningRank
   less-by-rank = rw (meaning-is t a l, meaning-is t b m) (by (signed t) (leb h a) (leb h b) refl refl)
     where
       h : ℕ

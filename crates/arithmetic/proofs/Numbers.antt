@@ -1,32 +1,20 @@
--- An instruction with two sources by its number: what is known of its second source, and the number that is none of the others.
+-- An instruction with two sources by its number: what is known of its second source, and a number that is none of theirs.
 -- Assumes nothing.
-use mathlib.Core.Path.{_≡_, refl, subst}
-use mathlib.Core.Bool.{Bool, true, false, cond}
+use mathlib.Core.Path.{_≡_, subst}
 use Prim.Native.Nat.{ℕ, _^_, _<_}
-use native.Mathlib.Omega.{arith}
-use lib.Dec.{ltb}
-use lib.Signed.{leZ}
-use borrow.Author.Tests.{ltb-true, ltb-false, ne-eqb}
-use Rattle.language.specs.Instructions.{width, uint, secondType}
-use Rattle.language.specs.Arithmetic.{Computed, meaning, truth, binaryOf}
+use borrow.Author.Tests.{ne-eqb}
+use Rattle.language.specs.Instructions.{width, secondType}
+use Rattle.language.specs.Instructions.{ariAddOp, ariDivOp, ariMulOp, ariRemOp, ariSubOp, bitAndOp, bitOrOp, bitXorOp, cmpEqOp, cmpGtOp, cmpGteqOp, cmpLtOp, cmpLteqOp, cmpNeqOp, rolOp, rorOp, shlOp, shrOp}
+use Rattle.language.specs.Arithmetic.{Computed, binaryOf}
 
 -- the second source of instruction k
 pub second-at : (t b : ℕ) {op : ℕ} (k : ℕ) → op ≡ k → b < 2 ^ width (secondType op t) → b < 2 ^ width (secondType k t)
 second-at t b k e h = subst (λ (n : ℕ). b < 2 ^ width (secondType n t)) e h
 
--- what a `match` on the other numbers leaves
+-- what a `match` on these numbers leaves
 abbrev pub None : ℕ → Type 0
-None n = (((((((((((((((((Unit × (n ≡ 9 → ⊥)) × (n ≡ 10 → ⊥)) × (n ≡ 11 → ⊥)) × (n ≡ 12 → ⊥)) × (n ≡ 13 → ⊥)) × (n ≡ 15 → ⊥)) × (n ≡ 16 → ⊥)) × (n ≡ 17 → ⊥)) × (n ≡ 19 → ⊥)) × (n ≡ 20 → ⊥)) × (n ≡ 21 → ⊥)) × (n ≡ 22 → ⊥)) × (n ≡ 23 → ⊥)) × (n ≡ 24 → ⊥)) × (n ≡ 25 → ⊥)) × (n ≡ 26 → ⊥)) × (n ≡ 27 → ⊥))
+None n = (((((((((((((((((Unit × (n ≡ ariAddOp → ⊥)) × (n ≡ ariSubOp → ⊥)) × (n ≡ ariMulOp → ⊥)) × (n ≡ ariDivOp → ⊥)) × (n ≡ ariRemOp → ⊥)) × (n ≡ bitAndOp → ⊥)) × (n ≡ bitOrOp → ⊥)) × (n ≡ bitXorOp → ⊥)) × (n ≡ shlOp → ⊥)) × (n ≡ shrOp → ⊥)) × (n ≡ rolOp → ⊥)) × (n ≡ rorOp → ⊥)) × (n ≡ cmpEqOp → ⊥)) × (n ≡ cmpNeqOp → ⊥)) × (n ≡ cmpGtOp → ⊥)) × (n ≡ cmpLtOp → ⊥)) × (n ≡ cmpGteqOp → ⊥)) × (n ≡ cmpLteqOp → ⊥)
 
-module _ (op t : ℕ) (r : None op) where
-  pub second-else : secondType op t ≡ t
-  second-else = by (ltb op 19) refl (ltb op 23) refl
-    where
-      by : (p : Bool) → ltb op 19 ≡ p → (q : Bool) → ltb op 23 ≡ q → cond p t (cond q uint t) ≡ t
-      by true e q f = refl
-      by false e true f = absurd (omega (arith, ltb-false op 19 e, ltb-true op 23 f, r .0 .0 .0 .0 .0 .0 .0 .0 .1, r .0 .0 .0 .0 .0 .0 .0 .1, r .0 .0 .0 .0 .0 .0 .1, r .0 .0 .0 .0 .0 .1))
-      by false e false f = refl
-
-  pub binary-else : (a b : ℕ) → binaryOf op t a b ≡ Computed.value (truth (leZ (meaning t a) (meaning t b)))
-  unfolding binaryOf
-  binary-else a b = simp (ne-eqb op 9 (r .0 .0 .0 .0 .0 .0 .0 .0 .0 .0 .0 .0 .0 .0 .0 .0 .1), ne-eqb op 10 (r .0 .0 .0 .0 .0 .0 .0 .0 .0 .0 .0 .0 .0 .0 .0 .1), ne-eqb op 11 (r .0 .0 .0 .0 .0 .0 .0 .0 .0 .0 .0 .0 .0 .0 .1), ne-eqb op 12 (r .0 .0 .0 .0 .0 .0 .0 .0 .0 .0 .0 .0 .0 .1), ne-eqb op 13 (r .0 .0 .0 .0 .0 .0 .0 .0 .0 .0 .0 .0 .1), ne-eqb op 15 (r .0 .0 .0 .0 .0 .0 .0 .0 .0 .0 .0 .1), ne-eqb op 16 (r .0 .0 .0 .0 .0 .0 .0 .0 .0 .0 .1), ne-eqb op 17 (r .0 .0 .0 .0 .0 .0 .0 .0 .0 .1), ne-eqb op 19 (r .0 .0 .0 .0 .0 .0 .0 .0 .1), ne-eqb op 20 (r .0 .0 .0 .0 .0 .0 .0 .1), ne-eqb op 21 (r .0 .0 .0 .0 .0 .0 .1), ne-eqb op 22 (r .0 .0 .0 .0 .0 .1), ne-eqb op 23 (r .0 .0 .0 .0 .1), ne-eqb op 24 (r .0 .0 .0 .1), ne-eqb op 25 (r .0 .0 .1), ne-eqb op 26 (r .0 .1), ne-eqb op 27 (r .1))
+pub binary-else : (op t : ℕ) → None op → (a b : ℕ) → binaryOf op t a b ≡ Computed.value 0
+unfolding binaryOf
+binary-else op t r a b = simp (ne-eqb op ariAddOp (r .0 .0 .0 .0 .0 .0 .0 .0 .0 .0 .0 .0 .0 .0 .0 .0 .0 .1), ne-eqb op ariSubOp (r .0 .0 .0 .0 .0 .0 .0 .0 .0 .0 .0 .0 .0 .0 .0 .0 .1), ne-eqb op ariMulOp (r .0 .0 .0 .0 .0 .0 .0 .0 .0 .0 .0 .0 .0 .0 .0 .1), ne-eqb op ariDivOp (r .0 .0 .0 .0 .0 .0 .0 .0 .0 .0 .0 .0 .0 .0 .1), ne-eqb op ariRemOp (r .0 .0 .0 .0 .0 .0 .0 .0 .0 .0 .0 .0 .0 .1), ne-eqb op bitAndOp (r .0 .0 .0 .0 .0 .0 .0 .0 .0 .0 .0 .0 .1), ne-eqb op bitOrOp (r .0 .0 .0 .0 .0 .0 .0 .0 .0 .0 .0 .1), ne-eqb op bitXorOp (r .0 .0 .0 .0 .0 .0 .0 .0 .0 .0 .1), ne-eqb op shlOp (r .0 .0 .0 .0 .0 .0 .0 .0 .0 .1), ne-eqb op shrOp (r .0 .0 .0 .0 .0 .0 .0 .0 .1), ne-eqb op rolOp (r .0 .0 .0 .0 .0 .0 .0 .1), ne-eqb op rorOp (r .0 .0 .0 .0 .0 .0 .1), ne-eqb op cmpEqOp (r .0 .0 .0 .0 .0 .1), ne-eqb op cmpNeqOp (r .0 .0 .0 .0 .1), ne-eqb op cmpGtOp (r .0 .0 .0 .1), ne-eqb op cmpLtOp (r .0 .0 .1), ne-eqb op cmpGteqOp (r .0 .1), ne-eqb op cmpLteqOp (r .1))

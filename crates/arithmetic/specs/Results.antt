@@ -19,5 +19,5 @@ isNegative (pos n) = false
 isNegative (negsuc n) = true
 
 -- Where a number's meaning stands among those of the type t: for signed types the upper half comes first.
-unfoldable pub rankOf : ℕ → ℕ → ℕ
-rankOf t x = let h = 2 ^ (width t - 1) in cond (signed t) (cond (ltb x h) (x + h) (x - h)) x
+unfoldable pub meaningRank : ℕ → ℕ → ℕ
+meaningRank t x = let h = 2 ^ (width t - 1) in cond (signed t) (cond (ltb x h) (x + h) (x - h)) x

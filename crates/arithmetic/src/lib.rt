@@ -3,6 +3,7 @@ mod shifts;
 mod signs;
 mod wrapping;
 
+use instructions::ops;
 use shifts::rol;
 use shifts::ror;
 use shifts::shl;
@@ -44,24 +45,25 @@ pub fn binary(op: u8, t: u8, a: u64, b: u64) -> Computed
     ensures { λ r. ⌜ resultOf r ≡ binaryOf op t a b ⌝ }
 {
     match op {
-        9 => Computed::Value(add(t, a, b)),
-        10 => Computed::Value(sub(t, a, b)),
-        11 => Computed::Value(mul(t, a, b)),
-        12 => div(t, a, b),
-        13 => rem(t, a, b),
-        15 => Computed::Value(a & b),
-        16 => Computed::Value(a | b),
-        17 => Computed::Value(a ^ b),
-        19 => shl(t, a, b),
-        20 => shr(t, a, b),
-        21 => rol(t, a, b),
-        22 => ror(t, a, b),
-        23 => Computed::Value(truth(a == b)),
-        24 => Computed::Value(truth(a != b)),
-        25 => Computed::Value(truth(less(t, b, a))),
-        26 => Computed::Value(truth(less(t, a, b))),
-        27 => Computed::Value(truth(!less(t, a, b))),
-        _ => Computed::Value(truth(!less(t, b, a))),
+        ops::ARI_ADD => Computed::Value(add(t, a, b)),
+        ops::ARI_SUB => Computed::Value(sub(t, a, b)),
+        ops::ARI_MUL => Computed::Value(mul(t, a, b)),
+        ops::ARI_DIV => div(t, a, b),
+        ops::ARI_REM => rem(t, a, b),
+        ops::BIT_AND => Computed::Value(a & b),
+        ops::BIT_OR => Computed::Value(a | b),
+        ops::BIT_XOR => Computed::Value(a ^ b),
+        ops::SHL => shl(t, a, b),
+        ops::SHR => shr(t, a, b),
+        ops::ROL => rol(t, a, b),
+        ops::ROR => ror(t, a, b),
+        ops::CMP_EQ => Computed::Value(truth(a == b)),
+        ops::CMP_NEQ => Computed::Value(truth(a != b)),
+        ops::CMP_GT => Computed::Value(truth(less(t, b, a))),
+        ops::CMP_LT => Computed::Value(truth(less(t, a, b))),
+        ops::CMP_GTEQ => Computed::Value(truth(!less(t, a, b))),
+        ops::CMP_LTEQ => Computed::Value(truth(!less(t, b, a))),
+        _ => Computed::Value(0),
     }
 }
 
@@ -71,9 +73,10 @@ pub fn unary(op: u8, s: u8, t: u8, x: u64) -> u64
     ensures { λ r. ⌜ r ≡ unaryOf op s t x ⌝ }
 {
     match op {
-        14 => neg(s, x),
-        18 => flip(s, x),
-        29 => conv(s, t, x),
-        _ => x,
+        ops::ARI_NEG => neg(s, x),
+        ops::BIT_NEG => flip(s, x),
+        ops::CONV => conv(s, t, x),
+        ops::COPY => x,
+        _ => 0,
     }
 }

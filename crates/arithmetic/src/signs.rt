@@ -8,12 +8,12 @@ use instructions::signed;
 use instructions::width;
 ghost use mathlib.Core.Path.{_≡_};
 ghost use mathlib.Core.Bool.{cond};
-ghost use Prim.Native.Nat.{_+_, _-_, _%_, _^_, _<_};
+ghost use Prim.Native.Nat.{_-_, _^_, _<_};
 ghost use lib.IntN.{natAbs};
 ghost use lib.Signed.{ltZ};
 ghost use Rattle.language.specs.Instructions.{width as widthOf};
 ghost use Rattle.language.specs.Arithmetic.{meaning, neg as negOf, overflows as overflowsOf, div as divOf, rem as remOf, conv as convOf};
-ghost use Rattle.arithmetic.specs.Results.{resultOf, isNegative, rankOf};
+ghost use Rattle.arithmetic.specs.Results.{resultOf, isNegative, meaningRank};
 
 // The least number of the type's width whose highest bit is set.
 fn half(t: u8) -> u64
@@ -95,7 +95,7 @@ pub fn rem(t: u8, a: u64, b: u64) -> Computed
 // Where the meaning stands among those of the type: for signed types the upper half comes first.
 fn rank(t: u8, x: u64) -> u64
     requires { ⌜ x < 2 ^ widthOf t ⌝ }
-    ensures { λ r. ⌜ r ≡ rankOf t x ⌝ }
+    ensures { λ r. ⌜ r ≡ meaningRank t x ⌝ }
 {
     if signed(t) {
         let h = half(t);

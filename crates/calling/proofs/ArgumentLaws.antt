@@ -12,12 +12,12 @@ use lib.Seq.{ext-getD, getD-take, length-take-le}
 use borrow.Author.Tests.{lt-ltb, le-ltb}
 use Rattle.laws.specs.Lists.{below}
 use Rattle.laws.proofs.Positions.{position-below}
-use Rattle.laws.proofs.Searching.{getD-range}
+use Rattle.laws.proofs.Ranges.{getD-map-from}
 use Rattle.laws.proofs.Indexing.{length-below}
 use Rattle.laws.proofs.OneMore.{fill-more}
 use Rattle.language.specs.Programs.{Func}
 use Rattle.language.specs.Table.{registerCount, registerType, decodeFunction}
-use Rattle.theorems.proofs.TableView.{type-is}
+use Rattle.language.proofs.TableView.{type-is}
 use Rattle.decimal.specs.Meanings.{bitsIn}
 use Rattle.decimal.specs.declared.ranges.Bits.{Bits}
 use Rattle.decimal.specs.declared.ranges.Bits.the-variants as bits
@@ -87,4 +87,4 @@ module _ (f : Func) (g : Given) where
       ext-getD 0 (take (g .count) out) (map (λ k. bitsHeld (argumentBits f g k)) (below (g .count))) (short ∙ sym (length-map (below (g .count)) (λ k. bitsHeld (argumentBits f g k)) ∙ length-below (g .count)))
       (λ j b.
       let c : j < g .count = rw short at b in
-      getD-take (g .count) out j 0 c ∙ h′ .held j c ∙ sym (getD-range (λ k. bitsHeld (argumentBits f g k)) 0 (g .count) j 0 c ∙ ap (λ k. bitsHeld (argumentBits f g k)) (zero-add j)))
+      getD-take (g .count) out j 0 c ∙ h′ .held j c ∙ sym (getD-map-from (λ k. bitsHeld (argumentBits f g k)) 0 0 (g .count) j c ∙ ap (λ k. bitsHeld (argumentBits f g k)) (zero-add j)))

@@ -12,10 +12,11 @@ use Rattle.language.specs.Programs.{Func, Program, noFunction, maxRegisters}
 use Rattle.language.specs.Table.{functionAt, functionCount, functionResult, functionParams, registerCount, decodeFunction, decode}
 use Rattle.language.specs.Checking.{Verdict}
 use Rattle.language.specs.Answers.{Ran as Ranᴸ, Finished, checkAnswer, runFunction, runAnswer}
-use Rattle.theorems.proofs.TableView.{function-count, function-is}
-use Rattle.rules.proofs.Accepted.{accepted-sized, accepted-params}
-use Rattle.ial.specs.declared.running.Ran.{Ran}
-use Rattle.ial.specs.Runs.{ranOf, finishedOf}
+use Rattle.language.proofs.TableView.{function-count, function-is}
+use Rattle.flow.proofs.Accepted.{accepted-sized, accepted-params}
+use Rattle.answers.specs.declared.Ran.{Ran}
+use Rattle.answers.specs.Cases.{ranOf}
+use Rattle.answers.specs.Lent.{finishedOf}
 use Rattle.calling.specs.Words.{functionNumber}
 use Rattle.calling.specs.Lines.{ranLine}
 use Rattle.calling.specs.Calls.{Given, firstOutside, argumentsOf, callFunction, runLine}

@@ -4,7 +4,7 @@ use mathlib.Core.Path.{_≡_, refl, ap, _∙_}
 use mathlib.Core.List.{List, [], _∷_}
 use Prim.Native.Nat.{ℕ}
 use Rattle.language.specs.Bytes.{bytesOf}
-use Rattle.language.specs.Reading.{inRange, bitsOf}
+use Rattle.language.specs.Reading.{numberInRange, bitsOf}
 use Rattle.language.specs.Programs.{maxText}
 use Rattle.language.specs.Answers.{Ran, zeros, placeOf, refusedRun, runFunction, show}
 use Rattle.language.specs.Listing.{digits, line, refusedLine}
@@ -19,7 +19,7 @@ use Rattle.calling.specs.Lines.{valueOf}
 use Rattle.calling.specs.Calls.{Given, givenOf, firstOutside, argumentsOf, callFunction, runLine, translatedLine, translateLine, shownLine, textLine, readLine, runPrinted, translatePrinted}
 
 unfoldable calling : Unit {0}
-unfolding computing inRange bitsOf placeOf refusedRun runFunction digits line refusedLine bitsIn isDigit decimalFrom unsigned numberOf functionNamed functionNumber budgetOf keptBits valueOf firstOutside argumentsOf callFunction runLine translatedLine translateLine
+unfolding computing numberInRange bitsOf placeOf refusedRun runFunction digits line refusedLine bitsIn isDigit decimalFrom unsigned numberOf functionNamed functionNumber budgetOf keptBits valueOf firstOutside argumentsOf callFunction runLine translatedLine translateLine
 calling = tt
 
 -- ---- words

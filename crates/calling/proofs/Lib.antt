@@ -1,9 +1,8 @@
-pub mod Printing
+pub mod AcceptingLaws
 pub mod WordLaws
 pub mod ArgumentLaws
-pub mod AnswerLaws
+pub mod LinesLaws
 pub mod CallLaws
-pub mod TextLaws
 pub mod TranslationLaws
 pub mod WrittenLaws
 pub mod Examples

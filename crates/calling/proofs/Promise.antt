@@ -12,11 +12,11 @@ use borrow.Author.Tests.{eq-eqb, lt-ltb, le-ltb}
 use Rattle.laws.specs.Lists.{below, together}
 use Rattle.laws.proofs.Agreeing.{position-is}
 use Rattle.laws.proofs.Indexing.{length-below, length-together-le, getD-together}
-use Rattle.laws.proofs.Searching.{getD-range}
+use Rattle.laws.proofs.Ranges.{getD-map-from}
 use Rattle.laws.proofs.Tests.{of-true}
 use Rattle.language.specs.Instructions.{width, signed}
 use Rattle.language.specs.Programs.{Func, Register, noFunction, noRegister, maxRegisters, typeAt}
-use Rattle.language.specs.Reading.{inRange, bitsOf}
+use Rattle.language.specs.Reading.{numberInRange, bitsOf}
 use Rattle.language.specs.Running.{firstUnfit}
 use Rattle.language.specs.Answers.{runFunction}
 use Rattle.language.proofs.Widths.{powers}
@@ -29,8 +29,8 @@ use Rattle.calling.specs.Statements.{CallRuns}
 
 -- ---- one argument
 
-in-range-below : (t : ℕ) (s : Bool) (v : ℕ) → T (inRange t s v) → bitsOf t s v < 2 ^ width t
-unfolding inRange bitsOf
+in-range-below : (t : ℕ) (s : Bool) (v : ℕ) → T (numberInRange t s v) → bitsOf t s v < 2 ^ width t
+unfolding numberInRange bitsOf
 in-range-below t true v h = mod-lt (2 ^ width t - v) (pow-pos (width t))
 in-range-below t false v h = by (signed t) h
   where
@@ -40,9 +40,9 @@ in-range-below t false v h = by (signed t) h
 
 held-below : (t s v : ℕ) → bitsHeld (keptBits t s v) < 2 ^ width t
 unfolding keptBits bitsIn
-held-below t s v = by (ltb s 2) (inRange t (eqb s 1) v) refl
+held-below t s v = by (ltb s 2) (numberInRange t (eqb s 1) v) refl
   where
-    by : (a b : Bool) → inRange t (eqb s 1) v ≡ b → bitsHeld (cond a (cond b (bits.Fits (bitsOf t (eqb s 1) v)) bits.Outside) bits.Outside) < 2 ^ width t
+    by : (a b : Bool) → numberInRange t (eqb s 1) v ≡ b → bitsHeld (cond a (cond b (bits.Fits (bitsOf t (eqb s 1) v)) bits.Outside) bits.Outside) < 2 ^ width t
     by true true e = in-range-below t (eqb s 1) v (of-true _ e)
     by true false e = pow-pos (width t)
     by false b e = pow-pos (width t)
@@ -56,7 +56,7 @@ module _ (f : Func) (g : Given) where
 
   argument-at : (j : ℕ) → j < g .count → getD (argumentsOf f g) j 0 ≡ bitsHeld (argumentBits f g j)
   unfolding argumentsOf
-  argument-at j l = getD-range (λ k. bitsHeld (argumentBits f g k)) 0 (g .count) j 0 l ∙ ap (λ k. bitsHeld (argumentBits f g k)) (zero-add j)
+  argument-at j l = getD-map-from (λ k. bitsHeld (argumentBits f g k)) 0 0 (g .count) j l ∙ ap (λ k. bitsHeld (argumentBits f g k)) (zero-add j)
 
   argument-below : (j : ℕ) → j < g .count → getD (argumentsOf f g) j 0 < 2 ^ width (typeAt f j)
   argument-below j l = rw (argument-at j l) (held-below (typeAt f j) (getD (g .signs) j 0) (getD (g .magnitudes) j 0))

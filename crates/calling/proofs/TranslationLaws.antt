@@ -16,10 +16,10 @@ use Rattle.theorems.specs.TableLaw.{Held}
 use Rattle.theorems.proofs.Acceptance.{accepted-translation}
 use Rattle.theorems.proofs.TableSound.{accepted-held}
 use Rattle.theorems.proofs.AcceptanceCheck.{accepted-program}
-use Rattle.checker.specs.declared.Verdict.{Verdict as Verdictᶜ}
-use Rattle.checker.specs.declared.Verdict.the-variants as verdicts
-use Rattle.ial.specs.Verdicts.{filledOf}
-use Rattle.calling.proofs.Printing.{table-check}
+use Rattle.answers.specs.declared.Verdict.{Verdict as Verdictᶜ}
+use Rattle.answers.specs.declared.Verdict.the-variants as verdicts
+use Rattle.answers.specs.Lent.{filledOf}
+use Rattle.calling.proofs.AcceptingLaws.{table-check}
 use Rattle.calling.specs.Calls.{textLine, translatedLine}
 
 -- The tests of a translation, in their order, for any answer to each.

@@ -9,8 +9,8 @@ use borrow.Author.Tests.{eq-eqb, ne-eqb}
 use Rattle.laws.specs.Lists.{same, position, below}
 use Rattle.laws.proofs.Positions.{position-of}
 use Rattle.language.specs.Programs.{Func, noFunction}
-use Rattle.language.specs.Table.{functionAt, functionCount, nameAt, decodeFunction, decode}
-use Rattle.theorems.proofs.TableView.{function-count, function-is}
+use Rattle.language.specs.Table.{functionAt, functionCount, nameAt, decodeFunction, decode, functionLength, functionNamesOffset}
+use Rattle.language.proofs.TableView.{function-count, function-is}
 use Rattle.table.specs.Named.{isNamed, firstNamed}
 use Rattle.decimal.specs.declared.words.Decimal.{Decimal}
 use Rattle.decimal.specs.declared.words.Decimal.the-variants as decimals
@@ -34,15 +34,15 @@ budget-most d e p = rw (e, p) refl
 
 -- ---- a name
 
-named-at : (t : List ℕ) (word : List ℕ) (i : ℕ) → i < length (decode t) → isNamed t 9 34697 word i ≡ same (getD (decode t) i noFunction .name) word
+named-at : (t : List ℕ) (word : List ℕ) (i : ℕ) → i < length (decode t) → isNamed t functionNamesOffset functionLength word i ≡ same (getD (decode t) i noFunction .name) word
 unfolding decodeFunction
 named-at t word i l =
-    let here : 9 + 34697 * i ≡ functionAt i + 8 = omega arith in
+    let here : functionNamesOffset + functionLength * i ≡ functionAt i + 8 = omega arith in
     rw (function-is t i (rw (function-count t) at l)) (ap (λ (k : ℕ). same (nameAt t k) word) here)
 
-pub named-is : (t word : List ℕ) {r n : ℕ} → n ≡ functionCount t → r ≡ firstNamed t 9 34697 n word → r ≡ functionNamed (decode t) word
+pub named-is : (t word : List ℕ) {r n : ℕ} → n ≡ functionCount t → r ≡ firstNamed t functionNamesOffset functionLength n word → r ≡ functionNamed (decode t) word
 unfolding firstNamed functionNamed
 named-is t word e h =
     h
-    ∙ ap (λ (k : ℕ). position (isNamed t 9 34697 word) (below k)) (e ∙ sym (function-count t))
-    ∙ position-of (λ (f : Func). same (f .name) word) (isNamed t 9 34697 word) noFunction (decode t) (named-at t word)
+    ∙ ap (λ (k : ℕ). position (isNamed t functionNamesOffset functionLength word) (below k)) (e ∙ sym (function-count t))
+    ∙ position-of (λ (f : Func). same (f .name) word) (isNamed t functionNamesOffset functionLength word) noFunction (decode t) (named-at t word)

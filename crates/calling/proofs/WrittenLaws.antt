@@ -13,9 +13,10 @@ use Rattle.language.specs.Listing.{refusedLine}
 use Rattle.language.specs.MadeNames.{written}
 use Rattle.language.specs.Answers.{Shown, show, writeAnswer, checkAnswer}
 use Rattle.decimal.specs.Writing.{Written}
-use Rattle.ial.specs.declared.writing.Wrote.{Wrote}
-use Rattle.ial.specs.declared.writing.Wrote.the-variants as wrotes
-use Rattle.ial.specs.Texts.{wroteOf, shownOf}
+use Rattle.answers.specs.declared.Wrote.{Wrote}
+use Rattle.answers.specs.declared.Wrote.the-variants as wrotes
+use Rattle.answers.specs.Cases.{wroteOf}
+use Rattle.answers.specs.Lent.{shownOf}
 use Rattle.calling.specs.Calls.{shownLine, textLine, Prints}
 
 -- A line at the beginning of a buffer that has room for it.

@@ -1,4 +1,5 @@
 pub mod Words
 pub mod Lines
+pub mod Accepting
 pub mod Calls
 pub mod Statements

@@ -1,9 +1,9 @@
 // Arguments by meaning: each word is kept as a sign and a magnitude, and becomes what its parameter's register holds once the function is known.
 ghost use mathlib.Core.Path.{_≡_};
-ghost use Prim.Native.Nat.{_+_, _<_, _≤_};
+ghost use Prim.Native.Nat.{_≤_};
 ghost use lib.Dec.{ltb};
 ghost use lib.ListN.{length, set, take};
-ghost use Rattle.language.specs.Table.{registerCount, decodeFunction};
+ghost use Rattle.language.specs.Table.{registerCount, decodeFunction, InTable};
 ghost use Rattle.decimal.specs.Numbers.{numberOf};
 ghost use Rattle.calling.specs.Words.{signIn, magnitudeIn, keptBits};
 ghost use Rattle.calling.specs.Calls.{givenOf, firstOutside, argumentsOf};
@@ -70,7 +70,7 @@ pub fn fill_arguments(
     magnitudes: &[u64],
     out: &mut [u64],
 ) -> usize
-    requires { ⌜ (a + 34697 ≤ length (now t)) × (n ≤ registerCount (now t) a) × (n ≤ 256) ⌝ }
+    requires { ⌜ (InTable (now t) a) × (n ≤ registerCount (now t) a) × (n ≤ 256) ⌝ }
     requires { ⌜ (length (now signs) ≡ 256) × (length (now magnitudes) ≡ 256) × (length (now out) ≡ 256) ⌝ }
     ensures { λ r. ⌜ (r ≡ firstOutside (decodeFunction (now (t .entry)) a) (givenOf n (now (signs .entry)) (now (magnitudes .entry)))) × (r ≤ n) ⌝ }
     ensures { λ r. ⌜ (r ≡ n → take n (now (out .exit)) ≡ argumentsOf (decodeFunction (now (t .entry)) a) (givenOf n (now (signs .entry)) (now (magnitudes .entry)))) ⌝ }

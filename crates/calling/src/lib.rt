@@ -1,7 +1,8 @@
 // What the tool prints: the listing of a text, its functions or a translation as text, and a call in words (a function, a budget and arguments)
 // with the line of its answer.
-mod answers;
+mod accepting;
 mod arguments;
+mod lines;
 mod listings;
 mod runs;
 mod texts;

@@ -7,27 +7,22 @@ ghost use Rattle.language.specs.Programs.{noFunction};
 ghost use Rattle.language.specs.Table.{decode};
 ghost use Rattle.language.specs.Answers.{checkAnswer, runFunction};
 ghost use Rattle.decimal.specs.Writing.{Written};
-ghost use Rattle.ial.specs.Runs.{ranOf};
-ghost use Rattle.calling.specs.Calls.{givenOf, callFunction, runLine, checkedLine, runPrinted};
-use crate::answers::put_answer;
+ghost use Rattle.answers.specs.Cases.{ranOf};
+ghost use Rattle.calling.specs.Calls.{givenOf, callFunction, runLine, runPrinted};
+use crate::accepting::accept;
 use crate::arguments::fill_arguments;
+use crate::lines::put_answer;
 use crate::words::function_number;
 use ial::Ran;
 use ial::Verdict;
-use ial::check;
-use ial::read;
 use ial::run;
 use listing::list_refusal;
+use table::MAX_REGISTERS;
+use table::TABLE_LENGTH;
+use table::function_at;
 use table::function_count;
 use table::function_params;
 use table::function_result;
-
-// The cells of a function and of a table, and the most registers of a function.
-const FUNCTION: usize = 34697;
-
-const TABLE: usize = 555153;
-
-const REGISTERS: usize = 256;
 
 // The return type of a function, 0 for one that is not there.
 fn result_of(t: &[u8], function: u64) -> u8
@@ -37,7 +32,7 @@ fn result_of(t: &[u8], function: u64) -> u8
     if function_count(t) as u64 <= function {
         return 0;
     }
-    function_result(t, 1 + FUNCTION * function as usize)
+    function_result(t, function_at(function as usize))
 }
 
 // The run with registers that any function fits.
@@ -45,7 +40,7 @@ fn run_here(t: &[u8], function: u64, args: &[u64], budget: u64) -> Ran
     requires { ⌜ checkAnswer (now t) ≡ Verdictᴸ.accepted ⌝ }
     ensures { λ r. ⌜ ranOf r ≡ runFunction (decode (now (t .entry))) function (now (args .entry)) budget 256 .answer ⌝ }
 {
-    let mut registers = [0u64; REGISTERS];
+    let mut registers = [0u64; MAX_REGISTERS];
     run(t, function, args, budget, &mut registers)
 }
 
@@ -58,11 +53,11 @@ fn call(t: &[u8], function: u64, count: usize, signs: &[u8], magnitudes: &[u64],
     if function_count(t) as u64 <= function {
         return Ran::Refused(21, 0);
     }
-    let a = 1 + FUNCTION * function as usize;
+    let a = function_at(function as usize);
     if count != function_params(t, a) {
         return Ran::Refused(20, count);
     }
-    let mut args = [0u64; REGISTERS];
+    let mut args = [0u64; MAX_REGISTERS];
     let outside = fill_arguments(t, a, count, signs, magnitudes, &mut args);
     if outside < count {
         return Ran::Refused(20, outside);
@@ -92,26 +87,6 @@ fn run_checked(
     )
 }
 
-// What is printed of a run in any table.
-fn run_table(
-    t: &[u8],
-    word: &[u8],
-    count: usize,
-    signs: &[u8],
-    magnitudes: &[u64],
-    budget: u64,
-    out: &mut [u8],
-) -> usize
-    requires { ⌜ length (now t) ≡ 555153 ⌝ }
-    requires { ⌜ (length (now signs) ≡ 256) × (length (now magnitudes) ≡ 256) × (100 ≤ length (now out)) ⌝ }
-    ensures { λ r. ⌜ Written (now (out .entry)) 0 (checkedLine (λ p. runLine p (now (word .entry)) (givenOf count (now (signs .entry)) (now (magnitudes .entry))) budget) (decode (now (t .entry)))) (now (out .exit)) r × (r ≤ 100) ⌝ }
-{
-    match check(t) {
-        Verdict::Refused(n, p) => list_refusal(n, p, out),
-        Verdict::Accepted => run_checked(t, word, count, signs, magnitudes, budget, out),
-    }
-}
-
 // What is printed of a run: `count` arguments were given, of which the first 256 are kept.
 pub fn run_text(
     text: &[u8],
@@ -125,9 +100,9 @@ pub fn run_text(
     requires { ⌜ (length (now signs) ≡ 256) × (length (now magnitudes) ≡ 256) × (100 ≤ length (now out)) ⌝ }
     ensures { λ r. ⌜ Written (now (out .entry)) 0 (runPrinted (now (text .entry)) (now (word .entry)) (givenOf count (now (signs .entry)) (now (magnitudes .entry))) budget) (now (out .exit)) r × (r ≤ 100) ⌝ }
 {
-    let mut t = [0u8; TABLE];
-    match read(text, &mut t) {
+    let mut t = [0u8; TABLE_LENGTH];
+    match accept(text, &mut t) {
         Verdict::Refused(n, p) => list_refusal(n, p, out),
-        Verdict::Accepted => run_table(&t, word, count, signs, magnitudes, budget, out),
+        Verdict::Accepted => run_checked(&t, word, count, signs, magnitudes, budget, out),
     }
 }

@@ -4,15 +4,13 @@ ghost use lib.ListN.{length};
 ghost use Rattle.language.specs.Checking.{Verdict as Verdictᴸ};
 ghost use Rattle.language.specs.Table.{decode};
 ghost use Rattle.language.specs.Answers.{checkAnswer};
-ghost use Rattle.calling.specs.Calls.{textLine, checkedLine, writePrinted, Prints};
+ghost use Rattle.calling.specs.Calls.{textLine, writePrinted, Prints};
+use crate::accepting::accept;
 use ial::Verdict;
 use ial::Wrote;
-use ial::check;
-use ial::read;
 use ial::write;
 use listing::list_refusal;
-
-const TABLE: usize = 555153;
+use table::TABLE_LENGTH;
 
 // Of an accepted table. The buffer has room for any text, so 33 alone can refuse it.
 pub fn write_lines(t: &[u8], out: &mut [u8]) -> usize
@@ -26,25 +24,14 @@ pub fn write_lines(t: &[u8], out: &mut [u8]) -> usize
     }
 }
 
-// Of any table.
-fn write_table(t: &[u8], out: &mut [u8]) -> usize
-    requires { ⌜ (length (now t) ≡ 555153) × (length (now out) ≡ 65536) ⌝ }
-    ensures { λ r. ⌜ Prints (now (out .exit)) r (checkedLine textLine (decode (now (t .entry)))) ⌝ }
-{
-    match check(t) {
-        Verdict::Refused(n, p) => list_refusal(n, p, out),
-        Verdict::Accepted => write_lines(t, out),
-    }
-}
-
 // Of a text.
 pub fn write_text(text: &[u8], out: &mut [u8]) -> usize
     requires { ⌜ length (now out) ≡ 65536 ⌝ }
     ensures { λ r. ⌜ Prints (now (out .exit)) r (writePrinted (now (text .entry))) ⌝ }
 {
-    let mut t = [0u8; TABLE];
-    match read(text, &mut t) {
+    let mut t = [0u8; TABLE_LENGTH];
+    match accept(text, &mut t) {
         Verdict::Refused(n, p) => list_refusal(n, p, out),
-        Verdict::Accepted => write_table(&t, out),
+        Verdict::Accepted => write_lines(&t, out),
     }
 }

@@ -4,16 +4,14 @@ ghost use lib.ListN.{length};
 ghost use Rattle.language.specs.Checking.{Verdict as Verdictᴸ};
 ghost use Rattle.language.specs.Table.{decode};
 ghost use Rattle.language.specs.Answers.{checkAnswer};
-ghost use Rattle.calling.specs.Calls.{translatedLine, translateLine, checkedLine, translatePrinted, Prints};
+ghost use Rattle.calling.specs.Calls.{translatedLine, translatePrinted, Prints};
+use crate::accepting::accept;
 use crate::texts::write_lines;
 use crate::words::function_number;
 use ial::Verdict;
-use ial::check;
-use ial::read;
 use ial::translate;
 use listing::list_refusal;
-
-const TABLE: usize = 555153;
+use table::TABLE_LENGTH;
 
 // Of function i of an accepted table.
 fn translate_function(t: &[u8], function: u64, out: &mut [u8]) -> usize
@@ -21,22 +19,10 @@ fn translate_function(t: &[u8], function: u64, out: &mut [u8]) -> usize
     requires { ⌜ length (now out) ≡ 65536 ⌝ }
     ensures { λ r. ⌜ Prints (now (out .exit)) r (translatedLine (decode (now (t .entry))) function) ⌝ }
 {
-    let mut x = [0u8; TABLE];
+    let mut x = [0u8; TABLE_LENGTH];
     match translate(t, function, &mut x) {
         Verdict::Refused(n, p) => list_refusal(n, p, out),
         Verdict::Accepted => write_lines(&x, out),
-    }
-}
-
-// Of any table.
-fn translate_table(t: &[u8], word: &[u8], out: &mut [u8]) -> usize
-    requires { ⌜ length (now t) ≡ 555153 ⌝ }
-    requires { ⌜ length (now out) ≡ 65536 ⌝ }
-    ensures { λ r. ⌜ Prints (now (out .exit)) r (checkedLine (λ p. translateLine p (now (word .entry))) (decode (now (t .entry)))) ⌝ }
-{
-    match check(t) {
-        Verdict::Refused(n, p) => list_refusal(n, p, out),
-        Verdict::Accepted => translate_function(t, function_number(t, word), out),
     }
 }
 
@@ -45,9 +31,9 @@ pub fn translate_text(text: &[u8], word: &[u8], out: &mut [u8]) -> usize
     requires { ⌜ length (now out) ≡ 65536 ⌝ }
     ensures { λ r. ⌜ Prints (now (out .exit)) r (translatePrinted (now (text .entry)) (now (word .entry))) ⌝ }
 {
-    let mut t = [0u8; TABLE];
-    match read(text, &mut t) {
+    let mut t = [0u8; TABLE_LENGTH];
+    match accept(text, &mut t) {
         Verdict::Refused(n, p) => list_refusal(n, p, out),
-        Verdict::Accepted => translate_table(&t, word, out),
+        Verdict::Accepted => translate_function(&t, function_number(&t, word), out),
     }
 }

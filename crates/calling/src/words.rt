@@ -8,13 +8,10 @@ use decimal::Decimal;
 use decimal::read_decimal;
 use ial::Verdict;
 use ial::check;
+use table::FUNCTION_LENGTH;
+use table::FUNCTION_NAMES_OFFSET;
 use table::find_name;
 use table::function_count;
-
-// The cells of a function, and the first function's name among the cells of a table.
-const FUNCTION: usize = 34697;
-
-const NAME: usize = 9;
 
 // 2^64 - 1: no table has so many functions, and no run here takes so many steps.
 const MOST: u64 = 18446744073709551615;
@@ -30,7 +27,8 @@ fn function_named(t: &[u8], word: &[u8]) -> u64
     requires { ⌜ checkAnswer (now t) ≡ Verdictᴸ.accepted ⌝ }
     ensures { λ r. ⌜ r ≡ functionNamed (decode (now (t .entry))) (now (word .entry)) ⌝ }
 {
-    find_name(t, NAME, FUNCTION, function_count(t), word) as u64
+    let n = function_count(t);
+    find_name(t, FUNCTION_NAMES_OFFSET, FUNCTION_LENGTH, n, word) as u64
 }
 
 // What a word's number is, or the number of what it names.

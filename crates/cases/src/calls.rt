@@ -1,18 +1,18 @@
 // One call of the library for each kind of record, with what it answers and whether all that was lent is as it must be.
-use crate::answers::say_ran;
-use crate::answers::say_verdict;
-use crate::answers::say_wrote;
 use crate::files::say;
 use crate::files::say_number;
-use crate::files::upto;
 use crate::records::Record;
 use crate::records::least;
 use crate::records::numbers;
 use crate::records::part;
+use crate::saying::say_ran;
+use crate::saying::say_verdict;
+use crate::saying::say_wrote;
 use crate::tables::compare;
 use crate::tables::compare_text;
 use crate::tables::poison;
 use calling::list_text;
+use loading::upto;
 
 // The registers that are lent, more than a function may have.
 const CELLS: usize = 300;

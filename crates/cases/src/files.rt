@@ -1,8 +1,7 @@
 // Standard output, and the files in the folder the program runs in.
 use libc::STDOUT_FILENO;
-ghost use mathlib.Core.Path.{_≡_};
 ghost use Prim.Native.Nat.{_+_, _≤_};
-ghost use lib.ListN.{length, take};
+ghost use lib.ListN.{length};
 
 pub(crate) fn say(s: &[u8]) {
     io::write_all(STDOUT_FILENO, s);
@@ -32,14 +31,4 @@ pub(crate) fn load(name: &[u8], into: &mut [u8]) -> usize
         return into.len() + 1;
     }
     n
-}
-
-// The first n bytes, or all where there are fewer.
-pub(crate) fn upto(s: &[u8], n: usize) -> &[u8]
-    ensures { λ r. ⌜ now r ≡ take n (now (s .entry)) ⌝ }
-{
-    if s.len() < n {
-        return s;
-    }
-    &s[..n]
 }

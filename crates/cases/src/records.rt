@@ -44,7 +44,7 @@ pub(crate) fn count(s: &[u8]) -> usize
 }
 
 // Record i.
-pub(crate) fn record_at(s: &[u8], i: usize) -> Record
+pub(crate) fn script_record(s: &[u8], i: usize) -> Record
     requires { ⌜ i < 65536 ⌝ }
 {
     let k = 8 + 88 * i;

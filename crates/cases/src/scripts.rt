@@ -7,14 +7,14 @@ use crate::calls::translate;
 use crate::calls::write;
 use crate::files::load;
 use crate::files::say;
-use crate::files::upto;
 use crate::records::Record;
 use crate::records::count;
 use crate::records::part;
-use crate::records::record_at;
+use crate::records::script_record;
 use crate::tables::ROOM;
 use crate::tables::fill_gaps;
 use crate::tables::put_cells;
+use loading::upto;
 
 // The longest script.
 const SCRIPT: usize = 262144;
@@ -42,7 +42,7 @@ fn ask(s: &[u8], r: Record, t: &[u8], translated: &[u8]) {
     }
 }
 
-fn perform(s: &[u8], r: Record, t: &mut [u8], translated: &mut [u8]) {
+fn play(s: &[u8], r: Record, t: &mut [u8], translated: &mut [u8]) {
     say(part(s, r.label_at, r.label_len));
     let kind = r.kind;
     match kind {
@@ -52,11 +52,11 @@ fn perform(s: &[u8], r: Record, t: &mut [u8], translated: &mut [u8]) {
     }
 }
 
-fn perform_all(s: &[u8], t: &mut [u8], translated: &mut [u8]) {
+fn play_all(s: &[u8], t: &mut [u8], translated: &mut [u8]) {
     let n = count(s);
     let mut i = 0;
     while i < n {
-        perform(s, record_at(s, i), t, translated);
+        play(s, script_record(s, i), t, translated);
         i += 1;
     }
 }
@@ -72,5 +72,5 @@ pub(crate) fn script(name: &[u8]) {
     }
     let mut t = [0u8; ROOM];
     let mut translated = [0u8; ROOM];
-    perform_all(upto(&s, n), &mut t, &mut translated);
+    play_all(upto(&s, n), &mut t, &mut translated);
 }

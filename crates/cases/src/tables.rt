@@ -4,7 +4,7 @@ use crate::files::say_number;
 ghost use Prim.Native.Nat.{_<_};
 
 // A cell more than a table has.
-pub const ROOM: usize = 555154;
+pub const ROOM: usize = table::TABLE_LENGTH + 1;
 
 // The cells of a list, four bytes each: the place in three bytes, low first, and the value.
 pub(crate) fn put_cells(t: &mut [u8], cells: &[u8]) {

@@ -3,7 +3,7 @@
 use mathlib.Core.Bool.{Bool, true, false, cond}
 use mathlib.Core.Path.{_≡_, refl, sym, ap, _∙_}
 use mathlib.Core.List.{List, [], _∷_, _++_, map, foldl, foldl-append, foldl-map}
-use Prim.Native.Nat.{ℕ, zero, suc, _<_}
+use Prim.Native.Nat.{ℕ, zero, _<_}
 use lib.Dec.{T, lit<}
 use borrow.Author.Tests.{eq-eqb}
 use lib.ListN.{length}
@@ -11,7 +11,7 @@ use Rattle.laws.specs.Lists.{all, keep, gather, below, empty}
 use Rattle.laws.proofs.Every.{Every, none, more, every-below-at}
 use Rattle.laws.proofs.Gather.{keep-gather, map-gather}
 use Rattle.language.specs.Programs.{Row, Func, isSsa, rowsAt, rowsOf, firstRow}
-use Rattle.language.specs.Checking.{Spot, spotAt, inRange, spotsFrom, spotsIn, spotsOf, rowNumber, breaks10, breaks11, breaks12, breaks13, breaks14, breaks15, breaks16, breaks17, Verdict, rowsThat, faults10, faults, firstFault}
+use Rattle.language.specs.Checking.{Spot, spotAt, inRange, spotsFrom, spotsIn, spotsOf, rowNumber, breaks10, breaks11, breaks12, breaks13, breaks14, breaks15, breaks16, breaks17, rowsThat, faults10, faults, firstFault}
 use Rattle.theorems.proofs.AcceptanceCheck.{passes, no-faults, no-rows, no-faults10, no-10, all-in-range}
 use Rattle.rules.specs.Tests.{formFault}
 use Rattle.paths.specs.Formed.{Formed}

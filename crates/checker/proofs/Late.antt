@@ -1,9 +1,9 @@
 -- 17 of a function by the first row that breaks it.
 -- Assumes nothing.
-use mathlib.Core.Bool.{Bool, true, false, _&&_}
-use mathlib.Core.Path.{_≡_, refl, sym, ap, _∙_}
-use mathlib.Core.List.{List, [], _∷_, map}
-use Prim.Native.Nat.{ℕ, suc, _+_, _*_, _≤_, _<_}
+use mathlib.Core.Bool.{true, false}
+use mathlib.Core.Path.{_≡_, sym, ap, _∙_}
+use mathlib.Core.List.{List, [], _∷_}
+use Prim.Native.Nat.{ℕ, suc, _≤_, _<_}
 use native.Mathlib.Omega.{arith}
 use lib.Dec.{T, eqb}
 use lib.ListN.{length, getD, drop}
@@ -14,8 +14,8 @@ use Rattle.laws.proofs.Positions.{position-before, position-hit}
 use Rattle.laws.proofs.Tests.{of-true}
 use Rattle.language.specs.Programs.{Row, Func, isSsa, rowsOf, rowPlace}
 use Rattle.language.specs.Table.{functionSsa, rowCount, decodeFunction}
-use Rattle.language.specs.Checking.{Spot, spotsOf, rowNumber, breaks17, Verdict, rowsThat, firstFault}
-use Rattle.theorems.proofs.TableView.{rows-count}
+use Rattle.language.specs.Checking.{Spot, spotsOf, breaks17, Verdict, rowsThat, firstFault}
+use Rattle.language.proofs.TableView.{rows-count}
 use Rattle.theorems.proofs.Spots.{spots-count, number-of-spot}
 
 noSpot : Spot

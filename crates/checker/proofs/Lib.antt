@@ -1,11 +1,11 @@
-pub mod Answers
+pub mod TestLaws
 pub mod Faults
-pub mod Heads
+pub mod HeadLaws
 pub mod Late
-pub mod Naming
+pub mod NamesLaws
 pub mod Notes
 pub mod Order
 pub mod Parts
-pub mod Passing
-pub mod Rows
-pub mod Sounding
+pub mod FormsLaws
+pub mod RowsLaws
+pub mod SoundLaws

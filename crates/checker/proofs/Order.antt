@@ -1,11 +1,10 @@
 -- The check of a table function by function: those before number i are accepted, and what is left is judged from there.
 -- Assumes nothing.
 use mathlib.Core.Bool.{true, false, cond}
-use mathlib.Core.Path.{_≡_, refl, sym, ap, _∙_}
+use mathlib.Core.Path.{_≡_, sym, ap, _∙_}
 use mathlib.Core.List.{List, [], _∷_}
-use Prim.Native.Nat.{ℕ, zero, suc, _≤_, _<_}
+use Prim.Native.Nat.{ℕ, suc, _≤_, _<_}
 use native.Mathlib.Omega.{arith}
-use lib.Dec.{eqb, leb}
 use lib.ListN.{length, drop, drop-of-length-le}
 use lib.Seq.{drop-cons}
 use borrow.Author.Tests.{eq-eqb, ne-eqb, le-leb, lt-leb}
@@ -13,7 +12,7 @@ use Rattle.language.specs.Programs.{Func, noFunction, maxFunctions, rowPlace}
 use Rattle.language.specs.Table.{tableLength, functionCount, functionAt, decodeFunction, decode}
 use Rattle.language.specs.Checking.{Verdict, breaks17, rowsThat, firstFault, judge, judgeFrom, check}
 use Rattle.language.specs.Answers.{checkAnswer}
-use Rattle.theorems.proofs.TableView.{function-count, function-is}
+use Rattle.language.proofs.TableView.{function-count, function-is}
 use Rattle.checker.specs.declared.forms.Lowest.{Lowest}
 use Rattle.checker.specs.Notes.{notedOf}
 use Rattle.checker.specs.Parts.{namesBefore, soundAt}

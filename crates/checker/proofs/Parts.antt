@@ -1,29 +1,29 @@
 -- 9 of a function by its parts, each a test of cells, is 9 of the function that the cells hold.
 -- Assumes nothing.
-use mathlib.Core.Bool.{Bool, true, false, not, _&&_, and-eq-true-iff}
-use mathlib.Core.Path.{_≡_, refl, sym, ap, _∙_}
-use mathlib.Core.List.{List, [], _∷_, map, map-map}
-use Prim.Native.Nat.{ℕ, _+_, _≤_, _<_}
+use mathlib.Core.Bool.{Bool, true, not, _&&_}
+use mathlib.Core.Path.{_≡_, sym, ap, _∙_}
+use mathlib.Core.List.{List, map, map-map}
+use Prim.Native.Nat.{ℕ, _≤_, _<_}
 use native.Mathlib.Omega.{arith}
-use lib.Dec.{T, leb, ltb, leb→le, le→leb}
+use lib.Dec.{T, ltb, leb→le, le→leb}
 use lib.Ieee.Bits.{is-true}
 use lib.Ieee.Fits.{and-l, and-r, and-i}
-use lib.ListN.{length}
 use Rattle.laws.specs.Lists.{any, all, below, empty, same}
-use Rattle.laws.proofs.All.{all-map}
+use Rattle.laws.proofs.Appending.{all-map}
 use Rattle.laws.proofs.Every.{every-all, every-below-at}
 use Rattle.laws.proofs.Tests.{both-ways}
 use Rattle.language.specs.Instructions.{typeCount, void}
-use Rattle.language.specs.Programs.{Func, isSsa, blockAt, rowsOf, entryCount, maxRegisters, maxBlocks, maxRows, maxEntries}
+use Rattle.language.specs.Programs.{isSsa, blockAt, rowsOf, maxRegisters, maxBlocks, maxRows, maxEntries}
 use Rattle.language.specs.Names.{spelled}
-use Rattle.language.specs.Table.{functionLength, functionEntry, functionName, functionParams, functionSsa, functionResult, registerCount, registerType, registerName, blockCount, blockName, rowCount, entriesBefore, blocksPlaced, phisPlaced, decodeRegister, decodeBlock, decodeRow, decodeFunction}
+use Rattle.language.specs.Table.{functionEntry, functionName, functionParams, functionSsa, functionResult, registerCount, registerName, blockCount, blockName, rowCount, entriesBefore, blocksPlaced, phisPlaced, decodeRegister, decodeBlock, decodeRow, decodeFunction}
+use Rattle.language.specs.Table.{InTable}
 use Rattle.language.specs.Checking.{inRange, spelledOrNone, distinct, sound}
-use Rattle.theorems.proofs.AcceptanceCheck.{Sound, sound-parts, sound-apart, parts-sound-among}
-use Rattle.theorems.proofs.TableView.{register-count, block-count, block-is, rows-count, sequence-rows, sequence-entries}
-use Rattle.rules.specs.Prepared.{Sized, Prepared}
+use Rattle.theorems.proofs.AcceptanceCheck.{sound-parts, sound-apart, parts-sound-among}
+use Rattle.language.proofs.TableView.{register-count, block-count, block-is, rows-count, sequence-rows, sequence-entries}
+use Rattle.flow.specs.Sized.{Sized, Preparable}
+use Rattle.flow.specs.Prepared.{Prepared}
 use Rattle.paths.specs.Formed.{Formed}
-use Rattle.rules.specs.Preparing.{Fit}
-use Rattle.checker.specs.Notes.{Ready, notedOf}
+use Rattle.checker.specs.Notes.{RowsRanged, notedOf}
 use Rattle.spelling.specs.Names.{namesIn}
 use Rattle.checker.proofs.Faults.{formed}
 use Rattle.checker.specs.Parts.{namesBefore, headRight, typesRight, blocksRight, rowsRight, listedRight, namesRight, soundAt}
@@ -155,7 +155,7 @@ module _ (t : List ℕ) (a : ℕ) where
         (λ h. sound-cells (right-parts h))
 
     -- What the tests of the rows take for granted.
-    pub sized-right : a + functionLength ≤ length t → Right → Sized t a
+    pub sized-right : InTable t a → Right → Sized t a
     unfolding decodeFunction
     sized-right w h =
         record {
@@ -170,10 +170,10 @@ module _ (t : List ℕ) (a : ℕ) where
     right-ranges : Right → T (all (inRange (decodeFunction t a)) (rowsOf (decodeFunction t a)))
     right-ranges h = moved (ranges-are (is-true (blocksPlaced t a) (h .sequence))) (h .ranges)
 
-    pub fit-right : a + functionLength ≤ length t → Right → Fit t a
-    fit-right w h = record { sized = sized-right w h; ranges = right-ranges h }
+    pub preparable-right : InTable t a → Right → Preparable t a
+    preparable-right w h = record { sized = sized-right w h; ranges = right-ranges h }
 
-    pub ready-right : {m : List ℕ} → a + functionLength ≤ length t → Right → Prepared (decodeFunction t a) m → Ready t a m
+    pub ready-right : {m : List ℕ} → InTable t a → Right → Prepared (decodeFunction t a) m → RowsRanged t a m
     ready-right w h p =
         record { sized = sized-right w h; prepared = p; ranges = λ k l. every-below-at (rowCount t a) (every-all (λ k. inRange (decodeFunction t a) (decodeRow t a k)) (below (rowCount t a)) (h .ranges)) k l }
 

@@ -1,3 +1,2 @@
 pub mod Notes
 pub mod Parts
-pub mod Verdicts

@@ -5,10 +5,11 @@ use mathlib.Core.List.{List, [], _∷_}
 use Prim.Native.Nat.{ℕ, zero, suc, _+_}
 use lib.Dec.{eqb, leb, ltb}
 use Rattle.laws.specs.Lists.{any, all, below, empty, same}
-use Rattle.language.specs.Instructions.{typeCount, void}
+use Rattle.language.specs.Instructions.{typeCount, void, phiOp}
 use Rattle.language.specs.Programs.{maxRegisters, maxBlocks, maxRows, maxEntries}
 use Rattle.language.specs.Names.{spelled}
 use Rattle.language.specs.Table.{functionAt, functionSsa, functionResult, functionParams, registerCount, blockCount, functionEntry, functionName, registerType, blockName, rowOp, phiFirst, phiCount, rowCount, entriesBefore, blocksPlaced, phisPlaced, decodeRow, decodeFunction}
+use Rattle.language.specs.Table.{blockLength, blockNamesOffset, registerLength, registerNamesOffset}
 use Rattle.language.specs.Checking.{inRange, spelledOrNone, distinct}
 use Rattle.spelling.specs.Names.{namesIn}
 
@@ -41,7 +42,7 @@ placedRows t a = cond (blocksRight t a) (rowCount t a) (suc maxRows)
 
 -- How many phi entries the rows up to k have, n being those of the rows before it; one more than there may be, if row k's do not begin at n.
 unfoldable pub entriesAfter : List ℕ → ℕ → ℕ → ℕ → ℕ
-entriesAfter t a k n = cond (eqb (rowOp t a k) 31) (cond (eqb (phiFirst t a k) n) (n + phiCount t a k) (suc maxEntries)) n
+entriesAfter t a k n = cond (eqb (rowOp t a k) phiOp) (cond (eqb (phiFirst t a k) n) (n + phiCount t a k) (suc maxEntries)) n
 
 -- The phi entries are in sequence, and not too many; every number of every row is in its range.
 unfoldable pub rowsRight : List ℕ → ℕ → Bool
@@ -59,7 +60,7 @@ unfoldable pub namesRight : List ℕ → ℕ → ℕ → Bool
 namesRight t i a =
     spelled (functionName t a)
     && (not (any (same (functionName t a)) (namesBefore t i))
-    && (listedRight t (a + 74) 66 (registerCount t a) && listedRight t (a + 16973) 69 (blockCount t a)))
+    && (listedRight t (a + registerNamesOffset) registerLength (registerCount t a) && listedRight t (a + blockNamesOffset) blockLength (blockCount t a)))
 
 -- All of it.
 unfoldable pub soundAt : List ℕ → ℕ → ℕ → Bool

@@ -2,7 +2,7 @@
 ghost use mathlib.Core.Path.{_≡_};
 ghost use Prim.Native.Nat.{_<_, _≤_};
 ghost use Rattle.language.specs.Table.{blockCount, decodeFunction};
-ghost use Rattle.checker.specs.Notes.{Ready, noted as notedᴸ, notedIn, notedOf};
+ghost use Rattle.checker.specs.Notes.{RowsRanged, noted as notedᴸ, notedIn, notedOf};
 use rules::form_fault;
 use table::block_first;
 use table::block_rows;
@@ -30,7 +30,7 @@ impl Lowest {
 
 // What is noted of the rows of block b. "A block with no rows is placed at the row where it would begin": 10.
 fn note_block(t: &[u8], a: usize, m: &[u16], b: usize, low: Lowest) -> Lowest
-    requires { ⌜ Ready (now t) a (now m) ⌝ }
+    requires { ⌜ RowsRanged (now t) a (now m) ⌝ }
     requires { ⌜ (b < blockCount (now t) a) × (low .row ≤ 1024) ⌝ }
     ensures { λ r. ⌜ (r ≡ notedIn (decodeFunction (now (t .entry)) a) low b) × (r .row ≤ 1024) ⌝ }
 {
@@ -55,7 +55,7 @@ fn note_block(t: &[u8], a: usize, m: &[u16], b: usize, low: Lowest) -> Lowest
 
 // What is noted of all rows.
 pub fn note_blocks(t: &[u8], a: usize, m: &[u16], blocks: usize) -> Lowest
-    requires { ⌜ Ready (now t) a (now m) ⌝ }
+    requires { ⌜ RowsRanged (now t) a (now m) ⌝ }
     requires { ⌜ blocks ≡ blockCount (now t) a ⌝ }
     ensures { λ r. ⌜ (r ≡ notedOf (decodeFunction (now (t .entry)) a)) × (r .row ≤ 1024) ⌝ }
 {

@@ -5,38 +5,34 @@ ghost use Prim.Native.Nat.{_<_};
 ghost use lib.Dec.{T};
 ghost use lib.ListN.{length};
 ghost use Rattle.language.specs.Programs.{isSsa};
-ghost use Rattle.language.specs.Table.{functionAt, rowCount, decodeFunction};
+ghost use Rattle.language.specs.Table.{functionAt, rowCount, decodeFunction, tableLength};
 ghost use Rattle.language.specs.Checking.{breaks17, rowsThat, firstFault, judge};
 ghost use Rattle.language.specs.Answers.{checkAnswer};
 ghost use Rattle.lexer.specs.Lexing.{classTable};
-ghost use Rattle.rules.specs.Prepared.{Sized, Prepared};
+ghost use Rattle.flow.specs.Layout.{flowLength};
+ghost use Rattle.flow.specs.Sized.{Sized};
+ghost use Rattle.flow.specs.Prepared.{Prepared};
 ghost use Rattle.paths.specs.Formed.{Formed};
+ghost use Rattle.answers.specs.Cases.{verdictOf};
 ghost use Rattle.checker.specs.Parts.{namesBefore};
-ghost use Rattle.checker.specs.Verdicts.{verdictOf};
 
 mod forms;
 mod sound;
 
+use answers::Verdict;
+use answers::row_place;
+use flow::FLOW_LENGTH;
+use flow::prepare;
 use forms::note_blocks;
 use paths::first_late;
-use rules::prepare;
 use sound::sound_rows;
+use table::MAX_FUNCTIONS;
+use table::MAX_ROWS;
+use table::TABLE_LENGTH;
 use table::block_count;
+use table::function_at;
 use table::function_count;
 use table::function_ssa;
-
-// "A lent table has the one length that docs/ states"; "16 functions".
-const TABLE: usize = 555153;
-
-const MAX_FUNCTIONS: usize = 16;
-
-const MAX_ROWS: usize = 1024;
-
-// What the check answers: accepted, or refused with a number of document 01 and its place.
-pub enum Verdict {
-    Accepted,
-    Refused(u8, usize),
-}
 
 // 17 of function i, where it breaks none of 9 to 16.
 fn check_paths(t: &[u8], i: usize, a: usize, m: &[u16], rows: usize) -> Verdict
@@ -49,17 +45,17 @@ fn check_paths(t: &[u8], i: usize, a: usize, m: &[u16], rows: usize) -> Verdict
     }
     let row = first_late(t, a, m);
     if row < rows {
-        return Verdict::Refused(17, 2048 * i + row);
+        return Verdict::Refused(17, row_place(i, row));
     }
     Verdict::Accepted
 }
 
 // Function i, from 9 to 17.
 fn check_function(t: &[u8], i: usize, classes: &[u8; 256], m: &mut [u16]) -> Verdict
-    requires { ⌜ (length (now t) ≡ 555153) × (i < 16) × (now classes ≡ classTable) × (length (now m) ≡ 768) ⌝ }
+    requires { ⌜ (length (now t) ≡ tableLength) × (i < 16) × (now classes ≡ classTable) × (length (now m) ≡ flowLength) ⌝ }
     ensures { λ r. ⌜ verdictOf r ≡ judge (namesBefore (now (t .entry)) i) i (decodeFunction (now (t .entry)) (functionAt i)) ⌝ }
 {
-    let a = 1 + 34697 * i;
+    let a = function_at(i);
     let rows = sound_rows(t, i, a, classes);
     if MAX_ROWS < rows {
         return Verdict::Refused(9, i);
@@ -67,7 +63,7 @@ fn check_function(t: &[u8], i: usize, classes: &[u8; 256], m: &mut [u16]) -> Ver
     prepare(t, a, m);
     let low = note_blocks(t, a, m, block_count(t, a));
     if low.number != 17 {
-        return Verdict::Refused(low.number, 2048 * i + low.row);
+        return Verdict::Refused(low.number, row_place(i, low.row));
     }
     check_paths(t, i, a, m, rows)
 }
@@ -76,7 +72,7 @@ fn check_function(t: &[u8], i: usize, classes: &[u8; 256], m: &mut [u16]) -> Ver
 pub fn check_table(t: &[u8]) -> Verdict
     ensures { λ r. ⌜ verdictOf r ≡ checkAnswer (now (t .entry)) ⌝ }
 {
-    if t.len() != TABLE {
+    if t.len() != TABLE_LENGTH {
         return Verdict::Refused(9, 0);
     }
     let n = function_count(t);
@@ -84,7 +80,7 @@ pub fn check_table(t: &[u8]) -> Verdict
         return Verdict::Refused(9, 0);
     }
     let classes = lexer::classes();
-    let mut m = [0u16; 768];
+    let mut m = [0u16; FLOW_LENGTH];
     let mut i = 0;
     while i < n {
         let Verdict::Refused(k, p) = check_function(t, i, &classes, &mut m) else {

@@ -3,13 +3,25 @@ ghost use mathlib.Core.Path.{_≡_};
 ghost use Prim.Native.Nat.{_+_, _*_, _<_, _≤_};
 ghost use lib.ListN.{length};
 ghost use Rattle.laws.specs.Lists.{any, same};
-ghost use Rattle.language.specs.Table.{registerCount, blockCount, functionName, rowCount};
+ghost use Rattle.language.specs.Table.{registerCount, blockCount, functionName, rowCount, InTable, tableLength};
 ghost use Rattle.lexer.specs.Lexing.{classTable};
 ghost use Rattle.checker.specs.Parts.{namesBefore, headRight, typesRight, placedRows, entriesAfter, rowsRight, listedRight, namesRight, soundRows};
+use instructions::ops;
+use instructions::types;
 use rules::in_range;
 use spelling::all_spelled;
 use spelling::distinct_names;
 use spelling::spelled;
+use table::BLOCK_LENGTH;
+use table::BLOCK_NAMES_OFFSET;
+use table::FUNCTION_LENGTH;
+use table::FUNCTION_NAMES_OFFSET;
+use table::MAX_BLOCKS;
+use table::MAX_ENTRIES;
+use table::MAX_REGISTERS;
+use table::MAX_ROWS;
+use table::REGISTER_LENGTH;
+use table::REGISTER_NAMES_OFFSET;
 use table::block_count;
 use table::block_first;
 use table::block_name;
@@ -27,23 +39,15 @@ use table::register_type;
 use table::row_op;
 
 // "256 registers (parameters counted), 64 blocks, 1,024 instructions, 1,024 phi entries"
-const MAX_REGISTERS: usize = 256;
-
-const MAX_BLOCKS: usize = 64;
-
-const MAX_ROWS: usize = 1024;
-
-const MAX_ENTRIES: usize = 1024;
-
 // The mark, the return type, the counts, and entry: a block, with a name of no bytes.
 fn head_right(t: &[u8], a: usize) -> bool
-    requires { ⌜ a + 34697 ≤ length (now t) ⌝ }
+    requires { ⌜ InTable (now t) a ⌝ }
     ensures { λ r. ⌜ r ≡ headRight (now (t .entry)) a ⌝ }
 {
     if 2 <= function_ssa(t, a) {
         return false;
     }
-    if 10 < function_result(t, a) {
+    if types::VOID < function_result(t, a) {
         return false;
     }
     let registers = register_count(t, a);
@@ -66,12 +70,12 @@ fn head_right(t: &[u8], a: usize) -> bool
 
 // Every register's type.
 fn types_right(t: &[u8], a: usize, registers: usize) -> bool
-    requires { ⌜ (a + 34697 ≤ length (now t)) × (registers ≡ registerCount (now t) a) × (registers ≤ 256) ⌝ }
+    requires { ⌜ (InTable (now t) a) × (registers ≡ registerCount (now t) a) × (registers ≤ 256) ⌝ }
     ensures { λ r. ⌜ r ≡ typesRight (now (t .entry)) a ⌝ }
 {
     let mut i = 0;
     while i < registers {
-        if 10 <= register_type(t, a, i) {
+        if types::COUNT <= register_type(t, a, i) {
             return false;
         }
         i += 1;
@@ -81,7 +85,7 @@ fn types_right(t: &[u8], a: usize, registers: usize) -> bool
 
 // How many rows there are, if the blocks' rows are in sequence and not too many; else one more than there may be.
 fn placed_rows(t: &[u8], a: usize, blocks: usize) -> usize
-    requires { ⌜ (a + 34697 ≤ length (now t)) × (blocks ≡ blockCount (now t) a) × (blocks ≤ 64) ⌝ }
+    requires { ⌜ (InTable (now t) a) × (blocks ≡ blockCount (now t) a) × (blocks ≤ 64) ⌝ }
     ensures { λ r. ⌜ r ≡ placedRows (now (t .entry)) a ⌝ }
 {
     let mut n = 0;
@@ -102,10 +106,10 @@ fn placed_rows(t: &[u8], a: usize, blocks: usize) -> usize
 // How many phi entries there are up to row k and with it, n being those before it; one more than there may be, if they are too many
 // or the row's do not begin at n.
 fn entries_after(t: &[u8], a: usize, k: usize, n: usize) -> usize
-    requires { ⌜ (a + 34697 ≤ length (now t)) × (k < 1024) × (n ≤ 1024) ⌝ }
+    requires { ⌜ (InTable (now t) a) × (k < 1024) × (n ≤ 1024) ⌝ }
     ensures { λ r. ⌜ r ≡ entriesAfter (now (t .entry)) a k n ⌝ }
 {
-    if row_op(t, a, k) != 31 {
+    if row_op(t, a, k) != ops::PHI {
         return n;
     }
     if phi_first(t, a, k) != n {
@@ -116,7 +120,7 @@ fn entries_after(t: &[u8], a: usize, k: usize, n: usize) -> usize
 
 // Every row's numbers, and where its phi entries stand.
 fn rows_right(t: &[u8], a: usize, registers: usize, blocks: usize, rows: usize) -> bool
-    requires { ⌜ (a + 34697 ≤ length (now t)) × (registers ≡ registerCount (now t) a) × (blocks ≡ blockCount (now t) a) ⌝ }
+    requires { ⌜ (InTable (now t) a) × (registers ≡ registerCount (now t) a) × (blocks ≡ blockCount (now t) a) ⌝ }
     requires { ⌜ (rows ≡ rowCount (now t) a) × (rows ≤ 1024) ⌝ }
     ensures { λ r. ⌜ r ≡ rowsRight (now (t .entry)) a ⌝ }
 {
@@ -137,10 +141,11 @@ fn rows_right(t: &[u8], a: usize, registers: usize, blocks: usize, rows: usize) 
 
 // Whether a function before number i has the name of the one at cell a.
 fn named_before(t: &[u8], i: usize, a: usize) -> bool
-    requires { ⌜ (length (now t) ≡ 555153) × (i < 16) × (a + 34697 ≤ length (now t)) ⌝ }
+    requires { ⌜ (length (now t) ≡ tableLength) × (i < 16) × (InTable (now t) a) ⌝ }
     ensures { λ r. ⌜ r ≡ any (same (functionName (now (t .entry)) a)) (namesBefore (now (t .entry)) i) ⌝ }
 {
-    find_name(t, 9, 34697, i, function_name(t, a)) < i
+    let name = function_name(t, a);
+    find_name(t, FUNCTION_NAMES_OFFSET, FUNCTION_LENGTH, i, name) < i
 }
 
 // Names that stand `stride` apart from cell `at` on: each is none or one that a text can spell, and none stands twice.
@@ -163,7 +168,7 @@ fn names_right(
     blocks: usize,
     classes: &[u8; 256],
 ) -> bool
-    requires { ⌜ (length (now t) ≡ 555153) × (i < 16) × (a + 34697 ≤ length (now t)) × (now classes ≡ classTable) ⌝ }
+    requires { ⌜ (length (now t) ≡ tableLength) × (i < 16) × (InTable (now t) a) × (now classes ≡ classTable) ⌝ }
     requires { ⌜ (registers ≡ registerCount (now t) a) × (registers ≤ 256) × (blocks ≡ blockCount (now t) a) × (blocks ≤ 64) ⌝ }
     ensures { λ r. ⌜ r ≡ namesRight (now (t .entry)) i a ⌝ }
 {
@@ -173,15 +178,21 @@ fn names_right(
     if named_before(t, i, a) {
         return false;
     }
-    if !listed_right(t, a + 74, 66, registers, classes) {
+    if !listed_right(
+        t,
+        a + REGISTER_NAMES_OFFSET,
+        REGISTER_LENGTH,
+        registers,
+        classes,
+    ) {
         return false;
     }
-    listed_right(t, a + 16973, 69, blocks, classes)
+    listed_right(t, a + BLOCK_NAMES_OFFSET, BLOCK_LENGTH, blocks, classes)
 }
 
 // How many rows the function has, if 9 does not hold of it; else one more than it may have.
 pub fn sound_rows(t: &[u8], i: usize, a: usize, classes: &[u8; 256]) -> usize
-    requires { ⌜ (length (now t) ≡ 555153) × (i < 16) × (a + 34697 ≤ length (now t)) × (now classes ≡ classTable) ⌝ }
+    requires { ⌜ (length (now t) ≡ tableLength) × (i < 16) × (InTable (now t) a) × (now classes ≡ classTable) ⌝ }
     ensures { λ r. ⌜ r ≡ soundRows (now (t .entry)) i a ⌝ }
 {
     if !head_right(t, a) {

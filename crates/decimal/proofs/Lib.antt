@@ -1,4 +1,4 @@
-pub mod Amounts
-pub mod Ranging
-pub mod Tenths
+pub mod DigitsLaws
+pub mod RangesLaws
+pub mod WordsLaws
 pub mod Writings

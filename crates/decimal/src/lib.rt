@@ -4,6 +4,7 @@ mod ranges;
 mod words;
 
 pub use digits::put_digits;
+pub use instructions::types;
 pub use ranges::Bits;
 pub use ranges::Meant;
 pub use ranges::of_bits;

@@ -1,8 +1,7 @@
 // Decimal words: an optional minus, then one or more digits and nothing else. A word of any length is a number.
-ghost use mathlib.Core.Bool.{_&&_};
 ghost use mathlib.Core.Path.{_≡_};
 ghost use Prim.Native.Nat.{ℕ, _+_, _-_, _*_, _<_};
-ghost use lib.Dec.{T, leb, ltb};
+ghost use lib.Dec.{T};
 ghost use Rattle.decimal.specs.Numbers.{isDigit, amountOf, unsigned, numberOf, decimalFrom};
 
 // What a word says: nothing, a number below 2^64 with its sign, or one beyond.

@@ -1,27 +1,23 @@
 -- The grammar's small definitions at the numbers that the code tests. Assumes nothing.
 use mathlib.Core.Path.{_≡_, refl, ap, _∙_, sym}
 use mathlib.Core.Bool.{Bool, true, false, cond, not, _&&_}
-use mathlib.Core.List.{List, [], _∷_}
 use Prim.Native.Nat.{ℕ, zero, suc, _-_, _≤_}
 use native.Mathlib.Omega.{arith}
 use lib.Dec.{leb, ltb}
 use borrow.Author.Tests.{leb-true, not-true, not-false}
-use Rattle.language.specs.Words.{isType, isInstruction, firstType, firstInstruction, instructionOf}
+use Rattle.language.specs.Words.{isType, isInstruction, firstType, firstInstruction, instructionOf, wordCount}
 use Rattle.language.specs.Instructions.{Operand}
 use Rattle.language.specs.Grammar.{Stage as Stageᴸ, Act as Actᴸ, Move as Moveᴸ, to, wrongMove, afterWord, wordAlone, wordWithTarget, afterSources, afterSource, afterMention, sources, inOperand}
 use Rattle.instructions.specs.Shapes.{operandNumber, shapeOf}
 use Rattle.instructions.specs.declared.Shape.{Shape}
+use Rattle.lexer.proofs.Keys.{and-left}
 use Rattle.grammar.specs.Meaning.{operandFrom}
-
-and-left : (b c : Bool) → b && c ≡ true → b ≡ true
-and-left true c h = refl
-and-left false c h = h
 
 pub type-word : (w : ℕ) (r : Bool) → r ≡ isType w → r ≡ true → firstType ≤ w
 type-word w r e h = leb-true firstType w (and-left (leb firstType w) (ltb w firstInstruction) (sym e ∙ h))
 
 pub instruction-word : (w : ℕ) (r : Bool) → r ≡ isInstruction w → r ≡ true → firstInstruction ≤ w
-instruction-word w r e h = leb-true firstInstruction w (and-left (leb firstInstruction w) (ltb w 52) (sym e ∙ h))
+instruction-word w r e h = leb-true firstInstruction w (and-left (leb firstInstruction w) (ltb w wordCount) (sym e ∙ h))
 
 pub operand-number : (o : Operand) → operandFrom (operandNumber o) ≡ o
 operand-number Operand.none = refl

@@ -1,10 +1,10 @@
 -- Every token keeps a draft ready for what comes next: what each stage allows of an act, and what each act keeps.
 -- Assumes nothing.
-use mathlib.Core.Path.{_≡_, refl, sym, _∙_, ap, subst}
+use mathlib.Core.Path.{_≡_, refl, sym, _∙_, subst}
 use mathlib.Core.Bool.{Bool, true, false, cond, not, _&&_}
-use mathlib.Core.List.{List, [], _∷_, foldl}
-use mathlib.Core.Logic.{_⊎_, inl, inr, ⊎-elim}
-use mathlib.Core.Option.{Option, none, some, Option·none-ne-some, Option·some-injective}
+use mathlib.Core.List.{List, [], _∷_}
+use mathlib.Core.Logic.{_⊎_, inl, inr}
+use mathlib.Core.Option.{none, some, Option·none-ne-some, Option·some-injective}
 use Prim.Native.Nat.{ℕ, zero, suc, _<_}
 use lib.Dec.{T, T-not, eqb, ltb}
 use lib.ListN.{length}
@@ -12,12 +12,12 @@ use borrow.Author.Tests.{ltb-true}
 use Rattle.language.specs.Instructions.{Form, Operand, formOf, operandOf, hasTarget, sourceCount, loadType}
 use Rattle.language.specs.Programs.{Func, Block, maxFunctions, maxRegisters, maxBlocks, maxRows, maxEntries}
 use Rattle.language.specs.Bytes.{leftParen, rightParen, leftBrace, rightBrace, comma, semicolon, equals}
-use Rattle.language.specs.Words.{isType, typeOf, functionWord, ssaWord, voidWord, registerWord, blockWord, entryWord, isInstruction, instructionOf}
+use Rattle.language.specs.Words.{isType, functionWord, ssaWord, voidWord, registerWord, blockWord, entryWord, isInstruction, instructionOf}
 use Rattle.language.specs.Tokens.{Token, Found}
-use Rattle.language.specs.Grammar.{Stage, Act, Move, gram, to, wrongMove, onName, onWord, onNumber, onBlock, onMarkOr, onMark, onEndOr, isWordOr, isWord, aType, aResult, aBlock, anInstruction, wordAlone, wordWithTarget, afterWord, sources, afterSources, afterSource, afterMention, inOperand}
-use Rattle.language.specs.Reading.{Draft, Parts, Mention, Outcome, Parse, refuse, proceed, fresh, draftOf, rowCount, phiEntries, functionNumber, registerNumber, blockNumber, undeclared, maxMentions, inRange, ifRoom, ifNew, ifDeclared, ifResolved, onward, perform, take, parse₀}
+use Rattle.language.specs.Grammar.{Stage, Act, Move, gram, to, wrongMove, onName, onWord, onNumber, onBlock, onMarkOr, onMark, onEndOr, isWordOr, isWord, aResult, aBlock, anInstruction, wordAlone, wordWithTarget, afterWord, sources, afterSources, afterSource, afterMention, inOperand}
+use Rattle.language.specs.Reading.{Draft, Parts, Mention, ActOutcome, Parse, refuse, proceed, fresh, draftOf, draftRows, phiEntries, functionNumber, registerNumber, blockNumber, undeclared, maxMentions, numberInRange, ifRoom, ifNew, ifDeclared, ifResolved, afterAct, performAct, takeToken, parse₀}
 use Rattle.language.specs.Reading as reading
-use Rattle.grammar.specs.Ready.{isTop, operandIn, Ready, ReadyAt}
+use Rattle.grammar.specs.Ready.{isTop, operandIn, StageReady, ReadyAt}
 
 -- Inside one function, before and after.
 abbrev Inside : Stage → Stage → Type 0
@@ -214,25 +214,25 @@ moves Stage.operandEnd = on-mark rightParen (ok (refl, inl refl))
 moves Stage.instructionEnd = on-mark semicolon (ok ((tt, tt), refl))
 
 -- What a token comes to: an answer, or a draft of which this holds.
-data Holds (P : Draft → Type 0) : Outcome → Type 0 where
+data Holds (P : Draft → Type 0) : ActOutcome → Type 0 where
   refuses : {n p : ℕ} → Holds P (refuse n p)
   proceeds : {d : Draft} → P d → Holds P (proceed d)
 
 module _ {P : Draft → Type 0} where
-  either : (b : Bool) {x y : Outcome} → (b ≡ true → Holds P x) → Holds P y → Holds P (cond b x y)
+  either : (b : Bool) {x y : ActOutcome} → (b ≡ true → Holds P x) → Holds P y → Holds P (cond b x y)
   either true f h = f refl
   either false f h = h
 
-  if-room : (k m p : ℕ) {x : Outcome} → (k < m → Holds P x) → Holds P (ifRoom k m p x)
+  if-room : (k m p : ℕ) {x : ActOutcome} → (k < m → Holds P x) → Holds P (ifRoom k m p x)
   if-room k m p f = either (ltb k m) (λ e. f (ltb-true k m e)) refuses
 
-  if-new : (i k p : ℕ) {x : Outcome} → Holds P x → Holds P (ifNew i k p x)
+  if-new : (i k p : ℕ) {x : ActOutcome} → Holds P x → Holds P (ifNew i k p x)
   if-new i k p h = either (ltb i k) (λ e. refuses) h
 
-  if-declared : (i k p : ℕ) {x : Outcome} → Holds P x → Holds P (ifDeclared i k p x)
+  if-declared : (i k p : ℕ) {x : ActOutcome} → Holds P x → Holds P (ifDeclared i k p x)
   if-declared i k p h = either (ltb i k) (λ e. h) refuses
 
-  if-resolved : (ms : List Mention) {x : Outcome} → Holds P x → Holds P (ifResolved ms x)
+  if-resolved : (ms : List Mention) {x : ActOutcome} → Holds P x → Holds P (ifResolved ms x)
   if-resolved [] h = h
   if-resolved (m ∷ ms) h = refuses
 
@@ -268,12 +268,12 @@ carried s s' op (inl u) k o e = untold s' op u o e
 carried s s' op (inr h) k o e = k o (sym h ∙ e)
 
 -- Between functions, whatever was closed before.
-ready-fresh : (fs : List Func) → Ready Stage.top (fresh fs)
+ready-fresh : (fs : List Func) → StageReady Stage.top (fresh fs)
 ready-fresh fs = record { between = λ h. refl; inside = λ h. absurd h; kind = untold Stage.top 0 refl; entries = inr refl }
 
 -- What an act that is allowed makes of a draft that is ready.
-module _ (s s' : Stage) (d : Draft) (r : Ready s d) where
-  passed : Allowed s Act.pass s' → Ready s' d
+module _ (s s' : Stage) (d : Draft) (r : StageReady s d) where
+  passed : Allowed s Act.pass s' → StageReady s' d
   passed g = record {
     between = λ h. r .between (subst T (g .0) h);
     inside = λ h. r .inside (subst (λ (b : Bool). T (not b)) (g .0) h);
@@ -281,7 +281,7 @@ module _ (s s' : Stage) (d : Draft) (r : Ready s d) where
     entries = r .entries;
   }
 
-  begun : Allowed s Act.beginFunction s' → length (d .functions) < maxFunctions → Ready s' d
+  begun : Allowed s Act.beginFunction s' → length (d .functions) < maxFunctions → StageReady s' d
   begun g l = record {
     between = λ h. absurd (T-not (isTop s') (g .0) h);
     inside = λ h. l;
@@ -289,7 +289,7 @@ module _ (s s' : Stage) (d : Draft) (r : Ready s d) where
     entries = r .entries;
   }
 
-  within : {f : Func} {ms : List Mention} {b : Block} {x : Parts} → Inside s s' → Kind s' (x .op) → Entries x → Ready s' (draftOf (d .functions) f ms b x)
+  within : {f : Func} {ms : List Mention} {b : Block} {x : Parts} → Inside s s' → Kind s' (x .op) → Entries x → StageReady s' (draftOf (d .functions) f ms b x)
   within i k n = record {
     between = λ h. absurd (T-not (isTop s') (i .1) h);
     inside = λ h. r .inside (i .0);
@@ -297,7 +297,7 @@ module _ (s s' : Stage) (d : Draft) (r : Ready s d) where
     entries = n;
   }
 
-  plain : {f : Func} {ms : List Mention} {b : Block} → Inside s s' × Untold s' → Ready s' (draftOf (d .functions) f ms b (d .parts))
+  plain : {f : Func} {ms : List Mention} {b : Block} → Inside s s' × Untold s' → StageReady s' (draftOf (d .functions) f ms b (d .parts))
   plain g = within (g .0) (untold s' (d .parts .op) (g .1)) (r .entries)
 
   abbrev functions : ℕ
@@ -312,8 +312,8 @@ module _ (s s' : Stage) (d : Draft) (r : Ready s d) where
   abbrev op : ℕ
   op = d .parts .op
 
-  performed : (a : Act) (p : ℕ) → Allowed s a s' → Holds (Ready s') (perform a p d)
-  unfolding perform reading.beginFunction reading.markSsa reading.setResult reading.nameFunction reading.beginRegister reading.nameRegister reading.beginBlock reading.nameBlock reading.endBlock reading.beginInstruction reading.setTarget reading.setInstruction reading.addSource reading.addEntry reading.addMention reading.setNumber reading.endInstruction reading.endFunction
+  performed : (a : Act) (p : ℕ) → Allowed s a s' → Holds (StageReady s') (performAct a p d)
+  unfolding performAct reading.beginFunction reading.markSsa reading.setResult reading.nameFunction reading.beginRegister reading.nameRegister reading.beginBlock reading.nameBlock reading.endBlock reading.beginInstruction reading.setTarget reading.setInstruction reading.addSource reading.addEntry reading.addMention reading.setNumber reading.endInstruction reading.endFunction
   performed Act.wrong p g = refuses
   performed Act.pass p g = proceeds (passed g)
   performed Act.beginFunction p g = if-room functions maxFunctions p (λ h. proceeds (begun g h))
@@ -330,10 +330,10 @@ module _ (s s' : Stage) (d : Draft) (r : Ready s d) where
   performed (Act.nameRegister t n) p g =
       if-room registers maxRegisters p (λ h. if-new (registerNumber (d .function) n) registers p (proceeds (plain g)))
   performed (Act.beginInstruction op) p g =
-      if-room (rowCount d) maxRows p (λ h. proceeds (within (g .0) (tells s' op (g .1)) (inr refl)))
+      if-room (draftRows d) maxRows p (λ h. proceeds (within (g .0) (tells s' op (g .1)) (inr refl)))
   performed (Act.setInstruction op) p g = proceeds (within (g .0) (tells s' op (g .1)) (inr refl))
   performed (Act.setTarget n) p g =
-      if-room (rowCount d) maxRows p (λ h. if-declared (registerNumber (d .function) n) registers p (proceeds (within (g .0) (untold s' 0 (g .1)) (inr refl))))
+      if-room (draftRows d) maxRows p (λ h. if-declared (registerNumber (d .function) n) registers p (proceeds (within (g .0) (untold s' 0 (g .1)) (inr refl))))
   performed (Act.addSource n) p g =
       if-declared (registerNumber (d .function) n) registers p (proceeds (within (g .0) (carried s s' op (g .1) (r .kind)) (r .entries)))
   performed (Act.addEntry n) p g =
@@ -342,9 +342,9 @@ module _ (s s' : Stage) (d : Draft) (r : Ready s d) where
   performed (Act.addMention n) p g =
       if-room (length (d .mentions)) maxMentions p (λ h. proceeds (within (g .0) (untold s' op (g .1)) (r .entries)))
   performed (Act.setNumber neg v) p g =
-      either (inRange (loadType op) neg v) (λ h. proceeds (within (g .0) (untold s' op (g .1)) (r .entries))) refuses
+      either (numberInRange (loadType op) neg v) (λ h. proceeds (within (g .0) (untold s' op (g .1)) (r .entries))) refuses
   performed Act.endInstruction p g =
-      if-room (rowCount d) maxRows p (λ h. proceeds (within (g .0) (untold s' 0 (g .1)) (inr refl)))
+      if-room (draftRows d) maxRows p (λ h. proceeds (within (g .0) (untold s' 0 (g .1)) (inr refl)))
   performed Act.endBlock p g = if-room blocks maxBlocks p (λ h. proceeds (plain g))
   performed Act.endFunction p g =
       either (ltb (blockNumber (d .function) []) blocks)
@@ -352,7 +352,7 @@ module _ (s s' : Stage) (d : Draft) (r : Ready s d) where
       refuses
 
 -- A reading that goes on does so from a draft that is ready.
-went-on : {s : Stage} {x : Outcome} → Holds (Ready s) x → ReadyAt (onward s x)
+went-on : {s : Stage} {x : ActOutcome} → Holds (StageReady s) x → ReadyAt (afterAct s x)
 went-on refuses = tt
 went-on (proceeds r) = r
 
@@ -360,16 +360,12 @@ went-on (proceeds r) = r
 pub ready-start : ReadyAt parse₀
 ready-start = ready-fresh []
 
-pub ready-take : (x : Parse) (f : Found) → ReadyAt x → ReadyAt (take x f)
-unfolding take
+pub ready-take : (x : Parse) (f : Found) → ReadyAt x → ReadyAt (takeToken x f)
+unfolding takeToken
 ready-take (Parse.refused n p) f r = tt
 ready-take (Parse.reading s d) (Found.token p t) r =
     went-on (performed s (gram s t .stage) d r (gram s t .act) p (moves s t .allowed))
 ready-take (Parse.reading s d) (Found.stray p) r = tt
 
-pub ready-reading : {s s' : Stage} {d d' : Draft} (f : Found) → Ready s d → take (Parse.reading s d) f ≡ Parse.reading s' d' → Ready s' d'
+pub ready-reading : {s s' : Stage} {d d' : Draft} (f : Found) → StageReady s d → takeToken (Parse.reading s d) f ≡ Parse.reading s' d' → StageReady s' d'
 ready-reading {s} {s'} {d} {d'} f r e = subst ReadyAt e (ready-take (Parse.reading s d) f r)
-
-pub ready-all : (x : Parse) (fs : List Found) → ReadyAt x → ReadyAt (foldl take x fs)
-ready-all x [] r = r
-ready-all x (f ∷ fs) r = ready-all (take x f) fs (ready-take x f r)

@@ -1,10 +1,10 @@
 -- What holds of a draft at a stage of the grammar: what is read so far fits what comes next. Assumes nothing.
 use mathlib.Core.Path.{_≡_}
 use mathlib.Core.Bool.{Bool, true, false, not}
-use mathlib.Core.List.{List, []}
+use mathlib.Core.List.{[]}
 use mathlib.Core.Logic.{_⊎_}
 use mathlib.Core.Option.{Option, none, some}
-use Prim.Native.Nat.{ℕ, _<_}
+use Prim.Native.Nat.{_<_}
 use lib.Dec.{T}
 use lib.ListN.{length}
 use Rattle.language.specs.Instructions.{Form, Operand, formOf, operandOf}
@@ -82,7 +82,7 @@ operandIn Stage.instructionEnd = none
 
 -- Between functions nothing is in hand; in a function there is room for it; the operand that the stage tells is that of the
 -- instruction in hand; only a phi in hand has entries.
-pub record Ready (s : Stage) (d : Draft) : Type 0 where
+pub record StageReady (s : Stage) (d : Draft) : Type 0 where
   pub between : T (isTop s) → d ≡ fresh (d .functions)
   pub inside : T (not (isTop s)) → length (d .functions) < maxFunctions
   pub kind : (o : Operand) → operandIn s ≡ some o → operandOf (formOf (d .parts .op)) ≡ o
@@ -91,4 +91,4 @@ pub record Ready (s : Stage) (d : Draft) : Type 0 where
 -- The same of the tokens so far.
 abbrev pub ReadyAt : Parse → Type 0
 ReadyAt (Parse.refused n p) = Unit
-ReadyAt (Parse.reading s d) = Ready s d
+ReadyAt (Parse.reading s d) = StageReady s d

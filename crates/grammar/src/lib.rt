@@ -1,9 +1,10 @@
 // The grammar of a text as a machine over tokens, by value and with no table: a move names the stage that comes next and what
 // is to be done about the token, and a token that may not stand there is `Wrong`.
 mod kinds;
-mod words;
 
 use instructions::shape_of;
+use instructions::types;
+use instructions::words;
 use kinds::*;
 use lexer::Token;
 ghost use mathlib.Core.Path.{_≡_};
@@ -146,7 +147,7 @@ fn result_word(w: u8) -> Move
     ensures { λ r. ⌜ ((s : Spot) → moveOf s r ≡ aResult w) ⌝ }
 {
     if w == words::VOID {
-        return Move::to(FUNCTION_NAME, Act::SetResult(10));
+        return Move::to(FUNCTION_NAME, Act::SetResult(types::VOID));
     }
     if is_type(w) {
         return Move::to(FUNCTION_NAME, Act::SetResult(w - words::FIRST_TYPE));

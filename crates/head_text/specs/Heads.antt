@@ -3,11 +3,11 @@ use mathlib.Core.Bool.{cond}
 use mathlib.Core.List.{List, [], _∷_, _++_}
 use Prim.Native.Nat.{ℕ, _+_, _≤_, _<_}
 use lib.Dec.{eqb}
-use lib.ListN.{length, getD}
+use lib.ListN.{getD}
 use Rattle.language.specs.Bytes.{comma}
 use Rattle.language.specs.Instructions.{void, typeCount}
 use Rattle.language.specs.Programs.{Func, maxRegisters, noRegister}
-use Rattle.language.specs.Table.{functionLength, functionResult, functionParams, registerCount, registerType}
+use Rattle.language.specs.Table.{functionResult, functionParams, registerCount, registerType, InTable}
 use Rattle.language.specs.Writing.{spaceByte, lineBytes, registerLine, parameterPart}
 use Rattle.token_text.specs.Spaced.{spaced}
 
@@ -25,7 +25,7 @@ registerBytes f r = lineBytes (registerLine (getD (f .registers) r noRegister))
 
 -- The function at cell a of t stands within t; its result, its parameters and the types of its registers are ones that there are.
 pub record Declared (t : List ℕ) (a : ℕ) : Type 0 where
-  pub within : a + functionLength ≤ length t
+  pub within : InTable t a
   pub registers : registerCount t a ≤ maxRegisters
   pub result : functionResult t a ≤ void
   pub params : functionParams t a ≤ registerCount t a

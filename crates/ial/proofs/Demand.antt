@@ -11,8 +11,8 @@ use Rattle.theorems.specs.OverTables.{functionInTable, Translated}
 use Rattle.theorems.proofs.NoRefusal.{checked-is-0, translated-is-0}
 use Rattle.theorems.proofs.StopNumbers.{answered-is-43, never-27}
 use Rattle.theorems.proofs.OverTables.{demand3-over-tables, runs-over-tables, Tells, runs-told}
-use Rattle.checker.specs.declared.Verdict.the-variants as verdicts
-use Rattle.ial.specs.Verdicts.{filledOf}
+use Rattle.answers.specs.declared.Verdict.the-variants as verdicts
+use Rattle.answers.specs.Lent.{filledOf}
 use Rattle.ial.proofs.Known.{verdict-known}
 use Rattle.ial.specs.Demand.{Demand3OfCalls, Demand3OfSymbols, SymbolChecked, CallTranslated, SymbolTranslated, Call43, Symbol43, CallNever27, SymbolNever27}
 

@@ -9,17 +9,17 @@ use lib.Dec.{eqb}
 use borrow.Author.Tests.{eq-eqb, eqb-true}
 use lib.ListN.{length, getD, take, drop, length-append}
 use lib.Seq.{sets, sets-eq, take-suc, take-at, take-all, take-length, drop-cons, length-take-le}
-use Rattle.laws.specs.Lists.{gather}
 use Rattle.laws.proofs.Joining.{equal-tests}
-use Rattle.laws.proofs.Sums.{gather-append}
+use Rattle.laws.proofs.Appending.{gather-append}
 use Rattle.language.specs.Programs.{Program}
 use Rattle.language.specs.Checking.{Verdict}
 use Rattle.language.specs.Table.{functionCount, decode}
 use Rattle.language.specs.Answers.{Answer, Ran, Finished, zeros, checkAnswer, numberCells, ranNumbers, refusedRun, runFunction, runAnswer, runEach, runEachAnswer, verdictNumbers}
-use Rattle.checker.specs.declared.Verdict.{Verdict as Verdictᶜ}
-use Rattle.checker.specs.declared.Verdict.the-variants as verdicts
-use Rattle.checker.specs.Verdicts.{verdictOf}
-use Rattle.ial.specs.Runs.{cellsFrom, listedOf}
+use Rattle.answers.specs.declared.Verdict.{Verdict as Verdictᶜ}
+use Rattle.answers.specs.declared.Verdict.the-variants as verdicts
+use Rattle.answers.specs.Cases.{verdictOf}
+use Rattle.answers.specs.Lent.{listedOf}
+use Rattle.ial.specs.Runs.{cellsFrom}
 use Rattle.ial.proofs.RunLaws.{run-missing}
 
 same-cells : (f g : ℕ → Answer) → ((a : ℕ) → f a ≡ g a) → (args : List ℕ) → cellsFrom f args ≡ cellsFrom g args

@@ -5,12 +5,10 @@ use mathlib.Core.List.{List}
 use Prim.Native.Nat.{ℕ}
 use Rattle.language.specs.Answers.{Filled, Finished, Listed, Shown}
 use Rattle.theorems.proofs.TableIgnored.{answers-ignore-unneeded}
-use Rattle.checker.specs.declared.Verdict.{Verdict}
-use Rattle.ial.specs.declared.running.Ran.{Ran}
-use Rattle.ial.specs.declared.writing.Wrote.{Wrote}
-use Rattle.ial.specs.Verdicts.{filledOf}
-use Rattle.ial.specs.Runs.{finishedOf, listedOf}
-use Rattle.ial.specs.Texts.{shownOf}
+use Rattle.answers.specs.declared.Verdict.{Verdict}
+use Rattle.answers.specs.declared.Ran.{Ran}
+use Rattle.answers.specs.declared.Wrote.{Wrote}
+use Rattle.answers.specs.Lent.{filledOf, finishedOf, listedOf, shownOf}
 use Rattle.ial.specs.Ignored.{IgnoredInCalls}
 use Rattle.ial.proofs.Known.{verdict-known, ran-known, wrote-known}
 

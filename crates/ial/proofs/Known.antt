@@ -2,15 +2,13 @@
 use mathlib.Core.Path.{_≡_, refl}
 use Prim.Native.Nat.{ℕ}
 use native.Mathlib.Omega.{arith}
-use Rattle.checker.specs.declared.Verdict.{Verdict}
-use Rattle.checker.specs.declared.Verdict.the-variants as verdicts
-use Rattle.checker.specs.Verdicts.{verdictOf}
-use Rattle.ial.specs.declared.running.Ran.{Ran}
-use Rattle.ial.specs.declared.running.Ran.the-variants as rans
-use Rattle.ial.specs.declared.writing.Wrote.{Wrote}
-use Rattle.ial.specs.declared.writing.Wrote.the-variants as wrotes
-use Rattle.ial.specs.Runs.{ranOf}
-use Rattle.ial.specs.Texts.{wroteOf}
+use Rattle.answers.specs.declared.Verdict.{Verdict}
+use Rattle.answers.specs.declared.Verdict.the-variants as verdicts
+use Rattle.answers.specs.declared.Ran.{Ran}
+use Rattle.answers.specs.declared.Ran.the-variants as rans
+use Rattle.answers.specs.declared.Wrote.{Wrote}
+use Rattle.answers.specs.declared.Wrote.the-variants as wrotes
+use Rattle.answers.specs.Cases.{verdictOf, ranOf, wroteOf}
 
 pub verdict-known : (v w : Verdict) → verdictOf v ≡ verdictOf w → v ≡ w
 verdict-known verdicts.Accepted verdicts.Accepted e = refl

@@ -1,5 +1,5 @@
 pub mod ReadLaws
-pub mod Places
+pub mod PlaceLaws
 pub mod SignatureLaws
 pub mod RunLaws
 pub mod EachLaws

@@ -1,27 +1,24 @@
 -- What reading a text answers, from what the reader answers. Assumes nothing.
 use mathlib.Core.Path.{_≡_, refl, sym, ap, _∙_}
 use mathlib.Core.List.{List, _++_}
-use Prim.Native.Nat.{ℕ, _+_, _-_, _≤_, _<_}
+use Prim.Native.Nat.{ℕ, _+_, _-_, _<_}
 use native.Mathlib.Omega.{arith}
-use lib.ListN.{length, replicate, take, length-append}
+use lib.ListN.{length, take, length-append}
 use borrow.Rule.Slice.PartMut.{midOf, postOf, putMid, mid-len, put-same}
 use borrow.Author.Tests.{lt-ltb, eq-eqb, ne-eqb}
 use Rattle.language.specs.Programs.{maxText}
-use Rattle.language.specs.Table.{tableLength, cells}
+use Rattle.language.specs.Table.{tableLength}
 use Rattle.language.specs.Reading.{Reading, read}
 use Rattle.language.specs.Answers.{Filled, zeros, refusedTable, fill, filledFrom, readAnswer}
 use Rattle.reader.specs.Parse.{Told}
 use Rattle.reader.specs.declared.state.Reader.{Reader}
 use Rattle.reader.specs.declared.state.Taken.{Taken}
 use Rattle.reader.specs.declared.state.Taken.the-variants as taken
-use Rattle.checker.specs.declared.Verdict.{Verdict}
-use Rattle.checker.specs.declared.Verdict.the-variants as verdicts
-use Rattle.checker.specs.Verdicts.{verdictOf}
-use Rattle.ial.specs.Verdicts.{filledOf, Into, Aside, otherLength}
-
-pub zeros-made : (n : ℕ) → replicate n 0 ≡ zeros n
-unfolding zeros
-zeros-made n = refl
+use Rattle.answers.specs.declared.Verdict.{Verdict}
+use Rattle.answers.specs.declared.Verdict.the-variants as verdicts
+use Rattle.answers.specs.Cases.{verdictOf}
+use Rattle.answers.specs.Lent.{filledOf}
+use Rattle.ial.specs.Verdicts.{Into, Aside, otherLength}
 
 -- ---- a longer output, whose last n cells are lent as a table
 

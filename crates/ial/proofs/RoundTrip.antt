@@ -10,8 +10,7 @@ use Rattle.theorems.specs.RoundTrip.{RoundTrip, textIn, TranslatedAsText}
 use Rattle.theorems.specs.OverTables.{TranslatableIn}
 use Rattle.theorems.proofs.RoundTrip.{round-trip, written-is-0}
 use Rattle.theorems.proofs.RoundTripTranslation.{demand3-as-text}
-use Rattle.checker.specs.declared.Verdict.the-variants as verdicts
-use Rattle.ial.specs.declared.writing.Wrote.the-variants as wrotes
+use Rattle.answers.specs.declared.Verdict.the-variants as verdicts
 use Rattle.ial.specs.RoundTrip.{RoundTripOfCalls, RoundTripOfSymbols, Demand3AsTextOfCalls, Demand3AsTextOfSymbols}
 use Rattle.ial.proofs.Known.{verdict-known}
 use Rattle.ial.proofs.Demand.{call-translated, symbol-translated}

@@ -6,7 +6,7 @@ use Prim.Native.Nat.{ℕ, _-_, _≤_, _<_, _^_}
 use native.Mathlib.Omega.{arith}
 use lib.Dec.{eqb, ltb}
 use lib.ListN.{length, replicate}
-use borrow.Author.Tests.{lt-ltb, le-ltb, eq-eqb, ne-eqb}
+use borrow.Author.Tests.{lt-ltb, le-ltb, eq-eqb}
 use Rattle.laws.proofs.Indexing.{length-together-le}
 use Rattle.laws.proofs.Positions.{position-le}
 use Rattle.laws.proofs.Branches.{by-eq, by-ne, by-lt, by-not-lt}
@@ -17,18 +17,19 @@ use Rattle.language.specs.Table.{functionAt, functionCount, functionParams, reg
 use Rattle.language.specs.Checking.{Verdict}
 use Rattle.language.specs.Running.{firstUnfit, argumentsFit, runOf}
 use Rattle.language.specs.Answers.{zeros, Finished, refusedRun, runFunction, runAnswer, checkAnswer, ranAs, leftIn}
-use Rattle.theorems.proofs.TableView.{function-count, function-is, register-count}
+use Rattle.language.proofs.TableView.{function-count, function-is, register-count}
 use Rattle.machine.specs.Runs.{ranIn, Answers}
 use Rattle.machine.specs.declared.places.Place.{Place}
 use Rattle.machine.specs.declared.places.Outcome.{Outcome}
 use Rattle.machine.specs.declared.runs.Run.{Run}
 use Rattle.machine.specs.declared.runs.Run.the-variants as runs
-use Rattle.checker.specs.declared.Verdict.{Verdict as Verdictᶜ}
-use Rattle.checker.specs.declared.Verdict.the-variants as verdicts
-use Rattle.checker.specs.Verdicts.{verdictOf}
-use Rattle.ial.specs.declared.running.Ran.{Ran}
-use Rattle.ial.specs.declared.running.Ran.the-variants as rans
-use Rattle.ial.specs.Runs.{ranOf, finishedOf, stopPlace, RunsTo}
+use Rattle.answers.specs.declared.Verdict.{Verdict as Verdictᶜ}
+use Rattle.answers.specs.declared.Verdict.the-variants as verdicts
+use Rattle.answers.specs.declared.Ran.{Ran}
+use Rattle.answers.specs.declared.Ran.the-variants as rans
+use Rattle.answers.specs.Cases.{verdictOf, ranOf}
+use Rattle.answers.specs.Lent.{finishedOf}
+use Rattle.ial.specs.Runs.{stopPlace, RunsTo}
 
 -- ---- the registers at first
 

@@ -15,7 +15,7 @@ use Rattle.laws.proofs.Ranges.{getD-map-from, map-from, map-from-take}
 use Rattle.language.specs.Programs.{Func, Register, hasSignature, maxFunctions, noRegister}
 use Rattle.language.specs.Table.{tableLength, functionAt, functionCount, functionResult, functionParams, registerCount, registerType, decodeFunction}
 use Rattle.language.specs.Answers.{signatureAnswer}
-use Rattle.theorems.proofs.TableView.{function-is, register-count, type-is}
+use Rattle.language.proofs.TableView.{function-is, register-count, type-is}
 
 -- ---- types one after the other
 

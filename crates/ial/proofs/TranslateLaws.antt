@@ -1,12 +1,10 @@
 -- What translating answers, case by case, where the table passes its check. Assumes nothing.
-use mathlib.Core.Path.{_≡_, refl, sym, ap, _∙_}
-use mathlib.Core.Bool.{Bool, true, false, cond}
+use mathlib.Core.Path.{_≡_, refl, sym, _∙_}
+use mathlib.Core.Bool.{true, false, cond}
 use mathlib.Core.List.{List, [], _∷_}
 use Prim.Native.Nat.{ℕ, _≤_, _<_}
-use native.Mathlib.Omega.{arith}
-use lib.Dec.{T, eqb, ltb}
-use lib.ListN.{length, getD}
-use borrow.Author.Tests.{lt-ltb, le-ltb, eq-eqb, ne-eqb}
+use lib.Dec.{T}
+use borrow.Author.Tests.{lt-ltb, le-ltb, eq-eqb}
 use Rattle.laws.proofs.Branches.{by-true, by-false, by-eq, by-ne}
 use Rattle.laws.proofs.Tests.{of-true}
 use Rattle.language.specs.Programs.{Func, isSsa}
@@ -14,13 +12,13 @@ use Rattle.language.specs.Table.{tableLength, functionAt, functionCount, functi
 use Rattle.language.specs.Checking.{Verdict}
 use Rattle.language.specs.Translating.{translation, translationFits}
 use Rattle.language.specs.Answers.{zeros, Filled, refusedTable, fill, translateFunction, translateAnswer, checkAnswer}
-use Rattle.theorems.proofs.TableView.{function-count, function-is}
+use Rattle.language.proofs.TableView.{function-count, function-is}
 use Rattle.translator.specs.Source.{TranslatableAt}
-use Rattle.checker.specs.declared.Verdict.{Verdict as Verdictᶜ}
-use Rattle.checker.specs.declared.Verdict.the-variants as verdicts
-use Rattle.checker.specs.Verdicts.{verdictOf}
-use Rattle.ial.specs.Verdicts.{filledOf}
-use Rattle.rules.proofs.Accepted.{accepted-sized, accepted-clean}
+use Rattle.answers.specs.declared.Verdict.{Verdict as Verdictᶜ}
+use Rattle.answers.specs.declared.Verdict.the-variants as verdicts
+use Rattle.answers.specs.Cases.{verdictOf}
+use Rattle.answers.specs.Lent.{filledOf}
+use Rattle.flow.proofs.Accepted.{accepted-sized, accepted-clean}
 
 module _ (t : List ℕ) (i n : ℕ) where
   pub translate-refused : {v : Verdictᶜ} {k p : ℕ} {z : List ℕ} → verdictOf v ≡ checkAnswer t → v ≡ verdicts.Refused k p → z ≡ zeros n

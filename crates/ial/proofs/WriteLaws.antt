@@ -14,11 +14,11 @@ use Rattle.language.specs.Answers.{zeros, Shown, refusedText, show, writeAnswer
 use Rattle.page.specs.Page.{Page, page, puts, closed}
 use Rattle.page.proofs.Pages.{puts-place, whole-text}
 use Rattle.writer.specs.Writers.{finished}
-use Rattle.checker.specs.declared.Verdict.{Verdict as Verdictᶜ}
-use Rattle.checker.specs.declared.Verdict.the-variants as verdicts
-use Rattle.checker.specs.Verdicts.{verdictOf}
-use Rattle.ial.specs.declared.writing.Wrote.the-variants as wrotes
-use Rattle.ial.specs.Texts.{shownOf}
+use Rattle.answers.specs.declared.Verdict.{Verdict as Verdictᶜ}
+use Rattle.answers.specs.declared.Verdict.the-variants as verdicts
+use Rattle.answers.specs.declared.Wrote.the-variants as wrotes
+use Rattle.answers.specs.Cases.{verdictOf}
+use Rattle.answers.specs.Lent.{shownOf}
 
 module _ (t : List ℕ) (n : ℕ) where
   pub write-refused : {v : Verdictᶜ} {k p : ℕ} {z : List ℕ} → verdictOf v ≡ checkAnswer t → v ≡ verdicts.Refused k p → z ≡ zeros n

@@ -5,15 +5,13 @@ use mathlib.Core.Bool.{Bool, cond}
 use mathlib.Core.List.{List}
 use Prim.Native.Nat.{ℕ}
 use Rattle.language.specs.Answers.{zeros, readAnswer, checkAnswer, signatureAnswer, runAnswer, runEachAnswer, translateAnswer, writeAnswer, verdictNumbers, ranNumbers, wroteNumbers}
-use Rattle.checker.specs.declared.Verdict.{Verdict}
-use Rattle.checker.specs.Verdicts.{verdictOf}
-use Rattle.ial.specs.declared.running.Ran.{Ran}
-use Rattle.ial.specs.declared.writing.Wrote.{Wrote}
-use Rattle.ial.specs.declared.c.Answer.{Answer}
-use Rattle.ial.specs.Verdicts.{filledOf}
-use Rattle.ial.specs.Runs.{finishedOf, listedOf}
-use Rattle.ial.specs.Texts.{shownOf}
-use Rattle.ial.specs.Numbers.{numbersOf}
+use Rattle.answers.specs.declared.Verdict.{Verdict}
+use Rattle.answers.specs.declared.Ran.{Ran}
+use Rattle.answers.specs.declared.Wrote.{Wrote}
+use Rattle.answers.specs.declared.numbers.Answer.{Answer}
+use Rattle.answers.specs.Cases.{verdictOf}
+use Rattle.answers.specs.Numbers.{numbersOf}
+use Rattle.answers.specs.Lent.{filledOf, finishedOf, listedOf, shownOf}
 
 -- `read` with a text and a lent table of n cells answered r and left the table as `out`.
 abbrev pub ReadCalled : (text : List ℕ) (n : ℕ) (r : Verdict) (out : List ℕ) → Type 0

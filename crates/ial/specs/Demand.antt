@@ -11,14 +11,14 @@ use Rattle.language.specs.Checking.{Verdict as Verdictᴸ}
 use Rattle.language.specs.Running.{NotEnded, argumentsFit}
 use Rattle.language.specs.Answers.{Answer as Answerᴸ, verdictNumbers, ranNumbers, checkAnswer}
 use Rattle.theorems.specs.OverTables.{functionInTable, TranslatableIn, Translated, RunsAgree}
-use Rattle.checker.specs.declared.Verdict.{Verdict}
-use Rattle.checker.specs.declared.Verdict.the-variants as verdicts
-use Rattle.ial.specs.declared.running.Ran.{Ran}
-use Rattle.ial.specs.declared.running.Ran.the-variants as rans
-use Rattle.ial.specs.declared.c.Answer.{Answer}
-use Rattle.ial.specs.Numbers.{numbersOf}
-use Rattle.ial.specs.Verdicts.{filledOf}
-use Rattle.ial.specs.Runs.{ranOf}
+use Rattle.answers.specs.declared.Verdict.{Verdict}
+use Rattle.answers.specs.declared.Verdict.the-variants as verdicts
+use Rattle.answers.specs.declared.Ran.{Ran}
+use Rattle.answers.specs.declared.Ran.the-variants as rans
+use Rattle.answers.specs.declared.numbers.Answer.{Answer}
+use Rattle.answers.specs.Cases.{ranOf}
+use Rattle.answers.specs.Numbers.{numbersOf}
+use Rattle.answers.specs.Lent.{filledOf}
 use Rattle.ial.specs.Calls.{CheckCalled, RunCalled, TranslateCalled, CheckLinked, RunLinked, TranslateLinked}
 
 -- What holds of a call of `translate` that demand 3 speaks of, and of every call of `check` and `run` on its output: runs on arguments that fit,

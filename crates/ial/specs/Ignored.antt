@@ -6,9 +6,9 @@ use mathlib.Core.Bool.{Bool}
 use mathlib.Core.List.{List}
 use Prim.Native.Nat.{ℕ}
 use Rattle.theorems.specs.TableNeeds.{Agree}
-use Rattle.checker.specs.declared.Verdict.{Verdict}
-use Rattle.ial.specs.declared.running.Ran.{Ran}
-use Rattle.ial.specs.declared.writing.Wrote.{Wrote}
+use Rattle.answers.specs.declared.Verdict.{Verdict}
+use Rattle.answers.specs.declared.Ran.{Ran}
+use Rattle.answers.specs.declared.Wrote.{Wrote}
 use Rattle.ial.specs.Calls.{CheckCalled, SignatureCalled, RunCalled, RunEachCalled, TranslateCalled, WriteCalled}
 
 -- Two calls, one on table t and one on table u and otherwise alike, answer the same and leave the same in what was lent.

@@ -9,14 +9,14 @@ use Rattle.language.specs.Table.{tableLength, decode}
 use Rattle.language.specs.MadeNames.{named, written}
 use Rattle.language.specs.Answers.{zeros, fill, verdictNumbers}
 use Rattle.theorems.specs.RoundTrip.{filledTable, TranslatedAsText}
-use Rattle.checker.specs.declared.Verdict.{Verdict}
-use Rattle.checker.specs.declared.Verdict.the-variants as verdicts
-use Rattle.ial.specs.declared.running.Ran.{Ran}
-use Rattle.ial.specs.declared.writing.Wrote.{Wrote}
-use Rattle.ial.specs.declared.writing.Wrote.the-variants as wrotes
-use Rattle.ial.specs.declared.c.Answer.{Answer}
-use Rattle.ial.specs.Numbers.{numbersOf}
-use Rattle.ial.specs.Verdicts.{filledOf}
+use Rattle.answers.specs.declared.Verdict.{Verdict}
+use Rattle.answers.specs.declared.Verdict.the-variants as verdicts
+use Rattle.answers.specs.declared.Ran.{Ran}
+use Rattle.answers.specs.declared.Wrote.{Wrote}
+use Rattle.answers.specs.declared.Wrote.the-variants as wrotes
+use Rattle.answers.specs.declared.numbers.Answer.{Answer}
+use Rattle.answers.specs.Numbers.{numbersOf}
+use Rattle.answers.specs.Lent.{filledOf}
 use Rattle.ial.specs.Demand.{noRefusal}
 use Rattle.ial.specs.Calls.{ReadCalled, CheckCalled, RunCalled, TranslateCalled, WriteCalled}
 use Rattle.ial.specs.Calls.{ReadLinked, CheckLinked, RunLinked, TranslateLinked, WriteLinked}

@@ -1,26 +1,13 @@
--- What a run answers, in document 01's numbers, with every register that was lent. Assumes nothing.
+-- Running in registers that may hold anything, and many runs at once. Assumes nothing.
 use mathlib.Core.Path.{_≡_}
 use mathlib.Core.List.{List}
 use Prim.Native.Nat.{ℕ}
 use lib.ListN.{length}
 use Rattle.laws.specs.Lists.{gather}
 use Rattle.language.specs.Programs.{Program}
-use Rattle.language.specs.Answers.{Answer, Ran as Ranᴸ, Finished, Listed, zeros, numberCells, runFunction}
-use Rattle.checker.specs.declared.Verdict.{Verdict}
-use Rattle.checker.specs.Verdicts.{verdictOf}
-use Rattle.ial.specs.declared.running.Ran.{Ran}
-use Rattle.ial.specs.declared.running.Ran.the-variants as rans
-
--- "The definition gives this paper's number and values for each of the enum's cases."
-abbrev pub ranOf : Ran → Ranᴸ
-ranOf (rans.Returned v s) = Ranᴸ.returned v s
-ranOf (rans.Left s) = Ranᴸ.left s
-ranOf (rans.Stopped n p s) = Ranᴸ.stopped n p s
-ranOf (rans.Refused n p) = Ranᴸ.refused n p
-
--- An answer with the lent registers as they are afterwards.
-abbrev pub finishedOf : Ran → List ℕ → Finished
-finishedOf r g = record { answer = ranOf r; registers = g }
+use Rattle.language.specs.Answers.{Answer, Ran as Ranᴸ, zeros, numberCells, runFunction}
+use Rattle.answers.specs.declared.Ran.{Ran}
+use Rattle.answers.specs.Cases.{ranOf}
 
 -- The place of a stop, 0 for other answers.
 abbrev pub stopPlace : Ranᴸ → ℕ
@@ -40,7 +27,3 @@ pub record RunsTo (p : Program) (i : ℕ) (args : List ℕ) (budget : ℕ) (g : 
 -- The four numbers of each argument's answer, one after the other.
 abbrev pub cellsFrom : (ℕ → Answer) → List ℕ → List ℕ
 cellsFrom f args = gather (λ a. numberCells (f a)) args
-
--- An answer with the lent numbers as they are afterwards.
-abbrev pub listedOf : Verdict → List ℕ → Listed
-listedOf r out = record { answer = verdictOf r; numbers = out }

@@ -1,4 +1,4 @@
--- The answers of the entry points in document 01's numbers, with every cell that was lent. Assumes nothing.
+-- A text read into a table, and one read for an output that has no room for a table. Assumes nothing.
 use mathlib.Core.Path.{_≡_}
 use mathlib.Core.List.{List}
 use Prim.Native.Nat.{ℕ}
@@ -6,14 +6,10 @@ use Rattle.language.specs.Programs.{Program}
 use Rattle.language.specs.Table.{tableLength, cells}
 use Rattle.language.specs.Reading.{Reading}
 use Rattle.language.specs.Checking.{Verdict as Verdictᴸ}
-use Rattle.language.specs.Answers.{Filled, filledFrom, zeros}
-use Rattle.checker.specs.declared.Verdict.{Verdict}
-use Rattle.checker.specs.declared.Verdict.the-variants as verdicts
-use Rattle.checker.specs.Verdicts.{verdictOf}
-
--- An answer with the lent table as it is afterwards.
-abbrev pub filledOf : Verdict → List ℕ → Filled
-filledOf r t = record { answer = verdictOf r; table = t }
+use Rattle.language.specs.Answers.{filledFrom, zeros}
+use Rattle.answers.specs.declared.Verdict.{Verdict}
+use Rattle.answers.specs.declared.Verdict.the-variants as verdicts
+use Rattle.answers.specs.Lent.{filledOf}
 
 -- A text read into a table: its answer, or the table of its program. A refusal leaves cells to be zeroed.
 pub data Into (t : List ℕ) : Reading → Verdict → Type 0 where

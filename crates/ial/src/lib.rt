@@ -1,4 +1,6 @@
 // The library: its entry points take any input and refuse what is wrong; none asks anything of its caller.
+use reader::MAX_MENTIONS;
+use reader::SCRATCH_LENGTH;
 use reader::Taken;
 
 mod c;
@@ -8,7 +10,6 @@ mod signature;
 mod translating;
 mod writing;
 
-pub use c::Answer;
 pub use c::ial_check;
 pub use c::ial_has_signature;
 pub use c::ial_read;
@@ -17,40 +18,37 @@ pub use c::ial_run_each;
 pub use c::ial_translate;
 pub use c::ial_write;
 pub use many::run_each;
-pub use running::Ran;
 pub use running::run;
 pub use signature::has_signature;
 pub use translating::translate;
-pub use writing::Wrote;
 pub use writing::write;
-// What an entry point answers that fills a table or judges one: done, or refused with a number of document 01 and its place.
-pub use checker::Verdict;
+// What an entry point answers.
+pub use answers::Answer;
+pub use answers::Ran;
+pub use answers::Verdict;
+pub use answers::Wrote;
 use checker::check_table;
+pub use instructions::types;
 use reader::read_text;
+pub use table::TABLE_LENGTH;
 use table::zero;
 ghost use mathlib.Core.Path.{_≡_};
 ghost use Prim.Native.Nat.{_≤_};
 ghost use lib.ListN.{length};
 ghost use Rattle.language.specs.Reading.{read as readOf};
 ghost use Rattle.language.specs.Answers.{zeros};
-ghost use Rattle.checker.specs.Verdicts.{verdictOf};
+ghost use Rattle.language.specs.Table.{tableLength};
+ghost use Rattle.answers.specs.Cases.{verdictOf};
 ghost use Rattle.ial.specs.Verdicts.{Into, Aside, otherLength};
 ghost use Rattle.ial.specs.Calls.{ReadCalled, CheckCalled};
 
-// The cells of a table, and of the scratch that reading needs: 2,048 mentions of blocks, 69 cells each.
-const TABLE: usize = 555153;
-
-const PENDING: usize = 141312;
-
-const MENTIONS: usize = 2048;
-
 // The text read into a table of the right length that is all zero.
 fn read_into(text: &[u8], t: &mut [u8]) -> Verdict
-    requires { ⌜ (length (now text) ≤ 65536) × (now t ≡ zeros 555153) ⌝ }
+    requires { ⌜ (length (now text) ≤ 65536) × (now t ≡ zeros tableLength) ⌝ }
     ensures { λ r. ⌜ Into (now (t .exit)) (readOf (now (text .entry))) r ⌝ }
 {
-    let mut pend = [0u8; PENDING];
-    let mut found = [0u8; MENTIONS];
+    let mut pend = [0u8; SCRATCH_LENGTH];
+    let mut found = [0u8; MAX_MENTIONS];
     match read_text(text, t, &mut pend, &mut found) {
         Taken::Refused(n, p) => Verdict::Refused(n, p),
         Taken::Reading(_) => Verdict::Accepted,
@@ -72,7 +70,7 @@ fn read_aside(text: &[u8]) -> Verdict
     requires { ⌜ length (now text) ≤ 65536 ⌝ }
     ensures { λ r. ⌜ Aside (readOf (now (text .entry))) r ⌝ }
 {
-    let mut aside = [0u8; TABLE];
+    let mut aside = [0u8; TABLE_LENGTH];
     other_length(read_into(text, &mut aside))
 }
 
@@ -82,8 +80,8 @@ fn read_aside(text: &[u8]) -> Verdict
 pub fn read(text: &[u8], out: &mut [u8]) -> Verdict
     ensures { λ r. ⌜ ReadCalled (now (text .entry)) (length (now (out .entry))) r (now (out .exit)) ⌝ }
 {
-    if TABLE < out.len() {
-        let k = out.len() - TABLE;
+    if TABLE_LENGTH < out.len() {
+        let k = out.len() - TABLE_LENGTH;
         let r = read(text, &mut out[k..]);
         zero(out);
         return other_length(r);
@@ -92,7 +90,7 @@ pub fn read(text: &[u8], out: &mut [u8]) -> Verdict
     if 65536 < text.len() {
         return Verdict::Refused(1, 0);
     }
-    if out.len() < TABLE {
+    if out.len() < TABLE_LENGTH {
         return read_aside(text);
     }
     let r = read_into(text, out);

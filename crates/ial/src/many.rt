@@ -2,40 +2,28 @@
 // phi cleared once.
 ghost use mathlib.Core.Path.{_≡_};
 ghost use mathlib.Core.List.{[], _∷_};
-ghost use Prim.Native.Nat.{_+_, _*_, _<_, _≤_};
+ghost use Prim.Native.Nat.{_*_, _<_};
 ghost use lib.Dec.{eqb};
 ghost use lib.ListN.{length};
-ghost use lib.Seq.{sets};
 ghost use Rattle.language.specs.Checking.{Verdict as Verdictᴸ};
 ghost use Rattle.language.specs.Table.{functionAt, functionCount, blockCount, decode, decodeFunction};
-ghost use Rattle.language.specs.Answers.{checkAnswer, numberCells, ranNumbers, runFunction, runEach};
-ghost use Rattle.rules.specs.Preparing.{Flowed};
-ghost use Rattle.ial.specs.Numbers.{numbersOf};
+ghost use Rattle.language.specs.Answers.{checkAnswer, ranNumbers, runFunction, runEach};
+ghost use Rattle.flow.specs.Predecessors.{Flowed};
+ghost use Rattle.answers.specs.Numbers.{numbersOf};
 ghost use Rattle.ial.specs.Runs.{cellsFrom};
 ghost use Rattle.ial.specs.Calls.{RunEachCalled};
-use crate::c::Answer;
-use crate::c::numbers;
-use crate::c::run_numbers;
 use crate::running::run_prepared;
-use checker::Verdict;
+use answers::Answer;
+use answers::Verdict;
+use answers::put_numbers;
+use answers::run_numbers;
+use answers::verdict_numbers;
 use checker::check_table;
+use flow::FLOW_LENGTH;
+use flow::prepare_predecessors;
 use machine::start;
-use rules::flow;
+use table::function_at;
 use table::function_count;
-
-// The cells of a function.
-const FUNCTION: usize = 34697;
-
-// An answer's four numbers from number k on.
-fn put_numbers(out: &mut [u64], k: usize, x: Answer)
-    requires { ⌜ k + 4 ≤ length (now out) ⌝ }
-    ensures { λ _. ⌜ now (out .exit) ≡ sets (now (out .entry)) k (numberCells (numbersOf x)) ⌝ }
-{
-    out[k] = x.number;
-    out[k + 1] = x.place;
-    out[k + 2] = x.value;
-    out[k + 3] = x.steps;
-}
 
 // One answer for every argument.
 fn same_each(x: Answer, args: &[u64], out: &mut [u64])
@@ -89,12 +77,12 @@ fn each_checked(
     ensures { λ _. ⌜ now (out .exit) ≡ cellsFrom (λ a. ranNumbers (runFunction (decode (now (t .entry))) function (a ∷ []) budget (length (now (registers .entry))) .answer)) (now (args .entry)) ⌝ }
 {
     if function_count(t) as u64 <= function {
-        same_each(numbers(Verdict::Refused(21, 0)), args, out);
+        same_each(verdict_numbers(Verdict::Refused(21, 0)), args, out);
         return;
     }
     let i = function as usize;
-    let mut m = [0u16; 768];
-    flow(t, 1 + FUNCTION * i, &mut m);
+    let mut m = [0u16; FLOW_LENGTH];
+    prepare_predecessors(t, function_at(i), &mut m);
     let mut taken = [0u64; 1024];
     run_all(t, i, &m, args, budget, &mut taken, registers, out);
 }
@@ -106,7 +94,7 @@ fn each(t: &[u8], function: u64, args: &[u64], budget: u64, registers: &mut [u64
 {
     let v = check_table(t);
     match v {
-        Verdict::Refused(n, p) => same_each(numbers(Verdict::Refused(n, p)), args, out),
+        Verdict::Refused(n, p) => same_each(verdict_numbers(Verdict::Refused(n, p)), args, out),
         Verdict::Accepted => each_checked(t, function, args, budget, registers, out),
     }
 }

@@ -5,32 +5,27 @@ ghost use lib.ListN.{length};
 ghost use Rattle.language.specs.Checking.{Verdict as Verdictᴸ};
 ghost use Rattle.language.specs.Table.{functionAt, functionCount, blockCount, decode, decodeFunction};
 ghost use Rattle.language.specs.Answers.{zeros, checkAnswer, runFunction};
-ghost use Rattle.rules.specs.Preparing.{Flowed};
+ghost use Rattle.flow.specs.Predecessors.{Flowed};
 ghost use Rattle.machine.specs.Runs.{ranIn};
-ghost use Rattle.ial.specs.Runs.{ranOf, finishedOf, stopPlace, RunsTo};
+ghost use Rattle.answers.specs.Cases.{ranOf};
+ghost use Rattle.answers.specs.Lent.{finishedOf};
+ghost use Rattle.ial.specs.Runs.{stopPlace, RunsTo};
 ghost use Rattle.ial.specs.Calls.{RunCalled};
-use checker::Verdict;
+use answers::Ran;
+use answers::Verdict;
+use answers::row_place;
 use checker::check_table;
+use flow::FLOW_LENGTH;
+use flow::prepare_predecessors;
 use machine::Outcome;
 use machine::Run;
 use machine::first_unfit;
 use machine::run_on;
 use machine::start;
-use rules::flow;
+use table::function_at;
 use table::function_count;
 use table::function_params;
 use table::register_count;
-
-// The cells of a function.
-const FUNCTION: usize = 34697;
-
-// What a run answers: a returned value, a return without one, a stop with its number and place, each with the steps taken, or a refusal.
-pub enum Ran {
-    Returned(u64, u64),
-    Left(u64),
-    Stopped(u8, usize, u64),
-    Refused(u8, usize),
-}
 
 // The answer of a run of function i: 43, "budget used up" where it is still going.
 fn answer_of(i: usize, r: Run) -> Ran
@@ -38,11 +33,11 @@ fn answer_of(i: usize, r: Run) -> Ran
     ensures { λ x. ⌜ ranOf x ≡ ranIn i r ⌝ }
 {
     match r {
-        Run::Going(p) => Ran::Stopped(43, 2048 * i + p.row, p.steps),
+        Run::Going(p) => Ran::Stopped(43, row_place(i, p.row), p.steps),
         Run::Ended(o, p) => match o {
             Outcome::Returned(v) => Ran::Returned(v, p.steps),
             Outcome::Left => Ran::Left(p.steps),
-            Outcome::Stopped(n) => Ran::Stopped(n, 2048 * i + p.row, p.steps),
+            Outcome::Stopped(n) => Ran::Stopped(n, row_place(i, p.row), p.steps),
         },
     }
 }
@@ -63,7 +58,7 @@ pub fn run_prepared(
     requires { ⌜ Flowed (decodeFunction (now t) (functionAt i)) (now m) (blockCount (now t) (functionAt i)) × (length (now taken) ≡ 1024) ⌝ }
     ensures { λ r. ⌜ RunsTo (decode (now (t .entry))) i (now (args .entry)) budget (now (registers .entry)) r (now (registers .exit)) ⌝ }
 {
-    let a = 1 + FUNCTION * i;
+    let a = function_at(i);
     if args.len() != function_params(t, a) {
         return Ran::Refused(20, args.len());
     }
@@ -87,8 +82,8 @@ fn run_checked(t: &[u8], function: u64, args: &[u64], budget: u64, registers: &m
         return Ran::Refused(21, 0);
     }
     let i = function as usize;
-    let mut m = [0u16; 768];
-    flow(t, 1 + FUNCTION * i, &mut m);
+    let mut m = [0u16; FLOW_LENGTH];
+    prepare_predecessors(t, function_at(i), &mut m);
     let mut taken = [0u64; 1024];
     run_prepared(t, i, &m, args, budget, &mut taken, registers)
 }

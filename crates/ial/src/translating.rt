@@ -4,21 +4,19 @@ ghost use lib.ListN.{length};
 ghost use Rattle.language.specs.Checking.{Verdict as Verdictᴸ};
 ghost use Rattle.language.specs.Table.{decode};
 ghost use Rattle.language.specs.Answers.{zeros, checkAnswer, translateFunction};
-ghost use Rattle.ial.specs.Verdicts.{filledOf};
+ghost use Rattle.answers.specs.Lent.{filledOf};
 ghost use Rattle.ial.specs.Calls.{TranslateCalled};
-use checker::Verdict;
+use answers::Verdict;
 use checker::check_table;
-use rules::prepare;
+use flow::FLOW_LENGTH;
+use flow::prepare;
+use table::TABLE_LENGTH;
+use table::function_at;
 use table::function_count;
 use table::function_ssa;
 use table::zero;
 use translator::fits;
 use translator::translate_into;
-
-// The cells of a function, and of a table.
-const FUNCTION: usize = 34697;
-
-const TABLE: usize = 555153;
 
 // A table that passes its check: "then 21; .. translating then 30, 31, 22".
 fn translate_checked(t: &[u8], function: u64, out: &mut [u8]) -> Verdict
@@ -29,16 +27,16 @@ fn translate_checked(t: &[u8], function: u64, out: &mut [u8]) -> Verdict
     if function_count(t) as u64 <= function {
         return Verdict::Refused(21, 0);
     }
-    let a = 1 + FUNCTION * function as usize;
+    let a = function_at(function as usize);
     if function_ssa(t, a) != 1 {
         return Verdict::Refused(30, 0);
     }
-    let mut m = [0u16; 768];
+    let mut m = [0u16; FLOW_LENGTH];
     prepare(t, a, &mut m);
     if !fits(t, a, &m) {
         return Verdict::Refused(31, 0);
     }
-    if out.len() != TABLE {
+    if out.len() != TABLE_LENGTH {
         return Verdict::Refused(22, 0);
     }
     translate_into(t, a, &m, out);

@@ -5,21 +5,16 @@ ghost use Rattle.language.specs.Checking.{Verdict as Verdictᴸ};
 ghost use Rattle.language.specs.Table.{decode};
 ghost use Rattle.language.specs.MadeNames.{written};
 ghost use Rattle.language.specs.Answers.{checkAnswer, show};
-ghost use Rattle.ial.specs.Texts.{shownOf};
+ghost use Rattle.answers.specs.Lent.{shownOf};
 ghost use Rattle.ial.specs.Calls.{WriteCalled};
-use checker::Verdict;
+use answers::Verdict;
+use answers::Wrote;
 use checker::check_table;
 use table::zero;
 use writer::write_table;
 
 // The longest text.
 const TEXT: usize = 65536;
-
-// What writing answers: the text's length, or a refusal with its number and place.
-pub enum Wrote {
-    Wrote(usize),
-    Refused(u8, usize),
-}
 
 // A table that passes its check: "33 if the text exceeds 65,536 bytes, then 32 exactly if it exceeds the buffer".
 fn write_checked(t: &[u8], out: &mut [u8]) -> Wrote

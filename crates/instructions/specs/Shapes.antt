@@ -1,7 +1,8 @@
 -- What an instruction looks like, as numbers. Assumes nothing.
 use mathlib.Core.Bool.{Bool}
 use Prim.Native.Nat.{ℕ}
-use Rattle.language.specs.Instructions.{Form, Operand, formNumber, formOf, hasTarget, sourceCount, operandOf}
+use lib.Dec.{leb}
+use Rattle.language.specs.Instructions.{Form, Operand, formNumber, formOf, hasTarget, sourceCount, operandOf, jumpOp}
 use Rattle.instructions.specs.declared.Shape.{Shape}
 
 -- An operand's kind as a number below 5, in the order of its definition.
@@ -21,3 +22,7 @@ shapeAs f = shapeFrom (formNumber f) (hasTarget f) (sourceCount f) (operandNumbe
 
 unfoldable pub shapeOf : ℕ → Shape
 shapeOf n = shapeAs (formOf n)
+
+-- The terminators are the last of the instructions: of an instruction's number this is whether it is one.
+abbrev pub isTerminatorOp : ℕ → Bool
+isTerminatorOp op = leb jumpOp op

@@ -4,14 +4,13 @@ use mathlib.Core.List.{List, [], _∷_, _++_, append-assoc, append-nil}
 use mathlib.Core.Path.{_≡_, refl, sym, _∙_, ap}
 use Prim.Native.Nat.{ℕ, _+_, _*_, _≤_, _<_}
 use native.Mathlib.Omega.{arith}
-use lib.ListN.{length, replicate}
+use lib.ListN.{length}
 use lib.Seq.{sets}
 use Rattle.laws.specs.Lists.{gather}
 use Rattle.laws.specs.Sections.{pad}
 use Rattle.laws.proofs.Sections.{length-pad}
 use Rattle.laws.proofs.Storing.{Stored, sets-over, stored-pad, pad-stored}
-use Rattle.laws.proofs.Sums.{gather-append}
-use Rattle.language.specs.Answers.{zeros}
+use Rattle.laws.proofs.Appending.{gather-append}
 use Rattle.language.specs.Table.{eightBytes}
 use Rattle.records.specs.declared.Record.{Record}
 use Rattle.records.specs.Stores.{capacity, storeLength, recordCells, storeCells}
@@ -50,8 +49,3 @@ begun-counted es =
     let put : Stored (eightBytes 0 ++ ys) 0 (eightBytes (length es)) (eightBytes (length es) ++ ys) =
     record { cells = sym (sets-over (eightBytes (length es)) (eightBytes 0) ys refl) } in
     sym (stored-pad put storeLength (omega (arith, length-before 0 es)) .cells)
-
--- bytes that are all zero, as a new array has them
-pub all-zero : (n : ℕ) → replicate n 0 ≡ zeros n
-unfolding zeros
-all-zero n = refl

@@ -15,7 +15,7 @@ use Rattle.records.specs.declared.Record.{Record}
 use Rattle.records.specs.Stores.{capacity, recordCells, storeCells, countOf, recordsOf, joined}
 use Rattle.records.specs.Answers.{kept, keptAs}
 use Rattle.joining.specs.declared.Joint.{Joint}
-use Rattle.joining.specs.Joints.{recordsFrom, begun, Walked, Filled}
+use Rattle.joining.specs.Joints.{recordsFrom, begun, Walked, JoinFilled}
 use Rattle.joining.proofs.Begun.{begun-more, begun-counted}
 use Rattle.joining.proofs.Parts.{records-none, records-all, length-records-from}
 use Rattle.joining.proofs.Steps.{joined-some}
@@ -101,19 +101,19 @@ module _ (s u : List ℕ) where
     all-records : together ≡ joined (recordsFrom s 0 n) (recordsFrom u 0 k)
     all-records = rw (p, q, records-all s, records-all u)
 
-    pub filled-not : {out : List ℕ} → capacity < length (joined (recordsFrom s 0 n) (recordsFrom u 0 k)) → Filled s u false out
+    pub filled-not : {out : List ℕ} → capacity < length (joined (recordsFrom s 0 n) (recordsFrom u 0 k)) → JoinFilled s u false out
     filled-not h = record { room = sym (lt-leb (length together) capacity (rw all-records h)); bytes = λ e. absurd (false≢true e) }
 
     pub filled :
         {out : List ℕ} → length (joined (recordsFrom s 0 n) (recordsFrom u 0 k)) ≤ capacity
-        → out ≡ storeCells (joined (recordsFrom s 0 n) (recordsFrom u 0 k)) → Filled s u true out
+        → out ≡ storeCells (joined (recordsFrom s 0 n) (recordsFrom u 0 k)) → JoinFilled s u true out
     filled h e = record { room = sym (le-leb (length together) capacity (rw all-records h)); bytes = λ z. e ∙ ap storeCells (sym all-records) }
 
   -- the answer, with the store as it is then
-  pub kept-not : {b : Bool} {out : List ℕ} → Filled s u b out → b ≡ false → keptAs false s ≡ kept s together
+  pub kept-not : {b : Bool} {out : List ℕ} → JoinFilled s u b out → b ≡ false → keptAs false s ≡ kept s together
   unfolding kept
   kept-not h e = rw (sym (h .room) ∙ e)
 
-  pub kept-all : {b : Bool} {out t : List ℕ} → Filled s u b out → b ≡ true → t ≡ out → keptAs true t ≡ kept s together
+  pub kept-all : {b : Bool} {out t : List ℕ} → JoinFilled s u b out → b ≡ true → t ≡ out → keptAs true t ≡ kept s together
   unfolding kept
   kept-all h e o = rw (sym (h .room) ∙ e, o ∙ h .bytes e)

@@ -11,7 +11,7 @@ use lib.Seq.{sets}
 use Rattle.laws.specs.Lists.{from, gather}
 use Rattle.laws.proofs.Cells.{sets-then}
 use Rattle.laws.proofs.Ranges.{length-map-from, map-from-append}
-use Rattle.laws.proofs.Sums.{gather-append}
+use Rattle.laws.proofs.Appending.{gather-append}
 use Rattle.records.specs.declared.Record.{Record}
 use Rattle.records.specs.Records.{wins, best}
 use Rattle.records.specs.Stores.{recordCells, countOf, recordAt, recordsOf}

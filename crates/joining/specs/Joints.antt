@@ -57,6 +57,6 @@ pub record Walked (s u : List ℕ) (n k : ℕ) (r : Joint) (out : List ℕ) : Ty
   pub stop : r .i < n → r .j < k → capacity ≤ r .w
 
 -- Whether there is room for all, and their bytes if there is.
-pub record Filled (s u : List ℕ) (b : Bool) (out : List ℕ) : Type 0 where
+pub record JoinFilled (s u : List ℕ) (b : Bool) (out : List ℕ) : Type 0 where
   pub room : b ≡ leb (length (joined (recordsOf s) (recordsOf u))) capacity
   pub bytes : b ≡ true → out ≡ storeCells (joined (recordsOf s) (recordsOf u))

@@ -9,7 +9,7 @@ ghost use Rattle.language.specs.Answers.{zeros};
 ghost use Rattle.records.specs.Records.{best};
 ghost use Rattle.records.specs.Stores.{storeLength, recordCells, recordAt, recordsOf, joined};
 ghost use Rattle.records.specs.Answers.{kept, keptAs};
-ghost use Rattle.joining.specs.Joints.{recordsFrom, Stepped, Walked, Filled};
+ghost use Rattle.joining.specs.Joints.{recordsFrom, Stepped, Walked, JoinFilled};
 use numbers::put_bytes;
 use records::Record;
 use store::appliance_at;
@@ -126,9 +126,9 @@ fn rest(s: &[u8], i: usize, n: usize, out: &mut [u8], w: usize)
 }
 
 // Both stores joined in out, which was zero; false where there is no room for them.
-fn fill<'a>(s: &'a [u8], u: &'a [u8], out: &mut [u8]) -> bool
+fn join_into<'a>(s: &'a [u8], u: &'a [u8], out: &mut [u8]) -> bool
     requires { ⌜ (length (now s) ≡ storeLength) × (length (now u) ≡ storeLength) × (now out ≡ zeros storeLength) ⌝ }
-    ensures { λ b. ⌜ Filled (now (s .entry)) (now (u .entry)) b (now (out .exit)) ⌝ }
+    ensures { λ b. ⌜ JoinFilled (now (s .entry)) (now (u .entry)) b (now (out .exit)) ⌝ }
 {
     let n = count(s);
     let k = count(u);
@@ -150,7 +150,7 @@ pub fn join(s: &mut [u8], u: &[u8]) -> bool
     ensures { λ b. ⌜ keptAs b (now (s .exit)) ≡ kept (now (s .entry)) (joined (recordsOf (now (s .entry))) (recordsOf (now (u .entry)))) ⌝ }
 {
     let mut out = [0u8; STORE];
-    if !fill(s, u, &mut out) {
+    if !join_into(s, u, &mut out) {
         return false;
     }
     put_bytes(s, 0, &out);

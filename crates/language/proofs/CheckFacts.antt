@@ -1,13 +1,13 @@
 -- The check by computation: a smallest refused program with its place for each clause of 9 to 17, and the order between them.
 -- Assumes nothing.
 use mathlib.Core.Path.{_≡_, refl}
-use mathlib.Core.Bool.{Bool, true, false}
+use mathlib.Core.Bool.{false}
 use mathlib.Core.List.{List, [], _∷_, map}
 use Prim.Native.Nat.{ℕ}
 use lib.ListN.{replicate}
 use Rattle.language.specs.Bytes.{bytesOf}
 use Rattle.language.specs.Instructions.{uint, void}
-use Rattle.language.specs.Programs.{Row, Register, Block, Func, Program}
+use Rattle.language.specs.Programs.{Row, Func, Program}
 use Rattle.language.specs.Checking.{Verdict, check}
 use Rattle.language.proofs.Computing.{computing}
 use Rattle.language.proofs.Examples.{func, named, withNames, plainBlocks, plainRegisters}

@@ -1,7 +1,7 @@
 -- Small programs for the facts: what a text would spell, with as few names as the check allows.
 -- Assumes nothing.
-use mathlib.Core.Bool.{Bool, true}
-use mathlib.Core.List.{List, [], _∷_, map}
+use mathlib.Core.Bool.{true}
+use mathlib.Core.List.{List, [], map}
 use Prim.Native.Nat.{ℕ}
 use Prim.Native.String.{String}
 use Rattle.language.specs.Bytes.{bytesOf}

@@ -9,7 +9,7 @@ use lib.ListN.{length}
 use Rattle.language.specs.Programs.{maxText}
 use Rattle.language.specs.Tokens.{Token, Found, tokensOf}
 use Rattle.language.specs.Grammar.{Stage, gram}
-use Rattle.language.specs.Reading.{Draft, Outcome, Parse, Reading, perform, onward, take, parse₀, finish, read}
+use Rattle.language.specs.Reading.{Draft, ActOutcome, Parse, Reading, performAct, afterAct, takeToken, parse₀, finish, read}
 use Rattle.language.specs.Refusals.{Reaches}
 use Rattle.language.proofs.ReadingLaws.{refusal-stands, read-by-tokens}
 use Rattle.language.proofs.SizeFacts.{text-too-long}
@@ -22,17 +22,17 @@ record Refused (x : Parse) (found : List Found) (n p : ℕ) : Type 0 where
   stage : Stage
   draft : Draft
   split : found ≡ before ++ (first ∷ after)
-  stands : foldl take x before ≡ Parse.reading stage draft
-  refused : take (Parse.reading stage draft) first ≡ Parse.refused n p
+  stands : foldl takeToken x before ≡ Parse.reading stage draft
+  refused : takeToken (Parse.reading stage draft) first ≡ Parse.refused n p
 
 reading-not-refused : {s : Stage} {d : Draft} {n p : ℕ} → Parse.reading s d ≡ Parse.refused n p → ⊥
 reading-not-refused e = let z : _≡_ {A = ℕ} 0 1 = cc in omega arith
 
-first-refused : (s : Stage) (d : Draft) (found : List Found) (n p : ℕ) → foldl take (Parse.reading s d) found ≡ Parse.refused n p → Refused (Parse.reading s d) found n p
+first-refused : (s : Stage) (d : Draft) (found : List Found) (n p : ℕ) → foldl takeToken (Parse.reading s d) found ≡ Parse.refused n p → Refused (Parse.reading s d) found n p
 first-refused s d [] n p e = absurd (reading-not-refused e)
-first-refused s d (f ∷ fs) n p e = by (take (Parse.reading s d) f) refl e (λ s d. first-refused s d fs n p)
+first-refused s d (f ∷ fs) n p e = by (takeToken (Parse.reading s d) f) refl e (λ s d. first-refused s d fs n p)
   where
-    by : (x : Parse) → take (Parse.reading s d) f ≡ x → foldl take x fs ≡ Parse.refused n p → ((s : Stage) (d : Draft) → foldl take (Parse.reading s d) fs ≡ Parse.refused n p → Refused (Parse.reading s d) fs n p) → Refused (Parse.reading s d) (f ∷ fs) n p
+    by : (x : Parse) → takeToken (Parse.reading s d) f ≡ x → foldl takeToken x fs ≡ Parse.refused n p → ((s : Stage) (d : Draft) → foldl takeToken (Parse.reading s d) fs ≡ Parse.refused n p → Refused (Parse.reading s d) fs n p) → Refused (Parse.reading s d) (f ∷ fs) n p
     by (Parse.refused m q) h k ih =
         record {
           before = [];
@@ -61,9 +61,9 @@ finish-refused : (x : Parse) {n p : ℕ} → finish x ≡ Reading.refused n p �
 finish-refused (Parse.refused m q) e = cc
 finish-refused (Parse.reading s d) e = absurd (let z : _≡_ {A = ℕ} 0 1 = cc in omega arith)
 
-onward-refused : (s : Stage) (o : Outcome) {n p : ℕ} → onward s o ≡ Parse.refused n p → o ≡ Outcome.refuse n p
-onward-refused s (Outcome.refuse m q) e = cc
-onward-refused s (Outcome.proceed d) e = absurd (reading-not-refused e)
+onward-refused : (s : Stage) (o : ActOutcome) {n p : ℕ} → afterAct s o ≡ Parse.refused n p → o ≡ ActOutcome.refuse n p
+onward-refused s (ActOutcome.refuse m q) e = cc
+onward-refused s (ActOutcome.proceed d) e = absurd (reading-not-refused e)
 
 -- The token whose act refuses.
 pub record By (text : List ℕ) (n p : ℕ) : Type 0 where
@@ -72,11 +72,11 @@ pub record By (text : List ℕ) (n p : ℕ) : Type 0 where
   pub draft : Draft
   pub token : Token
   pub reached : Reaches text place stage draft token
-  pub refuses : perform (gram stage token .act) place draft ≡ Outcome.refuse n p
+  pub refuses : performAct (gram stage token .act) place draft ≡ ActOutcome.refuse n p
 
 -- an answer other than 1 and 2 is given by an act
 pub refused-by : (text : List ℕ) (n p : ℕ) → 2 < n → read text ≡ Reading.refused n p → By text n p
-unfolding take
+unfolding takeToken
 refused-by text n p l e = by (decLt maxText (length text))
   where
     of : length text ≤ maxText → (r : Refused parse₀ (tokensOf text) n p) → (f : Found) → r .first ≡ f → By text n p
@@ -103,8 +103,8 @@ refused-by text n p l e = by (decLt maxText (length text))
         of m r (r .first) refl
 
 -- an act that refuses a token gives the text's answer
-pub refuses-text : {text : List ℕ} {p : ℕ} {s : Stage} {d : Draft} {t : Token} {n : ℕ} → Reaches text p s d t → perform (gram s t .act) p d ≡ Outcome.refuse n p → read text ≡ Reading.refused n p
-unfolding take
+pub refuses-text : {text : List ℕ} {p : ℕ} {s : Stage} {d : Draft} {t : Token} {n : ℕ} → Reaches text p s d t → performAct (gram s t .act) p d ≡ ActOutcome.refuse n p → read text ≡ Reading.refused n p
+unfolding takeToken
 refuses-text {text} {p} {s} {d} {t} {n} r e =
     read-by-tokens text (r .short)
-    ∙ rw (r .found, foldl-append take parse₀ (r .before) (Found.token p t ∷ r .after), r .stands, e, refusal-stands n p (r .after))
+    ∙ rw (r .found, foldl-append takeToken parse₀ (r .before) (Found.token p t ∷ r .after), r .stands, e, refusal-stands n p (r .after))

@@ -1,3 +1,7 @@
+pub mod FormLaws
+pub mod TableView
+pub mod TableLaws
+pub mod MadeNamesLaws
 pub mod Digits
 pub mod Computing
 pub mod Widths

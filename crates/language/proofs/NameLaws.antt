@@ -11,7 +11,8 @@ use mir.Facts.{yes-and}
 use borrow.Author.Tests.{ltb-true, lt-ltb, le-leb, eqb-true, eq-eqb, ne-eqb}
 use Rattle.laws.specs.Lists.{all}
 use Rattle.laws.specs.Sections.{Bytes}
-use Rattle.laws.proofs.All.{all-append}
+use Rattle.laws.proofs.Appending.{all-append}
+use Rattle.laws.proofs.Branches.{cond-same}
 use Rattle.language.specs.Bytes.{Class, classOf, nameByte, digitByte, hexByte, quoteByte, backslash, slashByte, lineFeed, letterX, digitZero}
 use Rattle.language.specs.Words.{words, wordOf, wordCount}
 use Rattle.language.specs.Names.{Spelling, spell, nextSpelled, firstSpelled, insideQuotes, whole, spelled}
@@ -31,13 +32,13 @@ abbrev spelling : List ℕ → Spelling
 spelling n = foldl spell Spelling.none n
 
 -- The bytes kept spell a name as far as s, and are not too many.
-record Kept (s : Spelling) (n : List ℕ) : Type 0 where
+record KeptName (s : Spelling) (n : List ℕ) : Type 0 where
   spells : spelling n ≡ s
   fits : length n ≤ maxName
 
 -- They begin with a quote.
 record Quoted (s : Spelling) (n : List ℕ) : Type 0 where
-  kept : Kept s n
+  kept : KeptName s n
   rest : List ℕ
   opened : n ≡ quoteByte ∷ rest
 
@@ -48,7 +49,7 @@ within n = cond (eqb (length n) 1) Spelling.opened Spelling.inside
 -- What each mode keeps.
 abbrev Keeps : Mode → List ℕ → Type 0
 Keeps Mode.between n = Unit {0}
-Keeps Mode.plain n = Kept Spelling.plain n
+Keeps Mode.plain n = KeptName Spelling.plain n
 Keeps Mode.quoted n = Quoted (within n) n
 Keeps Mode.escaping n = Quoted Spelling.escaping n
 Keeps Mode.slash n = Unit {0}
@@ -82,10 +83,6 @@ quote-cond : (t : Bool) (x y : Class) → isQuote (cond t x y) ≡ cond t (isQuo
 quote-cond true x y = refl
 quote-cond false x y = refl
 
-cond-same : (t b : Bool) → cond t b b ≡ b
-cond-same true b = refl
-cond-same false b = refl
-
 skip : (t b : Bool) → T (cond t false b) → T b
 skip true b h = absurd h
 skip false b h = h
@@ -104,7 +101,7 @@ unfolding wordOf words
 quoted-no-word n = refl
 
 -- what is kept whole is spelled, if it is no word
-kept-spelled : (s : Spelling) (n : List ℕ) → T (whole s) → Kept s n → wordOf n ≡ wordCount → T (spelled n)
+kept-spelled : (s : Spelling) (n : List ℕ) → T (whole s) → KeptName s n → wordOf n ≡ wordCount → T (spelled n)
 unfolding spelled
 kept-spelled s n w k e =
     let h : spelling n ≡ s = k .spells in
@@ -135,7 +132,7 @@ begin-good p b h = by (classOf b) refl
 
 -- ---- what is open ends
 
-name-or-word : (n : List ℕ) (p : ℕ) → Kept Spelling.plain n → T (isSpelled (token p (nameOrWord n)))
+name-or-word : (n : List ℕ) (p : ℕ) → KeptName Spelling.plain n → T (isSpelled (token p (nameOrWord n)))
 unfolding nameOrWord
 name-or-word n p k = by (eqb (wordOf n) wordCount) refl
   where
@@ -167,7 +164,7 @@ module _ (l : Lexer) (b : ℕ) (h : b < 256) where
 
 -- one byte more spells on
 module _ (n : List ℕ) (b : ℕ) (h : b < 256) where
-  kept-more : (s : Spelling) → Kept s n → length n < maxName → Kept (nextSpelled s b) (n ++ (b ∷ []))
+  kept-more : (s : Spelling) → KeptName s n → length n < maxName → KeptName (nextSpelled s b) (n ++ (b ∷ []))
   kept-more s k f =
       let e : spelling n ≡ s = k .spells in
       record { spells = foldl-append spell Spelling.none n (b ∷ []) ∙ rw (e, lt-ltb b 256 h); fits = simp length-append (omega arith) }
@@ -222,7 +219,7 @@ module _ (l : Lexer) (b : ℕ) (h : b < 256) where
       by true d u f = spoils-good l
       by false d false f = spoils-good l
       by false d true f =
-          let k : Kept Spelling.closed (n ++ (b ∷ [])) = subst (λ (r : Spelling). Kept r (n ++ (b ∷ []))) (rw (d, e)) (kept-more n b h (within n) (q .kept) (ltb-true (length n) maxName f)) in
+          let k : KeptName Spelling.closed (n ++ (b ∷ [])) = subst (λ (r : Spelling). KeptName r (n ++ (b ∷ []))) (rw (d, e)) (kept-more n b h (within n) (q .kept) (ltb-true (length n) maxName f)) in
           let w : wordOf (n ++ (b ∷ [])) ≡ wordCount = rw (q .opened) (quoted-no-word (q .rest ++ (b ∷ []))) in
           record { names = yes-and (spelled (n ++ (b ∷ []))) true (kept-spelled Spelling.closed (n ++ (b ∷ [])) tt k w) tt; keeps = tt }
 
@@ -258,8 +255,8 @@ module _ (l : Lexer) (b : ℕ) (h : b < 256) where
       given : Keeps (l .mode) (l .bytes)
       given = subst⁻¹ (λ (m : Mode). Keeps m (l .bytes)) e k
 
-      plain : (t : Bool) → nameByte b ≡ t → Kept Spelling.plain (l .bytes) → Good (cond t (extends Mode.plain l b) (ends l b))
-      plain true d k = extends-good Mode.plain λ f. subst (λ (r : Spelling). Kept r (l .bytes ++ (b ∷ []))) (rw d) (kept-more (l .bytes) b h Spelling.plain k f)
+      plain : (t : Bool) → nameByte b ≡ t → KeptName Spelling.plain (l .bytes) → Good (cond t (extends Mode.plain l b) (ends l b))
+      plain true d k = extends-good Mode.plain λ f. subst (λ (r : Spelling). KeptName r (l .bytes ++ (b ∷ []))) (rw d) (kept-more (l .bytes) b h Spelling.plain k f)
       plain false d k = ends-good l b h given
 
       quoted : (t : Bool) → eqb b quoteByte ≡ t → Quoted (within (l .bytes)) (l .bytes) → Good (cond t (closes l b) (quotes l b))

@@ -10,13 +10,13 @@ use Rattle.language.specs.Bytes.{bytesOf}
 use Rattle.language.specs.Instructions.{typeCount, instructionCount, formOf, loadType, width, signed}
 use Rattle.language.specs.Programs.{Row, Register, Block, Func, opOf, rowsOf, entryCount}
 use Rattle.language.specs.Grammar.{gram, afterWord, wordWithTarget, wordAlone}
-use Rattle.language.specs.Reading.{Reading, read, readEnd, readByte, take, perform, beginFunction, markSsa, setResult, nameFunction, beginRegister, nameRegister, beginBlock, nameBlock, endBlock, beginInstruction, setTarget, setInstruction, addSource, addEntry, addMention, inRange, bitsOf, setNumber, rowOf, endInstruction, resolve, undeclared, endFunction, functionNumber, registerNumber, blockNumber, rowCount, phiEntries}
+use Rattle.language.specs.Reading.{Reading, read, readEnd, readByte, takeToken, performAct, beginFunction, markSsa, setResult, nameFunction, beginRegister, nameRegister, beginBlock, nameBlock, endBlock, beginInstruction, setTarget, setInstruction, addSource, addEntry, addMention, numberInRange, bitsOf, setNumber, rowOf, endInstruction, resolve, undeclared, endFunction, functionNumber, registerNumber, blockNumber, draftRows, phiEntries}
 use Rattle.language.specs.Listing.{listingOf, functionLine, line, digits}
 use Rattle.language.proofs.TokenFacts.{lexing}
 
 -- All that reading and the listing are made of, to be opened by one name.
 unfoldable pub reads : Unit {0}
-unfolding lexing read readEnd readByte take perform beginFunction markSsa setResult nameFunction beginRegister nameRegister beginBlock nameBlock endBlock beginInstruction setTarget setInstruction addSource addEntry addMention inRange bitsOf setNumber rowOf endInstruction resolve undeclared endFunction functionNumber registerNumber blockNumber rowCount phiEntries gram afterWord wordWithTarget wordAlone formOf loadType width signed rowsOf entryCount listingOf functionLine line digits
+unfolding lexing read readEnd readByte takeToken performAct beginFunction markSsa setResult nameFunction beginRegister nameRegister beginBlock nameBlock endBlock beginInstruction setTarget setInstruction addSource addEntry addMention numberInRange bitsOf setNumber rowOf endInstruction resolve undeclared endFunction functionNumber registerNumber blockNumber draftRows phiEntries gram afterWord wordWithTarget wordAlone formOf loadType width signed rowsOf entryCount listingOf functionLine line digits
 reads = tt
 
 -- A text by its lines.
@@ -116,9 +116,9 @@ unfolding reads everyText
 every-number = refl
 
 -- A text with its answer: number and place, or 0 and 0 where it reads.
-abbrev pub answerOf : Reading → ℕ × ℕ
-answerOf (Reading.refused n p) = (n, p)
-answerOf (Reading.program p) = (0, 0)
+abbrev pub answerTo : Reading → ℕ × ℕ
+answerTo (Reading.refused n p) = (n, p)
+answerTo (Reading.program p) = (0, 0)
 
 pub record Case : Type 0 where
   pub text : List ℕ
@@ -215,6 +215,6 @@ cases =
 abbrev pub agrees : ℕ × ℕ → ℕ × ℕ → Bool
 agrees a b = eqb (a .0) (b .0) && eqb (a .1) (b .1)
 
-answers : all (λ c. agrees (answerOf (read (c .text))) (c .answer)) cases ≡ true
+answers : all (λ c. agrees (answerTo (read (c .text))) (c .answer)) cases ≡ true
 unfolding reads cases
 answers = refl

@@ -6,17 +6,17 @@ use lib.ListN.{length}
 use borrow.Author.Tests.{le-ltb}
 use Rattle.language.specs.Programs.{maxText}
 use Rattle.language.specs.Tokens.{Found, Lexed, quiet, lexer₀, lexMore, tokensOf}
-use Rattle.language.specs.Reading.{Parse, Reader, take, parse₀, readByte, finish, readEnd, read}
+use Rattle.language.specs.Reading.{Parse, Reader, takeToken, parse₀, readByte, finish, readEnd, read}
 
 -- once refused, a reading stays refused
-pub refusal-stands : (n p : ℕ) (found : List Found) → foldl take (Parse.refused n p) found ≡ Parse.refused n p
-unfolding take
+pub refusal-stands : (n p : ℕ) (found : List Found) → foldl takeToken (Parse.refused n p) found ≡ Parse.refused n p
+unfolding takeToken
 refusal-stands n p [] = refl
 refusal-stands n p (f ∷ fs) = refusal-stands n p fs
 
 -- The reader whose bytes so far gave x.
 abbrev readerOf : Lexed → Reader
-readerOf x = record { lexer = x .lexer; parse = foldl take parse₀ (x .found) }
+readerOf x = record { lexer = x .lexer; parse = foldl takeToken parse₀ (x .found) }
 
 reads-found : (text : List ℕ) (x : Lexed) → foldl readByte (readerOf x) text ≡ readerOf (foldl lexMore x text)
 unfolding readByte lexMore
@@ -24,7 +24,7 @@ reads-found [] x = refl
 reads-found (b ∷ bs) x = rw (← foldl-append) (reads-found bs (lexMore x b))
 
 -- a text that is not too long means what its tokens, taken one by one, come to
-pub read-by-tokens : (text : List ℕ) → length text ≤ maxText → read text ≡ finish (foldl take parse₀ (tokensOf text))
+pub read-by-tokens : (text : List ℕ) → length text ≤ maxText → read text ≡ finish (foldl takeToken parse₀ (tokensOf text))
 unfolding read readEnd tokensOf
 read-by-tokens text h =
     rw (le-ltb maxText (length text) h, reads-found text (quiet lexer₀), foldl-append)

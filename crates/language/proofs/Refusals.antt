@@ -6,7 +6,7 @@ use Prim.Native.Nat.{ℕ}
 use lib.Dec.{lit≤}
 use Rattle.language.specs.Tokens.{Token}
 use Rattle.language.specs.Grammar.{Stage, Act, gram}
-use Rattle.language.specs.Reading.{Draft, Outcome, perform}
+use Rattle.language.specs.Reading.{Draft, ActOutcome, performAct}
 use Rattle.language.specs.Refusals.{Reaches, Beyond, FiveBeyond, Leads, ThreeStuck}
 use Rattle.language.proofs.Continuing.{wrong?, allowed-leads, leads-allowed}
 use Rattle.language.proofs.FirstRefusal.{By, refused-by, refuses-text}
@@ -19,8 +19,8 @@ five-beyond text p = ((λ e. first (refused-by text 5 p (lit≤ tt) e)), (λ r. 
     first : By text 5 p → (s : Stage) × (d : Draft) × (t : Token) × Reaches text p s d t × Beyond d (gram s t .act)
     first b = let h = refused-beyond b in (b .stage, b .draft, b .token, rw (h .0) (b .reached), h .1)
 
-wrong-refused : {a : Act} → a ≡ Act.wrong → (d : Draft) (p : ℕ) → perform a p d ≡ Outcome.refuse 3 p
-unfolding perform
+wrong-refused : {a : Act} → a ≡ Act.wrong → (d : Draft) (p : ℕ) → performAct a p d ≡ ActOutcome.refuse 3 p
+unfolding performAct
 wrong-refused e d p = rw e
 
 pub three-stuck : ThreeStuck

@@ -11,12 +11,12 @@ use lib.Dec.{ltb}
 use lib.ListN.{length, length-append}
 use borrow.Author.Tests.{ltb-true, ltb-false, lt-ltb, le-ltb}
 use Rattle.laws.specs.Lists.{gather, sum}
-use Rattle.laws.proofs.Sums.{gather-append}
+use Rattle.laws.proofs.Appending.{gather-append}
 use Rattle.language.specs.Instructions.{Form, formOf, loadType}
 use Rattle.language.specs.Programs.{Row, Func, rowsOf, entryCount, entriesOf, maxFunctions, maxRegisters, maxBlocks, maxRows, maxEntries}
 use Rattle.language.specs.Tokens.{Token, Found}
 use Rattle.language.specs.Grammar.{Stage, Act, gram}
-use Rattle.language.specs.Reading.{Parts, Mention, Draft, Outcome, Parse, openFunction, rowCount, phiEntries, functionNumber, registerNumber, blockNumber, inRange, rowAs, rowOf, undeclared, resolve, maxMentions, ifRoom, ifResolved, beginFunction, markSsa, setResult, nameFunction, beginRegister, nameRegister, beginBlock, nameBlock, endBlock, beginInstruction, setTarget, setInstruction, addSource, addEntry, addMention, setNumber, endInstruction, endFunction, perform, onward, take, parse₀}
+use Rattle.language.specs.Reading.{Parts, Mention, Draft, ActOutcome, Parse, openFunction, draftRows, phiEntries, functionNumber, registerNumber, blockNumber, numberInRange, rowAs, rowOf, undeclared, resolve, maxMentions, ifRoom, ifResolved, beginFunction, markSsa, setResult, nameFunction, beginRegister, nameRegister, beginBlock, nameBlock, endBlock, beginInstruction, setTarget, setInstruction, addSource, addEntry, addMention, setNumber, endInstruction, endFunction, performAct, afterAct, takeToken, parse₀}
 use Rattle.language.specs.Refusals.{Reaches, Beyond}
 use Rattle.language.proofs.Stages.{Begun, outside, inFunction, inRegister, atBlock, inBlock, inRow, begunAt, Moves, moves}
 use Rattle.language.proofs.FirstRefusal.{By}
@@ -89,8 +89,8 @@ pub record Room (x : Begun) (c : Counts) : Type 0 where
   pub entries : c .entries ≤ maxEntries
   pub mentions : c .mentions + x .mentions ≤ 2 * (c .closed + c .hand + x .rows)
 
-pub rows-now : (d : Draft) → rowCount d ≡ counts d .closed + counts d .hand
-unfolding rowCount
+pub rows-now : (d : Draft) → draftRows d ≡ counts d .closed + counts d .hand
+unfolding draftRows
 rows-now d = ap length (open-rows d) ∙ length-append (closed (d .function)) (d .block .rows)
 
 pub entries-now : (d : Draft) → phiEntries d ≡ counts d .entries
@@ -104,34 +104,34 @@ entries-now d =
 -- What an act comes to: room for what it leaves begun, or else no 5 but at the first token of the item beyond, and no 3 but at
 -- a token that is wrong.
 module _ (d : Draft) (p : ℕ) (a : Act) (y : Begun) where
-  abbrev After : Outcome → Type 0
-  After (Outcome.refuse n q) = (n ≡ 5 → (q ≡ p) × Beyond d a) × (n ≡ 3 → (q ≡ p) × (a ≡ Act.wrong))
-  After (Outcome.proceed e) = Room y (counts e)
+  abbrev After : ActOutcome → Type 0
+  After (ActOutcome.refuse n q) = (n ≡ 5 → (q ≡ p) × Beyond d a) × (n ≡ 3 → (q ≡ p) × (a ≡ Act.wrong))
+  After (ActOutcome.proceed e) = Room y (counts e)
 
   -- A test of room that passes, and one at the first token of an item.
-  passes : (k m : ℕ) (o : Outcome) → k < m → After o → After (ifRoom k m p o)
+  passes : (k m : ℕ) (o : ActOutcome) → k < m → After o → After (ifRoom k m p o)
   passes k m o l h = rw (lt-ltb k m l) h
 
-  begins : (k m : ℕ) (o : Outcome) → k ≤ m → (k ≡ m → Beyond d a) → (k < m → After o) → After (ifRoom k m p o)
+  begins : (k m : ℕ) (o : ActOutcome) → k ≤ m → (k ≡ m → Beyond d a) → (k < m → After o) → After (ifRoom k m p o)
   begins k m o l f h = by (ltb k m) refl
     where
-      by : (b : Bool) → ltb k m ≡ b → After (cond b o (Outcome.refuse 5 p))
+      by : (b : Bool) → ltb k m ≡ b → After (cond b o (ActOutcome.refuse 5 p))
       by true e = h (ltb-true k m e)
       by false e = ((λ five. (refl, f (omega (arith, ltb-false k m e)))), (λ three. absurd (let z : 5 ≡ 3 = three in omega arith)))
 
   -- The other tests.
-  other : (n q : ℕ) → 3 < n → (n ≡ 5 → ⊥) → After (Outcome.refuse n q)
+  other : (n q : ℕ) → 3 < n → (n ≡ 5 → ⊥) → After (ActOutcome.refuse n q)
   other n q l h = ((λ five. absurd (h five)), (λ three. absurd (omega arith)))
 
-  unless : (b : Bool) (n q : ℕ) (o : Outcome) → 3 < n → (n ≡ 5 → ⊥) → After o → After (cond b (Outcome.refuse n q) o)
+  unless : (b : Bool) (n q : ℕ) (o : ActOutcome) → 3 < n → (n ≡ 5 → ⊥) → After o → After (cond b (ActOutcome.refuse n q) o)
   unless true n q o l g h = other n q l g
   unless false n q o l g h = h
 
-  provided : (b : Bool) (n q : ℕ) (o : Outcome) → 3 < n → (n ≡ 5 → ⊥) → After o → After (cond b o (Outcome.refuse n q))
+  provided : (b : Bool) (n q : ℕ) (o : ActOutcome) → 3 < n → (n ≡ 5 → ⊥) → After o → After (cond b o (ActOutcome.refuse n q))
   provided true n q o l g h = h
   provided false n q o l g h = other n q l g
 
-  resolved : (ms : List Mention) (o : Outcome) → After o → After (ifResolved ms o)
+  resolved : (ms : List Mention) (o : ActOutcome) → After o → After (ifResolved ms o)
   resolved [] o h = h
   resolved (m ∷ ms) o h = other 7 (m .place) (omega arith) (λ e. omega arith)
 
@@ -186,13 +186,13 @@ module _ (d : Draft) (p : ℕ) where
   after-beginInstruction : (op m : ℕ) → m ≤ 2 → Room inBlock (counts d) → After d p (Act.beginInstruction op) (inRow m) (beginInstruction op p d)
   unfolding beginInstruction
   after-beginInstruction op m l h =
-      begins d p _ _ (rowCount d) maxRows _ (omega (arith, rows-now d)) (Beyond.instruction op) (λ e. omega (arith, rows-now d))
+      begins d p _ _ (draftRows d) maxRows _ (omega (arith, rows-now d)) (Beyond.instruction op) (λ e. omega (arith, rows-now d))
 
   after-setTarget : (n : List ℕ) → Room inBlock (counts d) → After d p (Act.setTarget n) (inRow 2) (setTarget n p d)
   unfolding setTarget
   after-setTarget n h =
       let r = registerNumber (d .function) n in
-      begins d p _ _ (rowCount d) maxRows _ (omega (arith, rows-now d)) (Beyond.target n)
+      begins d p _ _ (draftRows d) maxRows _ (omega (arith, rows-now d)) (Beyond.target n)
       (λ e. provided d p _ _ (ltb r (length (d .function .registers))) 7 p _ (omega arith) (λ e. omega arith) (omega (arith, rows-now d)))
 
   after-setInstruction : (op m : ℕ) → m ≤ 2 → Room (inRow 2) (counts d) → After d p (Act.setInstruction op) (inRow m) (setInstruction op d)
@@ -220,14 +220,14 @@ module _ (d : Draft) (p : ℕ) where
 
   after-setNumber : (s : Bool) (v m : ℕ) → Room (inRow m) (counts d) → After d p (Act.setNumber s v) (inRow m) (setNumber s v p d)
   unfolding setNumber
-  after-setNumber s v m h = provided d p _ _ (inRange (loadType (d .parts .op)) s v) 4 p _ (omega arith) (λ e. omega arith) h
+  after-setNumber s v m h = provided d p _ _ (numberInRange (loadType (d .parts .op)) s v) 4 p _ (omega arith) (λ e. omega arith) h
 
   after-endInstruction : Room (inRow 0) (counts d) → After d p Act.endInstruction inBlock (endInstruction p d)
   unfolding endInstruction
   after-endInstruction h =
       let row = rowOf (d .parts) in
       let rs = d .block .rows in
-      passes d p _ _ (rowCount d) maxRows _ (omega (arith, rows-now d))
+      passes d p _ _ (draftRows d) maxRows _ (omega (arith, rows-now d))
       (omega (arith, length-append rs (row ∷ []), entries-append rs (row ∷ []), row-entries (d .parts)))
 
   after-endFunction : Room inFunction (counts d) → After d p Act.endFunction outside (endFunction p d)
@@ -240,8 +240,8 @@ module _ (d : Draft) (p : ℕ) where
       (omega (arith, length-append (d .functions) (resolve f (d .mentions) ∷ [])))))
 
 -- Every act of the grammar.
-after-perform : {a : Act} {x y : Begun} → Moves a x y → (d : Draft) (p : ℕ) → Room x (counts d) → After d p a y (perform a p d)
-unfolding perform markSsa setResult
+after-perform : {a : Act} {x y : Begun} → Moves a x y → (d : Draft) (p : ℕ) → Room x (counts d) → After d p a y (performAct a p d)
+unfolding performAct markSsa setResult
 after-perform Moves.wrong d p h = ((λ five. absurd (let z : 3 ≡ 5 = five in omega arith)), (λ three. (refl, refl)))
 after-perform Moves.pass d p h = h
 after-perform Moves.beginFunction d p h = after-beginFunction d p h
@@ -271,19 +271,19 @@ abbrev pub Holds : Parse → Type 0
 Holds (Parse.refused n p) = Unit {0}
 Holds (Parse.reading s d) = Room (begunAt s) (counts d)
 
-after-onward : (d : Draft) (p : ℕ) (a : Act) (s : Stage) (o : Outcome) → After d p a (begunAt s) o → Holds (onward s o)
-after-onward d p a s (Outcome.refuse n q) h = tt
-after-onward d p a s (Outcome.proceed e) h = h
+after-onward : (d : Draft) (p : ℕ) (a : Act) (s : Stage) (o : ActOutcome) → After d p a (begunAt s) o → Holds (afterAct s o)
+after-onward d p a s (ActOutcome.refuse n q) h = tt
+after-onward d p a s (ActOutcome.proceed e) h = h
 
-after-take : (x : Parse) → Holds x → (f : Found) → Holds (take x f)
-unfolding take
+after-take : (x : Parse) → Holds x → (f : Found) → Holds (takeToken x f)
+unfolding takeToken
 after-take (Parse.refused n p) h f = tt
-after-take (Parse.reading s d) h (Found.token p t) = after-onward d p (gram s t .act) (gram s t .stage) (perform (gram s t .act) p d) (after-perform (moves s t .moves) d p h)
+after-take (Parse.reading s d) h (Found.token p t) = after-onward d p (gram s t .act) (gram s t .stage) (performAct (gram s t .act) p d) (after-perform (moves s t .moves) d p h)
 after-take (Parse.reading s d) h (Found.stray p) = tt
 
-pub after-all : (x : Parse) → Holds x → (found : List Found) → Holds (foldl take x found)
+pub after-all : (x : Parse) → Holds x → (found : List Found) → Holds (foldl takeToken x found)
 after-all x h [] = h
-after-all x h (f ∷ fs) = after-all (take x f) (after-take x h f) fs
+after-all x h (f ∷ fs) = after-all (takeToken x f) (after-take x h f) fs
 
 pub room-reached : {text : List ℕ} {p : ℕ} {s : Stage} {d : Draft} {t : Token} → Reaches text p s d t → Room (begunAt s) (counts d)
 room-reached r = subst Holds (r .stands) (after-all parse₀ (omega arith) (r .before))
@@ -291,33 +291,33 @@ room-reached r = subst Holds (r .stands) (after-all parse₀ (omega arith) (r .b
 -- ---- refusals
 
 -- An item beyond is refused at its first token.
-pub beyond-refused : {d : Draft} {a : Act} → Beyond d a → (p : ℕ) → perform a p d ≡ Outcome.refuse 5 p
-unfolding perform beginFunction beginRegister beginBlock beginInstruction setTarget addEntry
+pub beyond-refused : {d : Draft} {a : Act} → Beyond d a → (p : ℕ) → performAct a p d ≡ ActOutcome.refuse 5 p
+unfolding performAct beginFunction beginRegister beginBlock beginInstruction setTarget addEntry
 beyond-refused {d} (Beyond.function e) p = rw (le-ltb (length (d .functions)) maxFunctions (omega arith))
 beyond-refused {d} (Beyond.register e) p = rw (le-ltb (length (d .function .registers)) maxRegisters (omega arith))
 beyond-refused {d} (Beyond.block e) p = rw (le-ltb (length (d .function .blocks)) maxBlocks (omega arith))
-beyond-refused {d} (Beyond.instruction op e) p = rw (le-ltb (rowCount d) maxRows (omega arith))
-beyond-refused {d} (Beyond.target n e) p = rw (le-ltb (rowCount d) maxRows (omega arith))
+beyond-refused {d} (Beyond.instruction op e) p = rw (le-ltb (draftRows d) maxRows (omega arith))
+beyond-refused {d} (Beyond.target n e) p = rw (le-ltb (draftRows d) maxRows (omega arith))
 beyond-refused {d} (Beyond.entry n e) p = rw (le-ltb (phiEntries d) maxEntries (omega arith))
 
 -- A 5 that an act gives is placed at its token, the first of the item beyond; a 3 likewise, and the token is wrong.
 module _ (d : Draft) (q : ℕ) (a : Act) (y : Begun) where
-  given-beyond : (o : Outcome) → After d q a y o → (p : ℕ) → o ≡ Outcome.refuse 5 p → (p ≡ q) × Beyond d a
-  given-beyond (Outcome.refuse n r) h p e =
+  given-beyond : (o : ActOutcome) → After d q a y o → (p : ℕ) → o ≡ ActOutcome.refuse 5 p → (p ≡ q) × Beyond d a
+  given-beyond (ActOutcome.refuse n r) h p e =
       let five : n ≡ 5 = cc in
       let same : p ≡ r = cc in
       (same ∙ h .0 five .0, h .0 five .1)
-  given-beyond (Outcome.proceed e) h p k = absurd (let z : _≡_ {A = ℕ} 0 1 = cc in omega arith)
+  given-beyond (ActOutcome.proceed e) h p k = absurd (let z : _≡_ {A = ℕ} 0 1 = cc in omega arith)
 
-  given-wrong : (o : Outcome) → After d q a y o → (p : ℕ) → o ≡ Outcome.refuse 3 p → (p ≡ q) × (a ≡ Act.wrong)
-  given-wrong (Outcome.refuse n r) h p e =
+  given-wrong : (o : ActOutcome) → After d q a y o → (p : ℕ) → o ≡ ActOutcome.refuse 3 p → (p ≡ q) × (a ≡ Act.wrong)
+  given-wrong (ActOutcome.refuse n r) h p e =
       let three : n ≡ 3 = cc in
       let same : p ≡ r = cc in
       (same ∙ h .1 three .0, h .1 three .1)
-  given-wrong (Outcome.proceed e) h p k = absurd (let z : _≡_ {A = ℕ} 0 1 = cc in omega arith)
+  given-wrong (ActOutcome.proceed e) h p k = absurd (let z : _≡_ {A = ℕ} 0 1 = cc in omega arith)
 
 module _ {text : List ℕ} {n p : ℕ} (b : By text n p) where
-  after-by : After (b .draft) (b .place) (gram (b .stage) (b .token) .act) (begunAt (gram (b .stage) (b .token) .stage)) (perform (gram (b .stage) (b .token) .act) (b .place) (b .draft))
+  after-by : After (b .draft) (b .place) (gram (b .stage) (b .token) .act) (begunAt (gram (b .stage) (b .token) .stage)) (performAct (gram (b .stage) (b .token) .act) (b .place) (b .draft))
   after-by = after-perform (moves (b .stage) (b .token) .moves) (b .draft) (b .place) (room-reached (b .reached))
 
 pub refused-beyond : {text : List ℕ} {p : ℕ} (b : By text 5 p) → (p ≡ b .place) × Beyond (b .draft) (gram (b .stage) (b .token) .act)

@@ -12,14 +12,14 @@ use Rattle.language.specs.Programs.{Row, Block, Func, noBlock, maxText}
 use Rattle.language.specs.Tokens.{lexer₀}
 use Rattle.language.specs.Grammar.{Stage}
 use Rattle.language.specs.Reading.{Reading, Reader, Parse, Parts, partsOf, functionOf, draftOf, noParts, read, readByte, readEnd}
-use Rattle.language.proofs.ReadingFacts.{reads, answerOf, agrees, Case, _refused_at_}
+use Rattle.language.proofs.ReadingFacts.{reads, answerTo, agrees, Case, _refused_at_}
 
 -- The texts have their answers if they follow what was read so far: these functions, this function, block and instruction in
 -- hand. Places count from there.
 abbrev after : Stage → List Func → Func → Block → Parts → List Case → Bool
 after s fs f b x cases =
     let r : Reader = record { lexer = lexer₀; parse = Parse.reading s (draftOf fs f [] b x) } in
-    all (λ c. agrees (answerOf (readEnd (foldl readByte r (c .text)))) (c .answer)) cases
+    all (λ c. agrees (answerTo (readEnd (foldl readByte r (c .text)))) (c .answer)) cases
 
 -- A function with so many registers of one name, and these blocks.
 abbrev function : ℕ → List Block → Func

@@ -12,6 +12,7 @@ use mir.Facts.{and-yes}
 use borrow.Author.Tests.{lt-ltb, eq-eqb, ne-eqb}
 use Rattle.laws.specs.Lists.{all}
 use Rattle.laws.specs.Sections.{Bytes}
+use Rattle.laws.proofs.Branches.{cond-same}
 use Rattle.language.specs.Bytes.{Class, classOf, nameByte, quoteByte, backslash}
 use Rattle.language.specs.Words.{wordOf, wordCount}
 use Rattle.language.specs.Names.{Spelling, spell, nextSpelled, firstSpelled, insideQuotes, whole, spelled}
@@ -127,13 +128,13 @@ module _ (n : List ℕ) (b : ℕ) (f : length n < maxName) where
   on Spelling.closed z r = absurd r
   on Spelling.wrong z r = absurd r
 
+-- what is wrong stays wrong
+pub spoiled : (bs : List ℕ) → foldl spell Spelling.wrong bs ≡ Spelling.wrong
+spoiled [] = refl
+spoiled (b ∷ bs) = ap (λ (s : Spelling). foldl spell s bs) (cond-same (ltb b 256) Spelling.wrong) ∙ spoiled bs
+
 pub wrong-stays : (bs : List ℕ) → T (right (foldl spell Spelling.wrong bs)) → ⊥
-wrong-stays [] r = r
-wrong-stays (b ∷ bs) r = by (ltb b 256) r (wrong-stays bs)
-  where
-    by : (t : Bool) → T (right (foldl spell (cond t Spelling.wrong Spelling.wrong) bs)) → (T (right (foldl spell Spelling.wrong bs)) → ⊥) → ⊥
-    by true r h = h r
-    by false r h = h r
+wrong-stays bs r = subst (λ (s : Spelling). T (right s)) (spoiled bs) r
 
 -- bytes that spell on have done so from the start
 pub right-before : (s : Spelling) (bs : List ℕ) → T (right (foldl spell s bs)) → T (right s)

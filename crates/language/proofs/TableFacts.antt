@@ -8,7 +8,7 @@ use lib.ListN.{take}
 use Rattle.laws.specs.Sections.{pad}
 use Rattle.language.specs.Instructions.{formOf}
 use Rattle.language.specs.Programs.{Row, Func, rowsOf}
-use Rattle.language.specs.Table.{decodeRow, decodeAs, decodeRegister, decodeBlock, blocksPlaced, phisPlaced, decodeFunction}
+use Rattle.language.specs.Table.{decodeRow, decodeAs, decodeRegister, decodeBlock, blocksPlaced, phisPlaced, decodeFunction, rowsOffset}
 use Rattle.language.specs.Table.{nameCells, registerCells, blockCells, rowCells, headCells, registerSection, blockSection, rowSection}
 use Rattle.language.specs.Table.{entrySection, functionCells}
 
@@ -103,14 +103,14 @@ phi-misplaced = refl
 
 -- ---- Cells that are not needed are not looked at.
 
-jump-alone : decodeRow (behind 21385 (32 ∷ 7 ∷ 7 ∷ 7 ∷ 3 ∷ 7 ∷ 7 ∷ [])) 0 0 ≡ Row.jump 3
+jump-alone : decodeRow (behind rowsOffset (32 ∷ 7 ∷ 7 ∷ 7 ∷ 3 ∷ 7 ∷ 7 ∷ [])) 0 0 ≡ Row.jump 3
 unfolding formOf decodeRow decodeAs
 jump-alone = refl
 
-return-alone : decodeRow (behind 21385 (34 ∷ 7 ∷ 4 ∷ 7 ∷ 7 ∷ 7 ∷ 7 ∷ [])) 0 0 ≡ Row.return 4
+return-alone : decodeRow (behind rowsOffset (34 ∷ 7 ∷ 4 ∷ 7 ∷ 7 ∷ 7 ∷ 7 ∷ [])) 0 0 ≡ Row.return 4
 unfolding formOf decodeRow decodeAs
 return-alone = refl
 
-leave-alone : decodeRow (behind 21385 (35 ∷ 7 ∷ 7 ∷ 7 ∷ 7 ∷ 7 ∷ 7 ∷ [])) 0 0 ≡ Row.leave
+leave-alone : decodeRow (behind rowsOffset (35 ∷ 7 ∷ 7 ∷ 7 ∷ 7 ∷ 7 ∷ 7 ∷ [])) 0 0 ≡ Row.leave
 unfolding formOf decodeRow decodeAs
 leave-alone = refl

@@ -2,8 +2,7 @@
 -- Marked.)
 -- Assumes nothing.
 use mathlib.Core.Path.{_≡_, refl, _∙_, ap}
-use mathlib.Core.List.{List, [], _∷_}
-use Prim.Native.Nat.{ℕ}
+use mathlib.Core.List.{[], _∷_}
 use Rattle.language.specs.Bytes.{bytesOf}
 use Rattle.language.specs.Checking.{Verdict, check}
 use Rattle.language.specs.Translating.{translation, translatedRegisters, translatedBlocks, translatedRows, stepFormula}

@@ -3,7 +3,7 @@
 use mathlib.Core.Path.{_≡_, refl}
 use mathlib.Core.List.{List, [], _∷_, map}
 use Prim.Native.Nat.{ℕ}
-use Rattle.language.specs.Instructions.{uint, void}
+use Rattle.language.specs.Instructions.{uint, copyOp}
 use Rattle.language.specs.Programs.{Row, Func}
 use Rattle.language.specs.Checking.{Verdict, check, predecessors}
 use Rattle.language.specs.Running.{Outcome, runOf}
@@ -11,16 +11,16 @@ use Rattle.language.specs.Translating.{translation}
 use Rattle.language.proofs.Computing.{computing}
 use Rattle.language.proofs.Examples.{func}
 use Rattle.language.proofs.ReadingFacts.{turn}
-use Rattle.language.proofs.RunFacts.{Summary, summary}
+use Rattle.language.proofs.RunFacts.{summary}
 
 -- "Phi turned into copies in row order: P3 then gives 9." `turn` with its copies in row order: parameters a 0, b 1, n 2; x 3, y 4, k 5, one 6, z 7, m 8,
 -- c 9.
 abbrev pub inRowOrder : Func
 inRowOrder =
     func 0 7 3 (7 ∷ 7 ∷ 4 ∷ 7 ∷ 7 ∷ 4 ∷ 4 ∷ 4 ∷ 4 ∷ uint ∷ [])
-    ((Row.load 2 6 1 ∷ Row.load 2 7 0 ∷ Row.unary 30 3 0 ∷ Row.unary 30 4 1 ∷ Row.unary 30 5 2 ∷ Row.jump 1 ∷ [])
+    ((Row.load 2 6 1 ∷ Row.load 2 7 0 ∷ Row.unary copyOp 3 0 ∷ Row.unary copyOp 4 1 ∷ Row.unary copyOp 5 2 ∷ Row.jump 1 ∷ [])
     ∷ (Row.binary 23 9 5 7 ∷ Row.branch 9 3 2 ∷ [])
-    ∷ (Row.binary 10 8 5 6 ∷ Row.unary 30 3 4 ∷ Row.unary 30 4 3 ∷ Row.unary 30 5 8 ∷ Row.jump 1 ∷ [])
+    ∷ (Row.binary 10 8 5 6 ∷ Row.unary copyOp 3 4 ∷ Row.unary copyOp 4 3 ∷ Row.unary copyOp 5 8 ∷ Row.jump 1 ∷ [])
     ∷ (Row.return 3 ∷ [])
     ∷ [])
 

@@ -1,7 +1,7 @@
 -- The answers of the entry points (document 01, "Numbers we answer"): for all inputs the number, place, value and steps, and every cell of
 -- what was lent.
 -- Assumes nothing.
-use mathlib.Core.Bool.{Bool, true, false, cond, _&&_}
+use mathlib.Core.Bool.{Bool, cond, _&&_}
 use mathlib.Core.List.{List, [], _∷_, _++_}
 use Prim.Native.Nat.{ℕ, _+_, _-_, _*_}
 use lib.Dec.{eqb, leb, ltb}

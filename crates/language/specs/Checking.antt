@@ -2,12 +2,12 @@
 -- Assumes nothing.
 use mathlib.Core.Bool.{Bool, true, false, cond, not, _&&_, _||_, Bool·beq}
 use mathlib.Core.List.{List, [], _∷_, _++_, map}
-use Prim.Native.Nat.{ℕ, zero, suc, _+_, _-_, _^_}
+use Prim.Native.Nat.{ℕ, zero, suc, _+_, _^_}
 use lib.Dec.{eqb, leb, ltb, T}
 use lib.ListN.{length, getD, take}
 use Rattle.laws.specs.Lists.{any, all, keep, empty, gather, together, below, member, same}
-use Rattle.language.specs.Instructions.{formOf, formNumber, instructionCount, typeCount, loadType, width, uint, void}
-use Rattle.language.specs.Programs.{Row, Register, Block, Func, Program, maxFunctions, maxRegisters, maxBlocks, maxRows, maxEntries, isSsa, blockAt, rowsAt, typeAt, rowsOf, firstRow, rowPlace, isPhi, isTerminator, targetsOf, sourcesOf, entriesOf, namedBy, opOf, formIn, entryCount}
+use Rattle.language.specs.Instructions.{formOf, formNumber, instructionCount, typeCount, loadType, width, uint, void, shlOp, cmpEqOp, convOp, copyOp}
+use Rattle.language.specs.Programs.{Row, Func, Program, maxFunctions, maxRegisters, maxBlocks, maxRows, maxEntries, isSsa, blockAt, rowsAt, typeAt, rowsOf, firstRow, rowPlace, isPhi, isTerminator, targetsOf, sourcesOf, entriesOf, namedBy, opOf, formIn, entryCount}
 use Rattle.language.specs.Names.{spelled}
 
 -- ---- predecessors
@@ -90,13 +90,13 @@ inRange f r =
 unfoldable pub typed : Func → Row → Bool
 typed f Row.nop = true
 typed f (Row.load op t n) = eqb (typeAt f t) (loadType op)
--- ari.neg, bit.neg, copy: one type; conv (29): any to any
-typed f (Row.unary op t s) = eqb op 29 || eqb (typeAt f t) (typeAt f s)
--- arithmetic and bits (below 19): one type throughout; shifts (below 23): second source `uint`, the rest one type;
+-- ari.neg, bit.neg, copy: one type; conv: any to any
+typed f (Row.unary op t s) = eqb op convOp || eqb (typeAt f t) (typeAt f s)
+-- arithmetic and bits: one type throughout; shifts: second source `uint`, the rest one type;
 -- comparisons: sources of one type, target `uint`
 typed f (Row.binary op t l r) =
-    cond (ltb op 19) (eqb (typeAt f t) (typeAt f l) && eqb (typeAt f l) (typeAt f r))
-    (cond (ltb op 23) (eqb (typeAt f t) (typeAt f l) && eqb (typeAt f r) uint) (eqb (typeAt f l) (typeAt f r) && eqb (typeAt f t) uint))
+    cond (ltb op shlOp) (eqb (typeAt f t) (typeAt f l) && eqb (typeAt f l) (typeAt f r))
+    (cond (ltb op cmpEqOp) (eqb (typeAt f t) (typeAt f l) && eqb (typeAt f r) uint) (eqb (typeAt f l) (typeAt f r) && eqb (typeAt f t) uint))
 typed f (Row.phi t es) = all (λ e. eqb (typeAt f e) (typeAt f t)) es
 typed f (Row.jump b) = true
 typed f (Row.branch s x y) = eqb (typeAt f s) uint
@@ -123,7 +123,7 @@ breaks12 f s =
 
 -- 13: "`copy` in ssa, `phi` outside it"
 unfoldable pub breaks13 : Func → Spot → Bool
-breaks13 f s = cond (isSsa f) (eqb (opOf (s .row)) 30) (isPhi (s .row))
+breaks13 f s = cond (isSsa f) (eqb (opOf (s .row)) copyOp) (isPhi (s .row))
 
 -- 14: "phi in entry, or after another instruction"
 unfoldable pub breaks14 : Func → Spot → Bool

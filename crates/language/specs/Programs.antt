@@ -1,13 +1,13 @@
 -- Programs: functions, registers, blocks, rows, entry and names (document 01, "The text"), and the sizes.
 -- A program may hold any numbers: which of them are right is the check's to say.
 -- Assumes nothing.
-use mathlib.Core.Bool.{Bool, true, false, cond, _&&_}
+use mathlib.Core.Bool.{Bool, true, false, _&&_}
 use mathlib.Core.List.{List, [], _∷_, map}
 use Prim.Native.Nat.{ℕ, _+_, _*_}
 use lib.Dec.{eqb}
 use lib.ListN.{length, getD, take}
 use Rattle.laws.specs.Lists.{gather, sum, any, same}
-use Rattle.language.specs.Instructions.{Form, instructionCount}
+use Rattle.language.specs.Instructions.{Form, instructionCount, nopOp, phiOp, jumpOp, jumpCondOp, returnOp, leaveOp}
 
 -- A row is an instruction with its numbers: registers and blocks by their place in the function's lists, an instruction
 -- (`op`) by its number where its form has several. `unknown` is a row whose number is no instruction's.
@@ -197,15 +197,15 @@ namedBy (unknown op) = []
 
 -- A row's instruction number.
 abbrev pub opOf : Row → ℕ
-opOf nop = 0
+opOf nop = nopOp
 opOf (load op t n) = op
 opOf (unary op t s) = op
 opOf (binary op t l r) = op
-opOf (phi t es) = 31
-opOf (jump b) = 32
-opOf (branch s x y) = 33
-opOf (return s) = 34
-opOf leave = 35
+opOf (phi t es) = phiOp
+opOf (jump b) = jumpOp
+opOf (branch s x y) = jumpCondOp
+opOf (return s) = returnOp
+opOf leave = leaveOp
 opOf (unknown op) = op
 
 -- The form a row is written in.

@@ -4,8 +4,8 @@
 --
 --   No.  Place                                      Given by
 --   1    0                                          read
---   2    the first byte of what is no token         take, of a place that has none
---   3    the token, the end included                perform, of a token that is wrong
+--   2    the first byte of what is no token         takeToken, of a place that has none
+--   3    the token, the end included                performAct, of a token that is wrong
 --   4    the number                                 setNumber
 --   5    the first token of the item beyond         ifRoom, in beginFunction, beginRegister, beginBlock,
 --                                                   beginInstruction, setTarget and addEntry
@@ -82,8 +82,8 @@ openFunction d =
     let f = d .function in
     functionOf (f .name) (f .ssa) (f .result) (f .params) (f .registers) (f .blocks ++ (d .block ∷ [])) (f .entry)
 
-unfoldable pub rowCount : Draft → ℕ
-rowCount d = length (rowsOf (openFunction d))
+unfoldable pub draftRows : Draft → ℕ
+draftRows d = length (rowsOf (openFunction d))
 
 unfoldable pub phiEntries : Draft → ℕ
 phiEntries d = entryCount (openFunction d) + length (d .parts .entries)
@@ -100,39 +100,39 @@ unfoldable pub blockNumber : Func → List ℕ → ℕ
 blockNumber f n = position (λ b. same (b .name) n) (f .blocks)
 
 -- What a token comes to: an answer, or the draft after it.
-pub data Outcome : Type 0 where
-  refuse : (number place : ℕ) → Outcome
-  proceed : (draft : Draft) → Outcome
+pub data ActOutcome : Type 0 where
+  refuse : (number place : ℕ) → ActOutcome
+  proceed : (draft : Draft) → ActOutcome
 
 -- 5, unless there is room for one more. It is tested at "the first token of the item beyond", and again where the item is put
 -- down, and at a mention of a block, where two for each instruction suffice: there it never fails (Refusals.FiveBeyond), and shows that no
 -- list outgrows its size.
-abbrev pub ifRoom : (count limit place : ℕ) → Outcome → Outcome
+abbrev pub ifRoom : (count limit place : ℕ) → ActOutcome → ActOutcome
 ifRoom k m p o = cond (ltb k m) o (refuse 5 p)
 
 -- 6, unless the name whose number this is among so many is not declared yet.
-abbrev pub ifNew : (number count place : ℕ) → Outcome → Outcome
+abbrev pub ifNew : (number count place : ℕ) → ActOutcome → ActOutcome
 ifNew i k p o = cond (ltb i k) (refuse 6 p) o
 
 -- 7, unless it is declared.
-abbrev pub ifDeclared : (number count place : ℕ) → Outcome → Outcome
+abbrev pub ifDeclared : (number count place : ℕ) → ActOutcome → ActOutcome
 ifDeclared i k p o = cond (ltb i k) o (refuse 7 p)
 
 -- A function: 5 at `function`, 6 at its name.
-unfoldable pub beginFunction : ℕ → Draft → Outcome
+unfoldable pub beginFunction : ℕ → Draft → ActOutcome
 beginFunction p d = ifRoom (length (d .functions)) maxFunctions p (proceed d)
 
-unfoldable pub markSsa : Draft → Outcome
+unfoldable pub markSsa : Draft → ActOutcome
 markSsa d =
     let f = d .function in
     proceed (withFunction d (functionOf (f .name) 1 (f .result) (f .params) (f .registers) (f .blocks) (f .entry)))
 
-unfoldable pub setResult : ℕ → Draft → Outcome
+unfoldable pub setResult : ℕ → Draft → ActOutcome
 setResult t d =
     let f = d .function in
     proceed (withFunction d (functionOf (f .name) (f .ssa) t (f .params) (f .registers) (f .blocks) (f .entry)))
 
-unfoldable pub nameFunction : List ℕ → ℕ → Draft → Outcome
+unfoldable pub nameFunction : List ℕ → ℕ → Draft → ActOutcome
 nameFunction n p d =
     let f = d .function in
     ifRoom (length (d .functions)) maxFunctions p
@@ -140,11 +140,11 @@ nameFunction n p d =
     (proceed (withFunction d (functionOf n (f .ssa) (f .result) (f .params) (f .registers) (f .blocks) (f .entry)))))
 
 -- A register: 5 at a parameter's type or at `register`, 6 at its name.
-unfoldable pub beginRegister : ℕ → Draft → Outcome
+unfoldable pub beginRegister : ℕ → Draft → ActOutcome
 beginRegister p d = ifRoom (length (d .function .registers)) maxRegisters p (proceed d)
 
 -- "A parameter is a register assigned at entry": k is 1 for a parameter and 0 for another register.
-unfoldable pub nameRegister : (k type : ℕ) → List ℕ → ℕ → Draft → Outcome
+unfoldable pub nameRegister : (k type : ℕ) → List ℕ → ℕ → Draft → ActOutcome
 nameRegister k t n p d =
     let f = d .function in
     let rs = f .registers ++ (record { type = t; name = n } ∷ []) in
@@ -153,35 +153,35 @@ nameRegister k t n p d =
     (proceed (withFunction d (functionOf (f .name) (f .ssa) (f .result) (f .params + k) rs (f .blocks) (f .entry)))))
 
 -- A block: 5 at `block`, 6 at its name or at `entry`.
-unfoldable pub beginBlock : ℕ → Draft → Outcome
+unfoldable pub beginBlock : ℕ → Draft → ActOutcome
 beginBlock p d = ifRoom (length (d .function .blocks)) maxBlocks p (proceed d)
 
-unfoldable pub nameBlock : List ℕ → ℕ → Draft → Outcome
+unfoldable pub nameBlock : List ℕ → ℕ → Draft → ActOutcome
 nameBlock n p d =
     ifRoom (length (d .function .blocks)) maxBlocks p
     (ifNew (blockNumber (d .function) n) (length (d .function .blocks)) p
     (proceed (withBlock d (record { name = n; rows = [] }))))
 
-unfoldable pub endBlock : ℕ → Draft → Outcome
+unfoldable pub endBlock : ℕ → Draft → ActOutcome
 endBlock p d =
     ifRoom (length (d .function .blocks)) maxBlocks p
     (proceed (draftOf (d .functions) (openFunction d) (d .mentions) noBlock (d .parts)))
 
 -- An instruction: 5 at its first token, 7 at a name that is no register's.
-unfoldable pub beginInstruction : ℕ → ℕ → Draft → Outcome
-beginInstruction op p d = ifRoom (rowCount d) maxRows p (proceed (withParts d (partsOf op 0 [] 0 [] [])))
+unfoldable pub beginInstruction : ℕ → ℕ → Draft → ActOutcome
+beginInstruction op p d = ifRoom (draftRows d) maxRows p (proceed (withParts d (partsOf op 0 [] 0 [] [])))
 
-unfoldable pub setTarget : List ℕ → ℕ → Draft → Outcome
+unfoldable pub setTarget : List ℕ → ℕ → Draft → ActOutcome
 setTarget n p d =
     let r = registerNumber (d .function) n in
-    ifRoom (rowCount d) maxRows p
+    ifRoom (draftRows d) maxRows p
     (ifDeclared r (length (d .function .registers)) p
     (proceed (withParts d (partsOf 0 r [] 0 [] []))))
 
-unfoldable pub setInstruction : ℕ → Draft → Outcome
+unfoldable pub setInstruction : ℕ → Draft → ActOutcome
 setInstruction op d = proceed (withParts d (partsOf op (d .parts .target) [] 0 [] []))
 
-unfoldable pub addSource : List ℕ → ℕ → Draft → Outcome
+unfoldable pub addSource : List ℕ → ℕ → Draft → ActOutcome
 addSource n p d =
     let r = registerNumber (d .function) n in
     let x = d .parts in
@@ -189,7 +189,7 @@ addSource n p d =
     (proceed (withParts d (partsOf (x .op) (x .target) (x .sources ++ (r ∷ [])) (x .number) (x .entries) (x .mentions))))
 
 -- A phi entry: 5 or 7 at its name.
-unfoldable pub addEntry : List ℕ → ℕ → Draft → Outcome
+unfoldable pub addEntry : List ℕ → ℕ → Draft → ActOutcome
 addEntry n p d =
     let r = registerNumber (d .function) n in
     let x = d .parts in
@@ -201,7 +201,7 @@ addEntry n p d =
 abbrev pub maxMentions : ℕ
 maxMentions = 2 * maxRows
 
-unfoldable pub addMention : List ℕ → ℕ → Draft → Outcome
+unfoldable pub addMention : List ℕ → ℕ → Draft → ActOutcome
 addMention n p d =
     let x = d .parts in
     let y = partsOf (x .op) (x .target) (x .sources) (x .number) (x .entries) (x .mentions ++ (length (d .mentions) ∷ [])) in
@@ -209,8 +209,8 @@ addMention n p d =
     (proceed (draftOf (d .functions) (d .function) (d .mentions ++ (record { name = n; place = p } ∷ [])) (d .block) y))
 
 -- A number with its sign lies in the range of type t: from 0 to 2^w - 1, or from -2^(w-1) to 2^(w-1) - 1. "`-0` is 0."
-unfoldable pub inRange : (type : ℕ) (negative : Bool) (magnitude : ℕ) → Bool
-inRange t s v =
+unfoldable pub numberInRange : (type : ℕ) (negative : Bool) (magnitude : ℕ) → Bool
+numberInRange t s v =
     cond (signed t)
     (cond s (leb v (2 ^ (width t - 1))) (ltb v (2 ^ (width t - 1))))
     (cond s (eqb v 0) (ltb v (2 ^ width t)))
@@ -220,11 +220,11 @@ unfoldable pub bitsOf : (type : ℕ) (negative : Bool) (magnitude : ℕ) → ℕ
 bitsOf t s v = cond s ((2 ^ width t - v) % 2 ^ width t) v
 
 -- 4: "number in its range", which is the load's.
-unfoldable pub setNumber : Bool → ℕ → ℕ → Draft → Outcome
+unfoldable pub setNumber : Bool → ℕ → ℕ → Draft → ActOutcome
 setNumber s v p d =
     let x = d .parts in
     let t = loadType (x .op) in
-    cond (inRange t s v)
+    cond (numberInRange t s v)
     (proceed (withParts d (partsOf (x .op) (x .target) (x .sources) (bitsOf t s v) (x .entries) (x .mentions))))
     (refuse 4 p)
 
@@ -244,10 +244,10 @@ rowAs Form.unknown x = Row.unknown (x .op)
 unfoldable pub rowOf : Parts → Row
 rowOf x = rowAs (formOf (x .op)) x
 
-unfoldable pub endInstruction : ℕ → Draft → Outcome
+unfoldable pub endInstruction : ℕ → Draft → ActOutcome
 endInstruction p d =
     let b : Block = record { name = d .block .name; rows = d .block .rows ++ (rowOf (d .parts) ∷ []) } in
-    ifRoom (rowCount d) maxRows p
+    ifRoom (draftRows d) maxRows p
     (proceed (draftOf (d .functions) (d .function) (d .mentions) b noParts))
 
 -- A row with the block's number in place of each mention's.
@@ -277,16 +277,16 @@ unfoldable pub undeclared : Func → List Mention → List Mention
 undeclared f ms = keep (λ m. eqb (blockNumber f (m .name)) (length (f .blocks))) ms
 
 -- 7, placed at the first of them.
-abbrev pub ifResolved : List Mention → Outcome → Outcome
+abbrev pub ifResolved : List Mention → ActOutcome → ActOutcome
 ifResolved [] o = o
 ifResolved (m ∷ ms) o = refuse 7 (m .place)
 
 -- 8, unless the entry block is declared.
-abbrev pub ifEntry : Func → ℕ → Outcome → Outcome
+abbrev pub ifEntry : Func → ℕ → ActOutcome → ActOutcome
 ifEntry f p o = cond (ltb (blockNumber f []) (length (f .blocks))) o (refuse 8 p)
 
 -- "Block names are resolved at the function's closing brace: 8, then 7 with the first undeclared mention."
-unfoldable pub endFunction : ℕ → Draft → Outcome
+unfoldable pub endFunction : ℕ → Draft → ActOutcome
 endFunction p d =
     let f = d .function in
     ifEntry f p
@@ -295,43 +295,43 @@ endFunction p d =
     (proceed (fresh (d .functions ++ (resolve f (d .mentions) ∷ []))))))
 
 -- An act on the token at place p. 3 for a token that is not allowed here.
-unfoldable pub perform : Act → ℕ → Draft → Outcome
-perform Act.wrong p d = refuse 3 p
-perform Act.pass p d = proceed d
-perform Act.beginFunction p d = beginFunction p d
-perform Act.markSsa p d = markSsa d
-perform Act.beginRegister p d = beginRegister p d
-perform Act.beginBlock p d = beginBlock p d
-perform (Act.setResult t) p d = setResult t d
-perform (Act.nameFunction n) p d = nameFunction n p d
-perform (Act.nameBlock n) p d = nameBlock n p d
-perform (Act.nameParameter t n) p d = nameRegister 1 t n p d
-perform (Act.nameRegister t n) p d = nameRegister 0 t n p d
-perform (Act.beginInstruction op) p d = beginInstruction op p d
-perform (Act.setInstruction op) p d = setInstruction op d
-perform (Act.setTarget n) p d = setTarget n p d
-perform (Act.addSource n) p d = addSource n p d
-perform (Act.addEntry n) p d = addEntry n p d
-perform (Act.addMention n) p d = addMention n p d
-perform (Act.setNumber s v) p d = setNumber s v p d
-perform Act.endInstruction p d = endInstruction p d
-perform Act.endBlock p d = endBlock p d
-perform Act.endFunction p d = endFunction p d
+unfoldable pub performAct : Act → ℕ → Draft → ActOutcome
+performAct Act.wrong p d = refuse 3 p
+performAct Act.pass p d = proceed d
+performAct Act.beginFunction p d = beginFunction p d
+performAct Act.markSsa p d = markSsa d
+performAct Act.beginRegister p d = beginRegister p d
+performAct Act.beginBlock p d = beginBlock p d
+performAct (Act.setResult t) p d = setResult t d
+performAct (Act.nameFunction n) p d = nameFunction n p d
+performAct (Act.nameBlock n) p d = nameBlock n p d
+performAct (Act.nameParameter t n) p d = nameRegister 1 t n p d
+performAct (Act.nameRegister t n) p d = nameRegister 0 t n p d
+performAct (Act.beginInstruction op) p d = beginInstruction op p d
+performAct (Act.setInstruction op) p d = setInstruction op d
+performAct (Act.setTarget n) p d = setTarget n p d
+performAct (Act.addSource n) p d = addSource n p d
+performAct (Act.addEntry n) p d = addEntry n p d
+performAct (Act.addMention n) p d = addMention n p d
+performAct (Act.setNumber s v) p d = setNumber s v p d
+performAct Act.endInstruction p d = endInstruction p d
+performAct Act.endBlock p d = endBlock p d
+performAct Act.endFunction p d = endFunction p d
 
 -- The tokens so far: refused, or a stage and a draft.
 pub data Parse : Type 0 where
   refused : (number place : ℕ) → Parse
   reading : (stage : Stage) (draft : Draft) → Parse
 
-abbrev pub onward : Stage → Outcome → Parse
-onward s (refuse n p) = Parse.refused n p
-onward s (proceed d) = Parse.reading s d
+abbrev pub afterAct : Stage → ActOutcome → Parse
+afterAct s (refuse n p) = Parse.refused n p
+afterAct s (proceed d) = Parse.reading s d
 
 -- One more token, or a place with none: "2 | no token here, or name too long".
-unfoldable pub take : Parse → Found → Parse
-take (Parse.refused n p) x = Parse.refused n p
-take (Parse.reading s d) (Found.token p t) = onward (gram s t .stage) (perform (gram s t .act) p d)
-take (Parse.reading s d) (Found.stray p) = Parse.refused 2 p
+unfoldable pub takeToken : Parse → Found → Parse
+takeToken (Parse.refused n p) x = Parse.refused n p
+takeToken (Parse.reading s d) (Found.token p t) = afterAct (gram s t .stage) (performAct (gram s t .act) p d)
+takeToken (Parse.reading s d) (Found.stray p) = Parse.refused 2 p
 
 abbrev pub parse₀ : Parse
 parse₀ = Parse.reading Stage.top (fresh [])
@@ -348,7 +348,7 @@ reader₀ = record { lexer = lexer₀; parse = parse₀ }
 unfoldable pub readByte : Reader → ℕ → Reader
 readByte r b =
     let x = lexStep (r .lexer) b in
-    record { lexer = x .lexer; parse = foldl take (r .parse) (x .found) }
+    record { lexer = x .lexer; parse = foldl takeToken (r .parse) (x .found) }
 
 -- A text's meaning.
 pub data Reading : Type 0 where
@@ -361,7 +361,7 @@ finish (Parse.refused n p) = Reading.refused n p
 finish (Parse.reading s d) = Reading.program (d .functions)
 
 unfoldable pub readEnd : Reader → Reading
-readEnd r = finish (foldl take (r .parse) (lexEnd (r .lexer)))
+readEnd r = finish (foldl takeToken (r .parse) (lexEnd (r .lexer)))
 
 -- "1 | text too long | 0", and else what the bytes give, one after the other.
 unfoldable pub read : List ℕ → Reading

@@ -9,7 +9,7 @@ use lib.ListN.{length}
 use Rattle.language.specs.Programs.{maxText, maxFunctions, maxRegisters, maxBlocks, maxRows, maxEntries}
 use Rattle.language.specs.Tokens.{Token, Found, tokensOf}
 use Rattle.language.specs.Grammar.{Stage, Act, gram}
-use Rattle.language.specs.Reading.{Draft, Parse, Reading, rowCount, phiEntries, take, parse₀, read}
+use Rattle.language.specs.Reading.{Draft, Parse, Reading, draftRows, phiEntries, takeToken, parse₀, read}
 
 -- The reading of a text comes to the token t at p: the tokens before it are read, to a stage and a draft.
 pub record Reaches (text : List ℕ) (p : ℕ) (s : Stage) (d : Draft) (t : Token) : Type 0 where
@@ -17,7 +17,7 @@ pub record Reaches (text : List ℕ) (p : ℕ) (s : Stage) (d : Draft) (t : Toke
   pub before : List Found
   pub after : List Found
   pub found : tokensOf text ≡ before ++ (Found.token p t ∷ after)
-  pub stands : foldl take parse₀ before ≡ Parse.reading s d
+  pub stands : foldl takeToken parse₀ before ≡ Parse.reading s d
 
 -- "the first token of the item beyond": what is done about the token begins an item (Grammar says at which tokens: aFunction, aParameter,
 -- aRegisterOrBlock, aBlock, anInstruction and the stage `entry`), and there are as many of that item as its size allows.
@@ -27,8 +27,8 @@ pub data Beyond (d : Draft) : Act → Type 0 where
   register : length (d .function .registers) ≡ maxRegisters → Beyond d Act.beginRegister
   block : length (d .function .blocks) ≡ maxBlocks → Beyond d Act.beginBlock
   -- at an instruction's word, or at its target
-  instruction : (op : ℕ) → rowCount d ≡ maxRows → Beyond d (Act.beginInstruction op)
-  target : (n : List ℕ) → rowCount d ≡ maxRows → Beyond d (Act.setTarget n)
+  instruction : (op : ℕ) → draftRows d ≡ maxRows → Beyond d (Act.beginInstruction op)
+  target : (n : List ℕ) → draftRows d ≡ maxRows → Beyond d (Act.setTarget n)
   entry : (n : List ℕ) → phiEntries d ≡ maxEntries → Beyond d (Act.addEntry n)
 
 -- "5 | a size above exceeded | byte"; "The place of 5 is the first token of the item beyond."

@@ -5,20 +5,115 @@
 -- Assumes nothing.
 use mathlib.Core.Bool.{Bool, true, cond, _&&_}
 use mathlib.Core.List.{List, [], _∷_, _++_, map}
-use Prim.Native.Nat.{ℕ, _+_, _*_, _/_, _%_}
+use Prim.Native.Nat.{ℕ, _+_, _*_, _/_, _%_, _≤_}
 use lib.Dec.{eqb}
 use lib.ListN.{length, getD, take, drop}
 use Rattle.laws.specs.Lists.{all, below, from, gather, sum}
 use Rattle.laws.specs.Sections.{pad, gatherFrom}
-use Rattle.language.specs.Instructions.{Form, formOf}
-use Rattle.language.specs.Programs.{Row, Register, Block, Func, Program, entriesOf, rowsOf}
+use Rattle.language.specs.Instructions.{Form, formOf, nopOp, phiOp, jumpOp, jumpCondOp, returnOp, leaveOp}
+use Rattle.language.specs.Programs.{Row, Register, Block, Func, Program, entriesOf, rowsOf, maxFunctions, maxRegisters, maxBlocks, maxRows, maxEntries, maxName}
 
--- "A lent table has the one length that docs/ states": the function count, and 16 functions of 34,697 cells.
+-- ---- The layout: every offset and length from the parts. No other page says these numbers.
+
+-- A name: its length, and 64 cells for its bytes.
+abbrev pub nameLength : ℕ
+nameLength = 1 + maxName
+
+-- A register: its type and its name.
+abbrev pub registerLength : ℕ
+registerLength = 1 + nameLength
+
+-- A block: its first row and the count of its rows, two cells each, and its name.
+abbrev pub blockLength : ℕ
+blockLength = 4 + nameLength
+
+-- A row: its instruction, target, two sources and eight operand cells.
+abbrev pub rowLength : ℕ
+rowLength = 12
+
+-- A function: its head, which is ssa, result, params and the count of registers in two cells each, the count of blocks, entry and
+-- the name; then four sections, each of records of one length.
+abbrev pub resultOffset : ℕ
+resultOffset = 1
+
+abbrev pub paramsOffset : ℕ
+paramsOffset = resultOffset + 1
+
+abbrev pub registerCountOffset : ℕ
+registerCountOffset = paramsOffset + 2
+
+abbrev pub blockCountOffset : ℕ
+blockCountOffset = registerCountOffset + 2
+
+abbrev pub entryOffset : ℕ
+entryOffset = blockCountOffset + 1
+
+abbrev pub nameOffset : ℕ
+nameOffset = entryOffset + 1
+
+abbrev pub registersOffset : ℕ
+registersOffset = nameOffset + nameLength
+
+abbrev pub registersLength : ℕ
+registersLength = maxRegisters * registerLength
+
+abbrev pub blocksOffset : ℕ
+blocksOffset = registersOffset + registersLength
+
+abbrev pub blocksLength : ℕ
+blocksLength = maxBlocks * blockLength
+
+abbrev pub rowsOffset : ℕ
+rowsOffset = blocksOffset + blocksLength
+
+abbrev pub rowsLength : ℕ
+rowsLength = maxRows * rowLength
+
+abbrev pub entriesOffset : ℕ
+entriesOffset = rowsOffset + rowsLength
+
 abbrev pub functionLength : ℕ
-functionLength = 34697
+functionLength = entriesOffset + maxEntries
+
+-- The columns of a section: where the field of its first record stands.
+abbrev pub registerNamesOffset : ℕ
+registerNamesOffset = registersOffset + 1
+
+abbrev pub blockRowsOffset : ℕ
+blockRowsOffset = blocksOffset + 2
+
+abbrev pub blockNamesOffset : ℕ
+blockNamesOffset = blocksOffset + 4
+
+abbrev pub targetsOffset : ℕ
+targetsOffset = rowsOffset + 1
+
+abbrev pub leftsOffset : ℕ
+leftsOffset = rowsOffset + 2
+
+abbrev pub rightsOffset : ℕ
+rightsOffset = rowsOffset + 3
+
+abbrev pub operandsOffset : ℕ
+operandsOffset = rowsOffset + 4
+
+-- "A lent table has the one length that docs/ states": the function count, and room for 16 functions.
+abbrev pub functionsLength : ℕ
+functionsLength = maxFunctions * functionLength
 
 abbrev pub tableLength : ℕ
-tableLength = 555153
+tableLength = 1 + functionsLength
+
+-- Where function i begins, and where its name stands.
+abbrev pub functionAt : ℕ → ℕ
+functionAt i = 1 + functionLength * i
+
+abbrev pub functionNamesOffset : ℕ
+functionNamesOffset = 1 + nameOffset
+
+-- The function at a lies within the table.
+abbrev pub InTable : List ℕ → ℕ → Type 0
+InTable t a = a + functionLength ≤ length t
 
 -- ---- Cells to numbers: the number of two, four or eight bytes from cell k on, low byte first, and a name.
 
@@ -40,79 +135,76 @@ nameAt t k = take (getD t k 0) (drop (k + 1) t)
 abbrev pub functionCount : List ℕ → ℕ
 functionCount t = getD t 0 0
 
-abbrev pub functionAt : ℕ → ℕ
-functionAt i = 1 + functionLength * i
-
 abbrev pub functionSsa : List ℕ → ℕ → ℕ
 functionSsa t a = getD t a 0
 
 abbrev pub functionResult : List ℕ → ℕ → ℕ
-functionResult t a = getD t (a + 1) 0
+functionResult t a = getD t (a + resultOffset) 0
 
 abbrev pub functionParams : List ℕ → ℕ → ℕ
-functionParams t a = two t (a + 2)
+functionParams t a = two t (a + paramsOffset)
 
 abbrev pub registerCount : List ℕ → ℕ → ℕ
-registerCount t a = two t (a + 4)
+registerCount t a = two t (a + registerCountOffset)
 
 abbrev pub blockCount : List ℕ → ℕ → ℕ
-blockCount t a = getD t (a + 6) 0
+blockCount t a = getD t (a + blockCountOffset) 0
 
 abbrev pub functionEntry : List ℕ → ℕ → ℕ
-functionEntry t a = getD t (a + 7) 0
+functionEntry t a = getD t (a + entryOffset) 0
 
 abbrev pub functionName : List ℕ → ℕ → List ℕ
-functionName t a = nameAt t (a + 8)
+functionName t a = nameAt t (a + nameOffset)
 
 abbrev pub registerType : List ℕ → ℕ → ℕ → ℕ
-registerType t a r = getD t (a + 73 + 66 * r) 0
+registerType t a r = getD t (a + registersOffset + registerLength * r) 0
 
 abbrev pub registerName : List ℕ → ℕ → ℕ → List ℕ
-registerName t a r = nameAt t (a + 74 + 66 * r)
+registerName t a r = nameAt t (a + registerNamesOffset + registerLength * r)
 
 abbrev pub blockFirst : List ℕ → ℕ → ℕ → ℕ
-blockFirst t a b = two t (a + 16969 + 69 * b)
+blockFirst t a b = two t (a + blocksOffset + blockLength * b)
 
 abbrev pub blockRows : List ℕ → ℕ → ℕ → ℕ
-blockRows t a b = two t (a + 16971 + 69 * b)
+blockRows t a b = two t (a + blockRowsOffset + blockLength * b)
 
 abbrev pub blockName : List ℕ → ℕ → ℕ → List ℕ
-blockName t a b = nameAt t (a + 16973 + 69 * b)
+blockName t a b = nameAt t (a + blockNamesOffset + blockLength * b)
 
 -- A row: the instruction's number, its target, its first and second source, and eight operand bytes,
 abbrev pub rowOp : List ℕ → ℕ → ℕ → ℕ
-rowOp t a r = getD t (a + 21385 + 12 * r) 0
+rowOp t a r = getD t (a + rowsOffset + rowLength * r) 0
 
 abbrev pub rowTarget : List ℕ → ℕ → ℕ → ℕ
-rowTarget t a r = getD t (a + 21386 + 12 * r) 0
+rowTarget t a r = getD t (a + targetsOffset + rowLength * r) 0
 
 abbrev pub rowLeft : List ℕ → ℕ → ℕ → ℕ
-rowLeft t a r = getD t (a + 21387 + 12 * r) 0
+rowLeft t a r = getD t (a + leftsOffset + rowLength * r) 0
 
 abbrev pub rowRight : List ℕ → ℕ → ℕ → ℕ
-rowRight t a r = getD t (a + 21388 + 12 * r) 0
+rowRight t a r = getD t (a + rightsOffset + rowLength * r) 0
 
 -- which are a load's number,
 abbrev pub loadNumber : List ℕ → ℕ → ℕ → ℕ
-loadNumber t a r = eight t (a + 21389 + 12 * r)
+loadNumber t a r = eight t (a + operandsOffset + rowLength * r)
 
 -- the one block of a jump or the two of a jump.cond,
 abbrev pub jumpFirst : List ℕ → ℕ → ℕ → ℕ
-jumpFirst t a r = getD t (a + 21389 + 12 * r) 0
+jumpFirst t a r = getD t (a + operandsOffset + rowLength * r) 0
 
 abbrev pub jumpSecond : List ℕ → ℕ → ℕ → ℕ
-jumpSecond t a r = getD t (a + 21390 + 12 * r) 0
+jumpSecond t a r = getD t (a + (operandsOffset + 1) + rowLength * r) 0
 
 -- or where a phi's entries begin, and their count.
 abbrev pub phiFirst : List ℕ → ℕ → ℕ → ℕ
-phiFirst t a r = two t (a + 21389 + 12 * r)
+phiFirst t a r = two t (a + operandsOffset + rowLength * r)
 
 abbrev pub phiCount : List ℕ → ℕ → ℕ → ℕ
-phiCount t a r = two t (a + 21391 + 12 * r)
+phiCount t a r = two t (a + (operandsOffset + 2) + rowLength * r)
 
 -- Phi entry k of the function, a register.
 abbrev pub phiEntry : List ℕ → ℕ → ℕ → ℕ
-phiEntry t a k = getD t (a + 33673 + k) 0
+phiEntry t a k = getD t (a + entriesOffset + k) 0
 
 -- ---- Cells to program.
 
@@ -147,7 +239,7 @@ rowCount t a = rowsBefore t a (blockCount t a)
 
 -- The phi entries of row r, and those of the rows before it.
 abbrev pub rowEntries : List ℕ → ℕ → ℕ → ℕ
-rowEntries t a r = cond (eqb (rowOp t a r) 31) (phiCount t a r) 0
+rowEntries t a r = cond (eqb (rowOp t a r) phiOp) (phiCount t a r) 0
 
 abbrev pub entriesBefore : List ℕ → ℕ → ℕ → ℕ
 entriesBefore t a r = sum (map (rowEntries t a) (below r))
@@ -157,7 +249,7 @@ unfoldable pub blocksPlaced : List ℕ → ℕ → Bool
 blocksPlaced t a = all (λ b. eqb (blockFirst t a b) (rowsBefore t a b)) (below (blockCount t a))
 
 unfoldable pub phisPlaced : List ℕ → ℕ → Bool
-phisPlaced t a = all (λ r. cond (eqb (rowOp t a r) 31) (eqb (phiFirst t a r) (entriesBefore t a r)) true) (below (rowCount t a))
+phisPlaced t a = all (λ r. cond (eqb (rowOp t a r) phiOp) (eqb (phiFirst t a r) (entriesBefore t a r)) true) (below (rowCount t a))
 
 unfoldable pub decodeFunction : List ℕ → ℕ → Func
 decodeFunction t a =
@@ -186,53 +278,53 @@ fourBytes n = twoBytes n ++ twoBytes (n / 65536)
 abbrev pub eightBytes : ℕ → List ℕ
 eightBytes n = fourBytes n ++ fourBytes (n / 4294967296)
 
--- A name's length and its bytes, 65 cells.
+-- A name's length and its bytes.
 unfoldable pub nameCells : List ℕ → List ℕ
-nameCells name = length name ∷ pad 64 name
+nameCells name = length name ∷ pad maxName name
 
 -- ---- Program to cells. Positions come from the counts.
 
--- 66 cells of a register.
+-- A register.
 unfoldable pub registerCells : Register → List ℕ
 registerCells r = r .type ∷ nameCells (r .name)
 
--- 69 cells of a block whose first row is n.
+-- A block whose first row is n.
 unfoldable pub blockCells : ℕ → Block → List ℕ
 blockCells n b = twoBytes n ++ (twoBytes (length (b .rows)) ++ nameCells (b .name))
 
--- 12 cells of a row; the entries of a phi begin at n.
+-- A row; the entries of a phi begin at n.
 unfoldable pub rowCells : ℕ → Row → List ℕ
-rowCells n Row.nop = pad 12 (0 ∷ [])
+rowCells n Row.nop = pad rowLength (nopOp ∷ [])
 rowCells n (Row.load op t x) = op ∷ t ∷ 0 ∷ 0 ∷ eightBytes x
-rowCells n (Row.unary op t s) = pad 12 (op ∷ t ∷ s ∷ [])
-rowCells n (Row.binary op t l r) = pad 12 (op ∷ t ∷ l ∷ r ∷ [])
-rowCells n (Row.phi t es) = pad 12 (31 ∷ t ∷ 0 ∷ 0 ∷ (twoBytes n ++ twoBytes (length es)))
-rowCells n (Row.jump b) = pad 12 (32 ∷ 0 ∷ 0 ∷ 0 ∷ b ∷ [])
-rowCells n (Row.branch s x y) = pad 12 (33 ∷ 0 ∷ s ∷ 0 ∷ x ∷ y ∷ [])
-rowCells n (Row.return s) = pad 12 (34 ∷ 0 ∷ s ∷ [])
-rowCells n Row.leave = pad 12 (35 ∷ [])
-rowCells n (Row.unknown op) = pad 12 (op ∷ [])
+rowCells n (Row.unary op t s) = pad rowLength (op ∷ t ∷ s ∷ [])
+rowCells n (Row.binary op t l r) = pad rowLength (op ∷ t ∷ l ∷ r ∷ [])
+rowCells n (Row.phi t es) = pad rowLength (phiOp ∷ t ∷ 0 ∷ 0 ∷ (twoBytes n ++ twoBytes (length es)))
+rowCells n (Row.jump b) = pad rowLength (jumpOp ∷ 0 ∷ 0 ∷ 0 ∷ b ∷ [])
+rowCells n (Row.branch s x y) = pad rowLength (jumpCondOp ∷ 0 ∷ s ∷ 0 ∷ x ∷ y ∷ [])
+rowCells n (Row.return s) = pad rowLength (returnOp ∷ 0 ∷ s ∷ [])
+rowCells n Row.leave = pad rowLength (leaveOp ∷ [])
+rowCells n (Row.unknown op) = pad rowLength (op ∷ [])
 
--- 73 cells at a function's beginning.
+-- The head, at a function's beginning.
 unfoldable pub headCells : Func → List ℕ
 headCells f =
     f .ssa ∷ f .result ∷ (twoBytes (f .params) ++ (twoBytes (length (f .registers)) ++ (length (f .blocks) ∷ f .entry ∷ nameCells (f .name))))
 
 -- The sections of a function: head, registers, blocks, rows, phi entries.
 unfoldable pub registerSection : Func → List ℕ
-registerSection f = pad 16896 (gather registerCells (f .registers))
+registerSection f = pad registersLength (gather registerCells (f .registers))
 
 unfoldable pub blockSection : Func → List ℕ
-blockSection f = pad 4416 (gatherFrom (λ b. length (b .rows)) blockCells 0 (f .blocks))
+blockSection f = pad blocksLength (gatherFrom (λ b. length (b .rows)) blockCells 0 (f .blocks))
 
 unfoldable pub rowSection : Func → List ℕ
-rowSection f = pad 12288 (gatherFrom (λ r. length (entriesOf r)) rowCells 0 (rowsOf f))
+rowSection f = pad rowsLength (gatherFrom (λ r. length (entriesOf r)) rowCells 0 (rowsOf f))
 
 unfoldable pub entrySection : Func → List ℕ
-entrySection f = pad 1024 (gather entriesOf (rowsOf f))
+entrySection f = pad maxEntries (gather entriesOf (rowsOf f))
 
 unfoldable pub functionCells : Func → List ℕ
 functionCells f = headCells f ++ (registerSection f ++ (blockSection f ++ (rowSection f ++ entrySection f)))
 
 unfoldable pub cells : Program → List ℕ
-cells p = length p ∷ pad 555152 (gather functionCells p)
+cells p = length p ∷ pad functionsLength (gather functionCells p)

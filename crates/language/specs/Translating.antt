@@ -1,11 +1,12 @@
 -- The translation out of ssa (document 01, "Numbers we answer", its last paragraph).
 -- Assumes nothing.
-use mathlib.Core.Bool.{Bool, true, false, cond, not, _&&_}
+use mathlib.Core.Bool.{Bool, true, cond, not, _&&_}
 use mathlib.Core.List.{List, [], _∷_, _++_, map}
-use Prim.Native.Nat.{ℕ, zero, suc, _+_, _-_, _*_}
+use Prim.Native.Nat.{ℕ, _+_, _-_, _*_}
 use lib.Dec.{eqb, leb}
 use lib.ListN.{length, take}
-use Rattle.laws.specs.Lists.{any, keep, position, gather, together, from, below, sum}
+use Rattle.laws.specs.Lists.{keep, position, gather, together, from, below, sum}
+use Rattle.language.specs.Instructions.{copyOp}
 use Rattle.language.specs.Programs.{Row, Register, Block, Func, maxRegisters, maxBlocks, maxRows, blockAt, rowsAt, typeAt, rowsOf, isPhi, hasPhi}
 use Rattle.language.specs.Checking.{predecessors}
 use Rattle.language.specs.Running.{phisOf, phiTarget, entryAt, start, startRegisters, phiSteps, edgeSteps}
@@ -52,7 +53,7 @@ retarget f x (Row.unknown op) = Row.unknown op
 
 -- `copy` of register s to register t.
 abbrev pub copyRow : ℕ → ℕ → Row
-copyRow t s = Row.unary 30 t s
+copyRow t s = Row.unary copyOp t s
 
 -- "it copies entries to new registers, then these to targets, each by row, and jumps to the phi block": the edge block's rows for
 -- the k-th predecessor of block y, n being the first new register.
@@ -92,8 +93,8 @@ translation f =
 
 -- "Translated size, for R registers, B blocks, P phi, E pairs of predecessor and phi block: R + P registers, B + E blocks, and the
 -- old instructions less P, plus 2p + 1 for each pair, p being the phi of that block."
-unfoldable pub phiCount : Func → ℕ
-phiCount f = length (phisOf (rowsOf f))
+unfoldable pub phiTotal : Func → ℕ
+phiTotal f = length (phisOf (rowsOf f))
 
 unfoldable pub pairCount : Func → ℕ
 pairCount f = sum (map (λ y. length (predecessors f y)) (phiBlocks f))
@@ -102,13 +103,13 @@ unfoldable pub sizeOfEdges : Func → ℕ
 sizeOfEdges f = sum (map (λ y. length (predecessors f y) * (2 * length (phisOf (rowsAt f y)) + 1)) (phiBlocks f))
 
 unfoldable pub translatedRegisters : Func → ℕ
-translatedRegisters f = length (f .registers) + phiCount f
+translatedRegisters f = length (f .registers) + phiTotal f
 
 unfoldable pub translatedBlocks : Func → ℕ
 translatedBlocks f = length (f .blocks) + pairCount f
 
 unfoldable pub translatedRows : Func → ℕ
-translatedRows f = length (rowsOf f) - phiCount f + sizeOfEdges f
+translatedRows f = length (rowsOf f) - phiTotal f + sizeOfEdges f
 
 -- "Answer 31 exactly if one is over its limit."
 unfoldable pub translationFits : Func → Bool

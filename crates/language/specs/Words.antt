@@ -2,11 +2,12 @@
 -- instruction is a word and never a name." Assumes nothing.
 use mathlib.Core.Bool.{Bool, _&&_}
 use mathlib.Core.List.{List, [], _∷_, map}
-use Prim.Native.Nat.{ℕ, _-_}
+use Prim.Native.Nat.{ℕ, suc, _+_, _-_}
 use Prim.Native.String.{String}
 use lib.Dec.{ltb, leb}
 use Rattle.laws.specs.Lists.{position, same}
 use Rattle.language.specs.Bytes.{bytesOf}
+use Rattle.language.specs.Instructions.{typeCount, instructionCount}
 
 -- Six words of the grammar, then the types and then the instructions in the order of their numbers.
 abbrev pub spellings : List String
@@ -25,13 +26,6 @@ spellings =
 
 unfoldable pub words : List (List ℕ)
 words = map bytesOf spellings
-
-abbrev pub wordCount : ℕ
-wordCount = 52
-
--- The number of a word, or the count of the words where these bytes spell none.
-unfoldable pub wordOf : List ℕ → ℕ
-wordOf n = position (λ w. same w n) words
 
 abbrev pub functionWord : ℕ
 functionWord = 0
@@ -52,10 +46,17 @@ abbrev pub entryWord : ℕ
 entryWord = 5
 
 abbrev pub firstType : ℕ
-firstType = 6
+firstType = suc entryWord
 
 abbrev pub firstInstruction : ℕ
-firstInstruction = 16
+firstInstruction = firstType + typeCount
+
+abbrev pub wordCount : ℕ
+wordCount = firstInstruction + instructionCount
+
+-- The number of a word, or the count of the words where these bytes spell none.
+unfoldable pub wordOf : List ℕ → ℕ
+wordOf n = position (λ w. same w n) words
 
 -- The word is a type.
 abbrev pub isType : ℕ → Bool

@@ -2,10 +2,10 @@
 -- Assumes nothing.
 use mathlib.Core.Path.{_≡_, refl, sym, ap, ap₂, _∙_, subst}
 use mathlib.Core.Logic.{_⊎_, inl, inr}
-use mathlib.Core.Bool.{Bool, true, false, cond, _&&_, _||_, or-assoc}
-use mathlib.Core.List.{List, [], _∷_, _++_}
+use mathlib.Core.Bool.{Bool, true, false, cond, _&&_, _||_}
+use mathlib.Core.List.{List, [], _∷_}
 use Prim.Native.Nat.{ℕ, zero, suc, _+_, _≤_, _<_, suc-le-suc}
-use native.Mathlib.Nat.{not-suc-le-zero, le-of-suc-le-suc, zero-lt-suc, add-zero, add-suc, suc-add}
+use native.Mathlib.Nat.{zero-lt-suc, add-zero, add-suc, suc-add}
 use native.Mathlib.Omega.{arith}
 use lib.Dec.{T, eqb, eqb→eq}
 use lib.Ieee.Fits.{and-l, and-r}
@@ -14,19 +14,17 @@ use lib.ListN.{length, getD}
 use Rattle.laws.specs.Lists.{any, all, keep, gather, together, from, below, position, member}
 use Rattle.laws.proofs.Every.{Every, none, more, every-at, every-member, every-below, none-every}
 use Rattle.laws.proofs.Indexing.{any-at, length-below, getD-below}
+use Rattle.laws.proofs.Joining.{any-both}
 use Rattle.laws.proofs.Positions.{position-below, position-of}
-
--- each passes exactly if the other does
-pub same-test : (a b : Bool) → (T a → T b) → (T b → T a) → a ≡ b
-same-test true true f g = refl
-same-test true false f g = absurd (f tt)
-same-test false true f g = absurd (g tt)
-same-test false false f g = refl
 
 module _ {A : Type 0} where
   pub any-every : {p q : A → Bool} {xs : List A} → Every (λ x. p x ≡ q x) xs → any p xs ≡ any q xs
   any-every none = refl
   any-every (more e h) = ap₂ (λ a b. a || b) e (any-every h)
+
+  pub all-agree : {p q : A → Bool} {xs : List A} → Every (λ x. p x ≡ q x) xs → all p xs ≡ all q xs
+  all-agree none = refl
+  all-agree (more e h) = ap₂ (λ a b. a && b) e (all-agree h)
 
   pub keep-every : {p q : A → Bool} {xs : List A} → Every (λ x. p x ≡ q x) xs → keep p xs ≡ keep q xs
   keep-every none = refl
@@ -36,13 +34,9 @@ module _ {A : Type 0} where
   all-same p q h [] = refl
   all-same p q h (x ∷ xs) = ap₂ (λ a b. a && b) (h x) (all-same p q h xs)
 
-  any-append : (p : A → Bool) (xs ys : List A) → any p (xs ++ ys) ≡ (any p xs || any p ys)
-  any-append p [] ys = refl
-  any-append p (x ∷ xs) ys = ap (λ b. p x || b) (any-append p xs ys) ∙ sym (or-assoc (p x) (any p xs) (any p ys))
-
   pub any-gather : {B : Type 0} (p : A → Bool) (g : B → List A) (xs : List B) → any p (gather g xs) ≡ any (λ x. any p (g x)) xs
   any-gather p g [] = refl
-  any-gather p g (x ∷ xs) = any-append p (g x) (gather g xs) ∙ ap (λ b. any p (g x) || b) (any-gather p g xs)
+  any-gather p g (x ∷ xs) = any-both p (g x) (gather g xs) ∙ ap (λ b. any p (g x) || b) (any-gather p g xs)
 
   -- the first element that passes, by its place
   pub position-is :
@@ -50,18 +44,6 @@ module _ {A : Type 0} where
       → (i < length xs → p (getD xs i d) ≡ true) → i ≡ position p xs
   position-is p d xs i l before hit =
       position-below (λ k. p (getD xs k d)) (length xs) i l before hit ∙ position-of p (λ k. p (getD xs k d)) d xs (λ k h. refl)
-
-  -- no element before it passes
-  pub position-before : (p : A → Bool) (d : A) (xs : List A) (k : ℕ) → k < position p xs → p (getD xs k d) ≡ false
-  position-before p d [] k h = absurd (not-suc-le-zero h)
-  position-before p d (x ∷ xs) k h = by (p x) refl k h (position-before p d xs)
-    where
-      by :
-          (b : Bool) → p x ≡ b → (k : ℕ) → k < cond b zero (suc (position p xs)) → ((k : ℕ) → k < position p xs → p (getD xs k d) ≡ false)
-          → p (getD (x ∷ xs) k d) ≡ false
-      by true e k h later = absurd (not-suc-le-zero h)
-      by false e zero h later = e
-      by false e (suc k) h later = later k (le-of-suc-le-suc h)
 
 -- no pairs with the elements of an empty list
 pub together-none : {A B : Type 0} (H : A → B → Bool) (xs : List A) → any (λ b. b) (together H xs []) ≡ false

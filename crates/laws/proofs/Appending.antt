@@ -1,15 +1,15 @@
 -- One more element: what `gather`, `sum`, `all` and `getD` say of a list that has grown at its end, and what they say of a list mapped.
 -- Assumes nothing.
-use mathlib.Core.Bool.{Bool, true}
+use mathlib.Core.Bool.{Bool, true, _&&_}
 use mathlib.Core.Path.{_≡_, refl, sym, ap, _∙_}
 use mathlib.Core.List.{List, [], _∷_, _++_, map, map-append, append-assoc}
-use Prim.Native.Nat.{ℕ, zero, suc, _+_, _<_, suc-le-suc}
-use native.Mathlib.Nat.{zero-add, add-zero, add-assoc, not-suc-le-zero, le-of-suc-le-suc, zero-lt-suc, add-suc, suc-add}
+use Prim.Native.Nat.{ℕ, zero, suc, _+_}
+use native.Mathlib.Nat.{zero-add, add-zero, add-assoc}
 use native.Mathlib.Omega.{arith}
 use lib.Dec.{T}
-use lib.ListN.{length, getD}
+use lib.ListN.{getD}
 use mir.Facts.{and-yes, yes-and}
-use Rattle.laws.specs.Lists.{all, gather, sum, from, position}
+use Rattle.laws.specs.Lists.{all, gather, sum}
 use Rattle.laws.specs.Sections.{gatherFrom}
 
 module _ {A B : Type 0} where
@@ -30,9 +30,9 @@ module _ {A B : Type 0} where
   gatherFrom-map size f h g s e n (x ∷ xs) = rw (e n x, s x) (ap (λ (r : List B). h n x ++ r) (gatherFrom-map size f h g s e (n + size x) xs))
 
   -- mapping g over the elements maps q over what they give
-  pub gather-map : (f : A → List B) (g : A → A) (q : B → B) → ((x : A) → f (g x) ≡ map q (f x)) → (xs : List A) → gather f (map g xs) ≡ map q (gather f xs)
-  gather-map f g q e [] = refl
-  gather-map f g q e (x ∷ xs) = rw (e x, gather-map f g q e xs, map-append)
+  pub gather-commutes : (f : A → List B) (g : A → A) (q : B → B) → ((x : A) → f (g x) ≡ map q (f x)) → (xs : List A) → gather f (map g xs) ≡ map q (gather f xs)
+  gather-commutes f g q e [] = refl
+  gather-commutes f g q e (x ∷ xs) = rw (e x, gather-commutes f g q e xs, map-append)
 
 module _ {A : Type 0} where
   pub sum-append : (s : A → ℕ) (xs ys : List A) → sum (map s (xs ++ ys)) ≡ sum (map s xs) + sum (map s ys)
@@ -46,28 +46,17 @@ module _ {A : Type 0} where
   pub all-snoc : (p : A → Bool) (xs : List A) (x : A) → T (all p xs) → T (p x) → T (all p (xs ++ (x ∷ [])))
   all-snoc p xs x h k = all-append p xs (x ∷ []) h (yes-and (p x) true k tt)
 
-  pub all-at : (p : A → Bool) (d : A) (xs : List A) → T (all p xs) → (i : ℕ) → i < length xs → T (p (getD xs i d))
-  all-at p d [] h i b = absurd (not-suc-le-zero b)
-  all-at p d (x ∷ xs) h zero b = and-yes (p x) (all p xs) h .0
-  all-at p d (x ∷ xs) h (suc i) b = all-at p d xs (and-yes (p x) (all p xs) h .1) i (le-of-suc-le-suc b)
-
-  -- the same for any place, if what stands past the end passes
+  -- every element passes, and what stands past the end does: the one at any place does
   pub all-getD : (p : A → Bool) (d : A) → T (p d) → (xs : List A) → T (all p xs) → (i : ℕ) → T (p (getD xs i d))
   all-getD p d e [] h i = e
   all-getD p d e (x ∷ xs) h zero = and-yes (p x) (all p xs) h .0
   all-getD p d e (x ∷ xs) h (suc i) = all-getD p d e xs (and-yes (p x) (all p xs) h .1) i
 
-  -- the search among places finds what the search among the elements finds
-  pub position-from : (p : ℕ → Bool) (q : A → Bool) (d : A) (k : ℕ) (xs : List A) → ((i : ℕ) → i < length xs → p (k + i) ≡ q (getD xs i d))
-      → position p (from k (length xs)) ≡ position q xs
-  position-from p q d k [] h = refl
-  position-from p q d k (x ∷ xs) h =
-      let here : p k ≡ q x = ap p (sym (add-zero k)) ∙ h zero (zero-lt-suc (length xs)) in
-      let later : position p (from (suc k) (length xs)) ≡ position q xs =
-      position-from p q d (suc k) xs (λ i b. ap p (suc-add k i ∙ sym (add-suc k i)) ∙ h (suc i) (suc-le-suc b)) in
-      rw (here, later)
-
 -- what f gives does not change with g
 pub gather-same : {A B : Type 0} (f : A → List B) (g : A → A) → ((x : A) → f (g x) ≡ f x) → (xs : List A) → gather f (map g xs) ≡ gather f xs
 gather-same f g e [] = refl
 gather-same f g e (x ∷ xs) = rw (e x, gather-same f g e xs)
+
+pub all-map : {A B : Type 0} (p : B → Bool) (f : A → B) (xs : List A) → all p (map f xs) ≡ all (λ x. p (f x)) xs
+all-map p f [] = refl
+all-map p f (x ∷ xs) = ap (λ b. p (f x) && b) (all-map p f xs)

@@ -11,6 +11,11 @@ pub choose : {A : Type 0} (P : A → Type 0) (b : Bool) {x y : A} → (T b → P
 choose P true p q = p tt
 choose P false p q = q
 
+-- the test does not matter
+pub cond-same : {A : Type 0} (b : Bool) (x : A) → cond b x x ≡ x
+cond-same true x = refl
+cond-same false x = refl
+
 module _ {A : Type 0} (z x y : A) where
   pub by-true : (b : Bool) → b ≡ true → z ≡ x → z ≡ cond b x y
   by-true b e p = p ∙ sym (ap (λ (c : Bool). cond c x y) e)

@@ -6,7 +6,7 @@ use Prim.Native.Nat.{ℕ, zero, suc, _+_, _≤_, _<_}
 use native.Mathlib.Nat.{add-zero, add-suc, suc-add, zero-add}
 use native.Mathlib.Omega.{arith}
 use lib.ListN.{length, getD, set, take, drop, take-append-drop, drop-of-length-le}
-use lib.Seq.{sets, sets-eq, paste, take-length, take-nil, getD-take, getD-drop, take-set-le, drop-set-lt, drop-at, length-take-le, take-append-seam}
+use lib.Seq.{sets, sets-eq, paste, take-length, take-nil, getD-take, take-set-le, drop-at, length-take-le, take-append-seam}
 use Rattle.laws.specs.Sections.{At}
 
 module _ {A : Type 0} where
@@ -35,20 +35,11 @@ module _ {A : Type 0} where
   take-sets n [] l i h = refl
   take-sets n (x ∷ xs) l i h = take-sets n xs (set l i x) (suc i) (omega arith) ∙ take-set-le n l i x h
 
-  pub drop-sets : (n : ℕ) (xs l : List A) (i : ℕ) → i + length xs ≤ n → drop n (sets l i xs) ≡ drop n l
-  drop-sets n [] l i h = refl
-  drop-sets n (x ∷ xs) l i h = drop-sets n xs (set l i x) (suc i) (omega arith) ∙ drop-set-lt n l i x (omega arith)
-
   pub getD-sets-before : (d : A) (xs l : List A) (i k : ℕ) → k < i → getD (sets l i xs) k d ≡ getD l k d
   getD-sets-before d xs l i k h =
       sym (getD-take (suc k) (sets l i xs) k d (omega arith))
       ∙ ap (λ (r : List A). getD r k d) (take-sets (suc k) xs l i h)
       ∙ getD-take (suc k) l k d (omega arith)
-
-  pub getD-sets-behind : (d : A) (xs l : List A) (i k : ℕ) → i + length xs ≤ k → getD (sets l i xs) k d ≡ getD l k d
-  getD-sets-behind d xs l i k h =
-      let here : (r : List A) → getD (drop k r) 0 d ≡ getD r k d = λ r. getD-drop k r 0 d ∙ ap (λ (n : ℕ). getD r n d) (add-zero k) in
-      sym (here (sets l i xs)) ∙ ap (λ (r : List A). getD r 0 d) (drop-sets k xs l i h) ∙ here l
 
   -- a part, cut from either end
   pub drop-take : (k n : ℕ) (l : List A) → drop k (take (k + n) l) ≡ take n (drop k l)
@@ -56,13 +47,10 @@ module _ {A : Type 0} where
   drop-take (suc k) n [] = ap (λ (r : List A). drop (suc k) r) (take-nil (suc k + n)) ∙ sym (take-nil n)
   drop-take (suc k) n (x ∷ xs) = ap (λ (m : ℕ). drop (suc k) (take m (x ∷ xs))) (suc-add k n) ∙ drop-take k n xs
 
-  -- a part before the run, and one behind it, are as they were
+  -- a part before the run is as it was
   pub part-sets-before : (k n : ℕ) (xs l : List A) (i : ℕ) → k + n ≤ i → take n (drop k (sets l i xs)) ≡ take n (drop k l)
   part-sets-before k n xs l i h =
       sym (drop-take k n (sets l i xs)) ∙ ap (λ (r : List A). drop k r) (take-sets (k + n) xs l i h) ∙ drop-take k n l
-
-  pub part-sets-behind : (k n : ℕ) (xs l : List A) (i : ℕ) → i + length xs ≤ k → take n (drop k (sets l i xs)) ≡ take n (drop k l)
-  part-sets-behind k n xs l i h = ap (λ (r : List A). take n r) (drop-sets k xs l i h)
 
   -- the run is read back where it was stored
   pub at-sets : (xs l : List A) (i : ℕ) → i + length xs ≤ length l → At (sets l i xs) i xs
@@ -74,7 +62,7 @@ module _ {A : Type 0} where
             ∙ drop-at (take i l) (xs ++ drop (i + length xs) l) i (length-take-le i l (omega arith));
       }
 
-  -- what stands before the run, and behind it, stands there still
+  -- what stands before the run stands there still
   pub at-sets-before : {k : ℕ} (ys xs l : List A) (i : ℕ) → k + length ys ≤ i → At l k ys → At (sets l i xs) k ys
   at-sets-before {k} ys xs l i h p =
       let rest : List A = drop (length ys) (drop k (sets l i xs)) in
@@ -85,6 +73,3 @@ module _ {A : Type 0} where
             ∙ ap (λ (r : List A). r ++ rest)
             (part-sets-before k (length ys) xs l i h ∙ ap (λ (r : List A). take (length ys) r) (p .holds) ∙ take-append-seam ys (p .rest));
       }
-
-  pub at-sets-behind : {k : ℕ} {ys : List A} (xs l : List A) (i : ℕ) → i + length xs ≤ k → At l k ys → At (sets l i xs) k ys
-  at-sets-behind {k} xs l i h p = record { rest = p .rest; holds = drop-sets k xs l i h ∙ p .holds }

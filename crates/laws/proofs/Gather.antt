@@ -7,8 +7,9 @@ use Prim.Native.Nat.{ℕ, zero, suc, _+_, _≤_, _<_}
 use native.Mathlib.Nat.{not-suc-le-zero, le-of-suc-le-suc, zero-add, add-assoc}
 use native.Mathlib.Omega.{arith}
 use lib.ListN.{length, getD, take, length-append, List·getD-append}
-use lib.Seq.{getD-append-add}
+use lib.Seq.{getD-append-add, take-suc}
 use Rattle.laws.specs.Lists.{keep, gather, sum}
+use Rattle.laws.proofs.Appending.{sum-append}
 
 module _ {A B : Type 0} (f : A → List B) where
   pub length-gather : (xs : List A) → length (gather f xs) ≡ sum (map (λ x. length (f x)) xs)
@@ -74,3 +75,8 @@ pub sum-take-le :
 sum-take-le f [] i a h = absurd (not-suc-le-zero h)
 sum-take-le f (x ∷ xs) zero a h = omega arith
 sum-take-le f (x ∷ xs) (suc i) a h = omega (arith, sum-take-le f xs i a (le-of-suc-le-suc h))
+
+-- one term more
+pub sum-take-suc : {A : Type 0} (s : A → ℕ) (d : A) (xs : List A) (i : ℕ) → i < length xs
+    → sum (map s (take (suc i) xs)) ≡ sum (map s (take i xs)) + s (getD xs i d)
+sum-take-suc s d xs i h = rw (take-suc xs i d h, sum-append s (take i xs) (getD xs i d ∷ [])) (omega arith)

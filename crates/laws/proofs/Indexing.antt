@@ -1,17 +1,18 @@
 -- Lists by index: ranges, images, stores past a seam, tests of all elements.
 -- Assumes nothing.
 use mathlib.Core.Path.{_≡_, refl, sym, ap, _∙_}
-use mathlib.Core.Bool.{Bool, true, false, cond, _||_, true≢false, false≢true, or-true}
+use mathlib.Core.Bool.{Bool, true, false, cond, _||_, false≢true, or-true}
 use mathlib.Core.List.{List, [], _∷_, _++_, map, append-assoc}
 use Prim.Native.Nat.{ℕ, zero, suc, _+_, _≤_, _<_, suc-le-suc}
-use native.Mathlib.Nat.{le-refl, not-suc-le-zero, le-of-suc-le-suc, zero-lt-suc, zero-add, add-zero, add-suc, suc-add, suc-inj}
+use native.Mathlib.Nat.{not-suc-le-zero, le-of-suc-le-suc, zero-lt-suc, zero-add, add-zero, add-suc, suc-add, suc-inj}
 use native.Mathlib.Numerals.{add-one}
 use native.Mathlib.Omega.{arith}
 use lib.Dec.{T, ltb, ltb→lt}
 use lib.ListN.{length, getD, take, drop, set}
 use lib.Seq.{sets, sets-eq, drop-at, drop-drop, getD-drop, length-take-le}
 use lib.Ieee.Fits.{and-i, and-l, and-r}
-use Rattle.laws.specs.Lists.{any, all, position, together, from, below}
+use Rattle.laws.specs.Lists.{any, all, position, empty, together, from, below}
+use Rattle.laws.proofs.Tests.{or-left, or-right}
 
 -- ---- ranges of numbers
 
@@ -125,22 +126,24 @@ getD-of-drop {A} l i d e =
 pub drop-of-drop : {A : Type 0} {a : A} {rest : List A} (l : List A) (i : ℕ) → drop i l ≡ a ∷ rest → drop (suc i) l ≡ rest
 drop-of-drop l i e = ap (λ (n : ℕ). drop n l) (sym (add-one i)) ∙ sym (drop-drop 1 i l) ∙ ap (drop 1) e
 
+-- ---- whether a list has elements
+
+pub empty-none : {A : Type 0} (xs : List A) → length xs ≡ 0 → empty xs ≡ true
+empty-none [] e = refl
+empty-none (x ∷ xs) e = absurd (omega arith)
+
+pub empty-some : {A : Type 0} (xs : List A) → (length xs ≡ 0 → ⊥) → empty xs ≡ false
+empty-some [] h = absurd (h refl)
+empty-some (x ∷ xs) h = refl
+
 -- ---- tests of all elements
-
-pub or-first : (a b : Bool) → (a || b) ≡ false → a ≡ false
-or-first true b e = absurd (true≢false e)
-or-first false b e = refl
-
-pub or-rest : (a b : Bool) → (a || b) ≡ false → b ≡ false
-or-rest true b e = absurd (true≢false e)
-or-rest false b e = e
 
 module _ {A : Type 0} (p : A → Bool) where
   -- no element passes: the one at index i does not
   pub none-at : (xs : List A) (i : ℕ) (d : A) → any p xs ≡ false → i < length xs → p (getD xs i d) ≡ false
   none-at [] i d e h = absurd (not-suc-le-zero h)
-  none-at (x ∷ xs) zero d e h = or-first (p x) (any p xs) e
-  none-at (x ∷ xs) (suc i) d e h = none-at xs i d (or-rest (p x) (any p xs) e) (le-of-suc-le-suc h)
+  none-at (x ∷ xs) zero d e h = or-left (p x) (any p xs) e
+  none-at (x ∷ xs) (suc i) d e h = none-at xs i d (or-right (p x) (any p xs) e) (le-of-suc-le-suc h)
 
   -- every element passes: the one at index i does
   pub all-at : (xs : List A) (i : ℕ) (d : A) → T (all p xs) → i < length xs → T (p (getD xs i d))
@@ -175,15 +178,6 @@ module _ {A : Type 0} (p : A → Bool) where
           → cond b zero (suc (position p xs)) < suc (length xs)
       first true later e = zero-lt-suc (length xs)
       first false later e = suc-le-suc (later e)
-
-  -- and it is no further than the end in any case
-  pub position-le : (xs : List A) → position p xs ≤ length xs
-  position-le [] = le-refl zero
-  position-le (x ∷ xs) = first (p x) (position-le xs)
-    where
-      first : (b : Bool) → position p xs ≤ length xs → cond b zero (suc (position p xs)) ≤ suc (length xs)
-      first true later = omega arith
-      first false later = suc-le-suc later
 
 -- at a place within a list the default does not matter
 pub getD-inside : {A : Type 0} (xs : List A) (i : ℕ) (d e : A) → i < length xs → getD xs i d ≡ getD xs i e

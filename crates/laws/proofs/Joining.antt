@@ -1,12 +1,10 @@
--- Tests of two lists put together, and equal lists either way round.
+-- Tests of two lists put together, and tests that say the same.
 -- Assumes nothing.
 use mathlib.Core.Bool.{Bool, true, false, _&&_, _||_, and-assoc, or-assoc}
 use mathlib.Core.List.{List, [], _∷_, _++_}
 use mathlib.Core.Path.{_≡_, refl, sym, ap, _∙_}
-use Prim.Native.Nat.{ℕ, _+_}
-use Rattle.laws.specs.Lists.{any, all, same}
-use Rattle.laws.proofs.Positions.{same-eq, same-is}
-use Rattle.laws.proofs.Tests.{of-true}
+use Prim.Native.Nat.{_+_}
+use Rattle.laws.specs.Lists.{any, all}
 
 module _ {A : Type 0} (p : A → Bool) where
   pub all-both : (xs ys : List A) → all p (xs ++ ys) ≡ (all p xs && all p ys)
@@ -27,7 +25,3 @@ equal-tests false false f g = refl
 pub is-not : (b : Bool) → (b ≡ true → ⊥) → b ≡ false
 is-not true h = absurd (h refl)
 is-not false h = refl
-
-pub same-sym : (a b : List ℕ) → same a b ≡ same b a
-same-sym a b =
-    equal-tests (same a b) (same b a) (λ e. same-is b a (sym (same-eq a b (of-true _ e)))) (λ e. same-is a b (sym (same-eq b a (of-true _ e))))

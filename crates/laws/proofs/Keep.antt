@@ -81,15 +81,15 @@ module _ {A : Type 0} (p : A → Bool) where
       case false e i later l = later i l
 
   -- an element that passes is kept, so that a test it passes is passed by some element kept
-  pub any-kept :
+  pub any-kept-at :
       (q : A → Bool) (xs : List A) (i : ℕ) (d : A)
       → i < length xs
       → p (getD xs i d) ≡ true
       → q (getD xs i d) ≡ true
       → any q (keep p xs) ≡ true
-  any-kept q [] i d l e k = absurd (not-suc-le-zero l)
-  any-kept q (x ∷ xs) zero d l e k = ap (any q) (keep-pass x xs e) ∙ ap (λ (b : Bool). b || any q (keep p xs)) k
-  any-kept q (x ∷ xs) (suc i) d l e k = case (p x) (any-kept q xs i d (le-of-suc-le-suc l) e k)
+  any-kept-at q [] i d l e k = absurd (not-suc-le-zero l)
+  any-kept-at q (x ∷ xs) zero d l e k = ap (any q) (keep-pass x xs e) ∙ ap (λ (b : Bool). b || any q (keep p xs)) k
+  any-kept-at q (x ∷ xs) (suc i) d l e k = case (p x) (any-kept-at q xs i d (le-of-suc-le-suc l) e k)
     where
       case : (b : Bool) → any q (keep p xs) ≡ true → any q (cond b (x ∷ keep p xs) (keep p xs)) ≡ true
       case true h = ap (λ (b : Bool). q x || b) h ∙ or-true (q x)

@@ -1,5 +1,4 @@
 pub mod Agreeing
-pub mod All
 pub mod Appending
 pub mod Branches
 pub mod ByNumber

@@ -19,9 +19,10 @@ from-snoc k (suc n) = ap (λ (l : List ℕ). k ∷ l) (from-snoc (suc k) n ∙ a
 pub below-snoc : (n : ℕ) → below (n + 1) ≡ below n ++ (n ∷ [])
 below-snoc n = ap below (add-one n) ∙ from-snoc 0 n ∙ ap (λ k. below n ++ (k ∷ [])) (zero-add n)
 
-pub sum-below-more : (f : ℕ → ℕ) (n : ℕ) → sum (map f (below (n + 1))) ≡ sum (map f (below n)) + f n
-sum-below-more f n =
-    ap (λ l. sum (map f l)) (below-snoc n) ∙ sum-append f (below n) (n ∷ []) ∙ ap (λ k. sum (map f (below n)) + k) (add-zero (f n))
+pub sum-below-suc : (f : ℕ → ℕ) (n : ℕ) → sum (map f (below (suc n))) ≡ sum (map f (below n)) + f n
+sum-below-suc f n =
+    ap (λ l. sum (map f l)) (from-snoc zero n) ∙ sum-append f (below n) ((zero + n) ∷ [])
+    ∙ ap (λ k. sum (map f (below n)) + k) (add-zero (f (zero + n)) ∙ ap f (zero-add n))
 
 -- a term that falls makes the sum fall
 pub sum-set-lt :

@@ -33,7 +33,7 @@ position-below p n r h b f =
 
 module _ {A : Type 0} (p : A → Bool) (q : ℕ → Bool) (d : A) where
   -- a search by numbers is one of the elements they stand for
-  position-of-from : (k : ℕ) (xs : List A) → ((i : ℕ) → i < length xs → q (k + i) ≡ p (getD xs i d)) → position q (from k (length xs)) ≡ position p xs
+  pub position-of-from : (k : ℕ) (xs : List A) → ((i : ℕ) → i < length xs → q (k + i) ≡ p (getD xs i d)) → position q (from k (length xs)) ≡ position p xs
   position-of-from k [] h = refl
   position-of-from k (x ∷ xs) h =
       let here : q k ≡ p x = ap q (sym (add-zero k)) ∙ h zero (zero-lt-suc (length xs)) in

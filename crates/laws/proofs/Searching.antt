@@ -1,17 +1,18 @@
 -- `any`, `all` and `keep` against the elements they speak of.
 -- Assumes nothing.
-use mathlib.Core.Path.{_≡_, refl, sym, _∙_, subst, subst⁻¹, ap}
-use mathlib.Core.Bool.{Bool, true, false, not, cond, _&&_, _||_}
-use mathlib.Core.List.{List, [], _∷_, map}
+use mathlib.Core.Path.{_≡_, refl, _∙_, subst, subst⁻¹, ap}
+use mathlib.Core.Bool.{Bool, true, false, cond, _||_}
+use mathlib.Core.List.{List, [], _∷_}
 use mathlib.Core.Logic.{_⊎_, inl, inr}
 use Prim.Native.Nat.{ℕ, zero, suc, _+_, _≤_, _<_}
-use native.Mathlib.Nat.{not-suc-le-zero, zero-add, add-zero, add-suc, suc-add, le-of-suc-le-suc}
+use native.Mathlib.Nat.{not-suc-le-zero, le-of-suc-le-suc}
 use native.Mathlib.Decide.{ℕ-discrete}
 use native.Mathlib.Omega.{arith}
-use lib.Dec.{T, eqb, ltb, eqb→eq, eqb-refl, ltb→lt, lt→ltb}
+use lib.Dec.{T, eqb, eqb→eq, eqb-refl}
 use lib.ListN.{length, getD}
-use mir.Facts.{and-yes, yes-and, or-yes}
-use Rattle.laws.specs.Lists.{any, all, keep, together, from, below, member}
+use mir.Facts.{or-yes}
+use borrow.Author.Tests.{eq-eqb, ne-eqb}
+use Rattle.laws.specs.Lists.{any, keep, position, together, from, below, member}
 
 pub either-left : (a b : Bool) → T a → T (a || b)
 either-left true b t = tt
@@ -92,13 +93,6 @@ module _ {A B : Type 0} (p : A → B → Bool) (d : A) (e : B) where
         | inr h ↦ (let r = beside-found xs ys h in (suc (r .0), omega arith, omega arith, r .3))
       ]
 
--- the i-th of the values over a range
-pub getD-range :
-    {A : Type 0} (g : ℕ → A) (k n i : ℕ) (d : A) → i < n → getD (map g (from k n)) i d ≡ g (k + i)
-getD-range g k zero i d h = absurd (not-suc-le-zero h)
-getD-range g k (suc n) zero d h = ap g (sym (add-zero k))
-getD-range g k (suc n) (suc i) d h = getD-range g (suc k) n i d (le-of-suc-le-suc h) ∙ ap g (suc-add k i ∙ sym (add-suc k i))
-
 -- a number kept of a range is below its end
 pub kept-below : (q : ℕ → Bool) (k n i : ℕ) → i < length (keep q (from k n)) → getD (keep q (from k n)) i 0 < k + n
 kept-below q k zero i h = absurd (not-suc-le-zero h)
@@ -111,3 +105,24 @@ kept-below q k (suc n) i h = by (q k) i h (kept-below q (suc k) n)
     by true zero l ih = omega arith
     by true (suc j) l ih = let r = ih j (le-of-suc-le-suc l) in omega arith
     by false j l ih = let r = ih j l in omega arith
+
+-- the place of a number among those kept
+module _ (q : ℕ → Bool) where
+  rank-from : (k n i x : ℕ) → x ≡ k + i → i < n → q x ≡ true → position (λ z. eqb z x) (keep q (from k n)) ≡ length (keep q (from k i))
+  rank-from k zero i x e h t = absurd (not-suc-le-zero h)
+  rank-from k (suc n) zero x e h t =
+      let here : k ≡ x = omega arith in
+      let passes : q k ≡ true = ap q here ∙ t in
+      rw (passes, eq-eqb k x here)
+  rank-from k (suc n) (suc i) x e h t = case (q k) (rank-from (suc k) n i x (omega arith) (le-of-suc-le-suc h) t)
+    where
+      case :
+          (b : Bool)
+          → position (λ z. eqb z x) (keep q (from (suc k) n)) ≡ length (keep q (from (suc k) i))
+          → position (λ z. eqb z x) (cond b (k ∷ keep q (from (suc k) n)) (keep q (from (suc k) n))) ≡ length (cond b (k ∷ keep q (from (suc k) i)) (keep q (from (suc k) i)))
+      case true r = rw (ne-eqb k x (λ z. omega arith), r)
+      case false r = r
+
+  -- a number kept of those below n has as many before it as are kept of those below it
+  pub rank-below : (n x : ℕ) → x < n → q x ≡ true → position (λ z. eqb z x) (keep q (below n)) ≡ length (keep q (below x))
+  rank-below n x h t = rank-from zero n x x (omega arith) h t

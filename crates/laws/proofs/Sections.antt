@@ -77,10 +77,6 @@ module _ {A B : Type 0} where
   gather-is-from f n [] = refl
   gather-is-from f n (x ∷ xs) = ap (λ (r : List A). f x ++ r) (gather-is-from f (n + 0) xs)
 
-  pub length-gather : (f : B → List A) (xs : List B) → length (gather f xs) ≡ sum (map (λ x. length (f x)) xs)
-  length-gather f [] = refl
-  length-gather f (x ∷ xs) = length-append (f x) (gather f xs) ∙ ap (λ (n : ℕ). length (f x) + n) (length-gather f xs)
-
   pub length-gatherFrom : (size : B → ℕ) (f : ℕ → B → List A) (w : ℕ) (d : B) (n : ℕ) (xs : List B)
       → ((m i : ℕ) → i < length xs → length (f m (getD xs i d)) ≡ w) → length (gatherFrom size f n xs) ≡ w * length xs
   length-gatherFrom size f w d n [] l = omega arith

@@ -3,12 +3,13 @@
 use mathlib.Core.Path.{_≡_, refl, sym, ap, _∙_}
 use mathlib.Core.List.{List, [], _∷_, _++_, append-assoc}
 use Prim.Native.Nat.{ℕ, zero, suc, _+_, _-_, _*_, _≤_, _<_}
-use native.Mathlib.Nat.{zero-add, add-zero, add-suc, suc-add}
+use native.Mathlib.Nat.{add-zero, add-suc}
 use native.Mathlib.Omega.{arith}
 use lib.ListN.{length, getD, set, replicate, length-append, length-replicate, length-set, replicate-append-replicate}
 use lib.Seq.{sets, length-sets, set-append-left}
 use Rattle.laws.specs.Lists.{gather}
 use Rattle.laws.specs.Sections.{pad, At}
+use Rattle.laws.proofs.Indexing.{set-append-add}
 use Rattle.laws.proofs.Sections.{at-stride, gather-is-from, length-gatherFrom}
 
 -- with vs stored from place k on, t becomes t′
@@ -18,10 +19,6 @@ pub record Stored {A : Type 0} (t : List A) (k : ℕ) (vs t′ : List A) : Type 
 -- ---- a run of stores in one part of a list
 
 module _ {A : Type 0} where
-  set-right : (xs ys : List A) (k : ℕ) (a : A) → set (xs ++ ys) (length xs + k) a ≡ xs ++ set ys k a
-  set-right [] ys k a = rw zero-add
-  set-right (x ∷ xs) ys k a = rw suc-add (ap (λ (r : List A). x ∷ r) (set-right xs ys k a))
-
   pub sets-left : (vs xs ys : List A) (k : ℕ) → k + length vs ≤ length xs → sets (xs ++ ys) k vs ≡ sets xs k vs ++ ys
   sets-left [] xs ys k h = refl
   sets-left (a ∷ vs) xs ys k h =
@@ -31,7 +28,7 @@ module _ {A : Type 0} where
   pub sets-right : (vs xs ys : List A) (k : ℕ) → sets (xs ++ ys) (length xs + k) vs ≡ xs ++ sets ys k vs
   sets-right [] xs ys k = refl
   sets-right (a ∷ vs) xs ys k =
-      ap (λ (l : List A). sets l (suc (length xs + k)) vs) (set-right xs ys k a)
+      ap (λ (l : List A). sets l (suc (length xs + k)) vs) (set-append-add xs ys k a)
       ∙ ap (λ (m : ℕ). sets (xs ++ set ys k a) m vs) (sym (add-suc (length xs) k))
       ∙ sets-right vs xs (set ys k a) (suc k)
 
@@ -81,10 +78,6 @@ pad-stored n xs k ys j h {m} e =
           ∙ sym (sets-middle ys (xs ++ zeros k) (zeros (length ys)) (zeros (j + r)) (length-replicate (length ys) 0) (simp (length-append, length-replicate) (omega arith))));
     }
 
--- one more cell
-pub pad-snoc : (n : ℕ) (xs : List ℕ) (y : ℕ) → length xs < n → Stored (pad n xs) (length xs) (y ∷ []) (pad n (xs ++ (y ∷ [])))
-pad-snoc n xs y h = pad-stored n xs 0 (y ∷ []) 0 (omega arith) (omega arith)
-
 -- a cell past the end counts as 0, put down or not
 pub getD-zeros : (k i : ℕ) → getD (zeros k) i 0 ≡ 0
 getD-zeros zero i = refl
@@ -95,10 +88,6 @@ pub getD-behind : (xs : List ℕ) (k i : ℕ) → getD (xs ++ zeros k) i 0 ≡ g
 getD-behind [] k i = getD-zeros k i
 getD-behind (x ∷ xs) k zero = refl
 getD-behind (x ∷ xs) k (suc i) = getD-behind xs k i
-
-pub getD-pad : (n : ℕ) (xs : List ℕ) (i : ℕ) → getD (pad n xs) i 0 ≡ getD xs i 0
-unfolding pad
-getD-pad n xs i = getD-behind xs (n - length xs) i
 
 -- ---- a store in a part is a store in the whole
 

@@ -2,21 +2,17 @@
 -- Assumes nothing.
 use mathlib.Core.Path.{_≡_, refl, sym, ap, ap₂, _∙_}
 use mathlib.Core.Bool.{Bool, true, false, cond, not}
-use mathlib.Core.List.{List, [], _∷_, _++_, map, append-assoc}
+use mathlib.Core.List.{List, [], _∷_, _++_, map}
 use Prim.Native.Nat.{ℕ, zero, suc, _≤_, _<_, _+_, _*_}
-use native.Mathlib.Nat.{not-suc-le-zero, le-of-suc-le-suc, zero-add, add-zero, add-assoc, add-suc, add-comm, suc-add, suc-mul, zero-mul}
+use native.Mathlib.Nat.{not-suc-le-zero, le-of-suc-le-suc, zero-add, add-zero, add-suc, add-comm, suc-add, suc-mul, zero-mul}
 use native.Mathlib.Omega.{arith}
 use lib.ListN.{length, getD, set, drop}
 use lib.Seq.{drop-cons}
-use Rattle.laws.specs.Lists.{keep, gather, together, from, below, sum}
+use Rattle.laws.specs.Lists.{keep, gather, from, below, sum}
+use Rattle.laws.proofs.Appending.{gather-append}
 use Rattle.laws.proofs.Every.{Every, none, more}
 
 module _ {A B : Type 0} (f : A → List B) where
-  pub gather-append : (xs ys : List A) → gather f (xs ++ ys) ≡ gather f xs ++ gather f ys
-  gather-append [] ys = refl
-  gather-append (x ∷ xs) ys =
-      ap (λ (r : List B). f x ++ r) (gather-append xs ys) ∙ sym (append-assoc (f x) (gather f xs) (gather f ys))
-
   pub gather-map : {C : Type 0} (h : C → A) (xs : List C) → gather f (map h xs) ≡ gather (λ x. f (h x)) xs
   gather-map h [] = refl
   gather-map h (x ∷ xs) = ap (λ (r : List B). f (h x) ++ r) (gather-map h xs)
@@ -24,7 +20,7 @@ module _ {A B : Type 0} (f : A → List B) where
   pub gather-gather : {C : Type 0} (h : C → List A) (xs : List C) → gather f (gather h xs) ≡ gather (λ x. gather f (h x)) xs
   gather-gather h [] = refl
   gather-gather h (x ∷ xs) =
-      gather-append (h x) (gather h xs) ∙ ap (λ (r : List B). gather f (h x) ++ r) (gather-gather h xs)
+      gather-append f (h x) (gather h xs) ∙ ap (λ (r : List B). gather f (h x) ++ r) (gather-gather h xs)
 
 module _ {A : Type 0} (p : A → Bool) where
   -- what a test leaves and what it keeps
@@ -41,15 +37,6 @@ module _ {A : Type 0} (p : A → Bool) where
           → length (cond (not b) (x ∷ out) out) + length (cond b (x ∷ keep p xs) (keep p xs)) ≡ suc (length xs)
       case true e = add-suc _ _ ∙ ap suc e
       case false e = suc-add _ _ ∙ ap suc e
-
-pub length-together :
-    {A B C : Type 0} (g : A → B → C) (xs : List A) (ys : List B)
-    → length xs ≡ length ys
-    → length (together g xs ys) ≡ length ys
-length-together g [] [] e = refl
-length-together g [] (y ∷ ys) e = e
-length-together g (x ∷ xs) [] e = refl
-length-together g (x ∷ xs) (y ∷ ys) e = ap suc (length-together g xs ys (omega arith))
 
 pub sum-const : {A : Type 0} (c : ℕ) (xs : List A) → sum (map (λ x. c) xs) ≡ length xs * c
 sum-const c [] = sym (zero-mul c)
@@ -84,13 +71,6 @@ sum-from-le f k (suc i) (suc n) h =
 
 pub sum-below-le : (f : ℕ → ℕ) (i n : ℕ) → i < n → sum (map f (below i)) + f i ≤ sum (map f (below n))
 sum-below-le f i n h = rw zero-add at (sum-from-le f zero i n h)
-
-pub sum-from-suc : (f : ℕ → ℕ) (k n : ℕ) → sum (map f (from k (suc n))) ≡ sum (map f (from k n)) + f (k + n)
-sum-from-suc f k zero = omega (arith, ap f (add-zero k))
-sum-from-suc f k (suc n) = rw (add-suc, ← suc-add) (omega (arith, sum-from-suc f (suc k) n))
-
-pub sum-below-suc : (f : ℕ → ℕ) (n : ℕ) → sum (map f (below (suc n))) ≡ sum (map f (below n)) + f n
-sum-below-suc f n = rw zero-add at (sum-from-suc f zero n)
 
 pub sum-same : {A : Type 0} {f g : A → ℕ} → ((x : A) → f x ≡ g x) → (xs : List A) → sum (map f xs) ≡ sum (map g xs)
 sum-same h [] = refl

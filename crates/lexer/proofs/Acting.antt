@@ -1,12 +1,12 @@
 -- What a byte does, by number, against the definition's step. Assumes nothing.
 use mathlib.Core.Bool.{Bool, true, false, cond}
-use mathlib.Core.Path.{_≡_, refl, sym, ap, _∙_, subst}
+use mathlib.Core.Path.{_≡_, refl}
 use mathlib.Core.List.{List, [], _∷_, _++_}
-use Prim.Native.Nat.{ℕ, _+_, _-_, _≤_, _<_}
-use lib.Dec.{eqb, ltb, leb, lit≤}
+use Prim.Native.Nat.{ℕ, _+_, _-_, _≤_}
+use lib.Dec.{eqb, ltb, lit≤}
 use lib.ListN.{length}
 use Rattle.language.specs.Bytes.{Class, classOf, classNumber, inName, inDigits, hexValue}
-use Rattle.language.specs.Tokens.{Mode, Lexer, Lexed, Token, Found, token, stray, begun, begunName, begunNumber, longerName, longerNumber, quiet, finds, spoils, digitMode, beginAs, begin, ends, extends, quotes, closes, endsNumber, decimalDigit, hexadecimalDigit, stepAs, lexStep}
+use Rattle.language.specs.Tokens.{Mode, Lexer, Lexed, Token, token, stray, begun, begunName, begunNumber, longerName, longerNumber, quiet, finds, spoils, beginAs, begin, ends, extends, quotes, closes, endsNumber, decimalDigit, hexadecimalDigit, stepAs, lexStep}
 use Rattle.lexer.specs.Actions.{modeNumber, digitModeAt, beginsAt, inPlainAt, inQuotesAt, inQuotedAt, afterNumberAt, inDecimalAt, inNumberAt, actionAt}
 use Rattle.lexer.specs.Lexing.{held}
 

@@ -1,11 +1,11 @@
 -- What a caller has of the lexer: the bytes before its place, folded. Assumes nothing.
-use mathlib.Core.Bool.{Bool, true, false}
-use mathlib.Core.Path.{_≡_, refl, sym, ap, _∙_}
+use mathlib.Core.Bool.{false}
+use mathlib.Core.Path.{_≡_, refl, sym}
 use mathlib.Core.List.{List, [], _∷_, _++_, foldl, foldl-append, append-assoc, append-nil}
 use native.Mathlib.Nat.{not-suc-le-zero, le-of-suc-le-suc}
-use Prim.Native.Nat.{ℕ, zero, suc, _+_, _-_, _≤_, _<_}
+use Prim.Native.Nat.{ℕ, zero, suc, _-_, _≤_}
 use native.Mathlib.Omega.{arith}
-use lib.ListN.{length, take, drop}
+use lib.ListN.{take}
 use lib.Seq.{take-nil}
 use Rattle.language.specs.Tokens as meaning
 use Rattle.language.specs.Tokens.{quiet, lexer₀, lexStep, lexMore}
@@ -14,7 +14,7 @@ use Rattle.language.specs.Reading.{readByte}
 use Rattle.lexer.specs.declared.Lexer.{Lexer}
 use Rattle.lexer.specs.declared.Lexed.{Lexed}
 use Rattle.lexer.specs.Numbers.{amountOf}
-use Rattle.lexer.specs.Lexing.{part, Stands, Gives, Scanned, lexerFrom}
+use Rattle.lexer.specs.Lexing.{part, Stands, Scanned, lexerFrom}
 
 -- before the first byte
 pub stands-first : (text : List ℕ) → Stands text lexer₀ (lexerFrom 0 0 0 false 0 false)
@@ -34,13 +34,13 @@ lex-onward x (b ∷ bs) =
 -- reading some bytes is lexing them and taking what they end
 pub read-bytes : (r : reading.Reader) (bs : List ℕ)
     → foldl readByte r bs
-    ≡ record { lexer = foldl lexMore (quiet (r .lexer)) bs .lexer; parse = foldl reading.take (r .parse) (foldl lexMore (quiet (r .lexer)) bs .found) }
+    ≡ record { lexer = foldl lexMore (quiet (r .lexer)) bs .lexer; parse = foldl reading.takeToken (r .parse) (foldl lexMore (quiet (r .lexer)) bs .found) }
 unfolding readByte lexMore
 read-bytes r [] = refl
 read-bytes r (b ∷ bs) =
     let here = read-bytes (readByte r b) bs in
     let there = lex-onward (lexMore (quiet (r .lexer)) b) bs in
-    rw (here, there, foldl-append reading.take (r .parse) (lexStep (r .lexer) b .found))
+    rw (here, there, foldl-append reading.takeToken (r .parse) (lexStep (r .lexer) b .found))
 
 -- the text up to a later place
 pub take-part : (text : List ℕ) (m n : ℕ) → m ≤ n → take n text ≡ take m text ++ part text m n
@@ -51,25 +51,13 @@ take-part (x ∷ xs) (suc m) (suc n) h =
     let e : suc n - suc m ≡ n - m = omega arith in
     rw (e, take-part xs m n (le-of-suc-le-suc h))
 
--- A caller's invariant: the lexer in hand stands for the definition's after the bytes before its place. A scan keeps it.
-pub stands-on : (text : List ℕ) (l : meaning.Lexer) (c : Lexer) (r : Lexed) → Scanned text c r
-    → Stands text (foldl lexMore (quiet l) (take (c .next) text) .lexer) c
-    → Stands text (foldl lexMore (quiet l) (take (r .lexer .next) text) .lexer) (r .lexer)
-stands-on text l c r s h =
-    rw (
-      take-part text (c .next) (r .lexer .next) (s .forth),
-      foldl-append lexMore (quiet l) (take (c .next) text) (part text (c .next) (r .lexer .next)),
-      lex-onward (foldl lexMore (quiet l) (take (c .next) text)) (part text (c .next) (r .lexer .next)),
-    )
-    (s .gives _ h .lexer)
-
 -- The same for a reader, whose parse takes what the scan found.
 pub reads-on : (text : List ℕ) (q : reading.Reader) (c : Lexer) (r : Lexed) (s : Scanned text c r)
     (h : Stands text (foldl readByte q (take (c .next) text) .lexer) c)
     → foldl readByte q (take (r .lexer .next) text)
     ≡ record {
       lexer = foldl lexMore (quiet (foldl readByte q (take (c .next) text) .lexer)) (part text (c .next) (r .lexer .next)) .lexer;
-      parse = foldl reading.take (foldl readByte q (take (c .next) text) .parse) (s .gives _ h .one ++ s .gives _ h .two);
+      parse = foldl reading.takeToken (foldl readByte q (take (c .next) text) .parse) (s .gives _ h .one ++ s .gives _ h .two);
     }
 reads-on text q c r s h =
     rw (

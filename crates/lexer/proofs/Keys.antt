@@ -1,5 +1,5 @@
 -- Words by their keys: two names with one key are the same name. Assumes nothing.
-use mathlib.Core.Bool.{Bool, true, false, not, cond, _&&_, _||_}
+use mathlib.Core.Bool.{Bool, true, false, not, _&&_, _||_}
 use mathlib.Core.Path.{_≡_, refl, sym, ap, _∙_, subst}
 use mathlib.Core.List.{List, [], _∷_, map}
 use mathlib.Core.Logic.{_⊎_, inl, inr}
@@ -12,19 +12,13 @@ use lib.ListN.{length, take, drop, getD, length-drop}
 use lib.Pow.{pow-add, pow-mono}
 use lib.Seq.{drop-cons, drop-length, take-all}
 use borrow.Author.Tests.{eq-eqb, ne-eqb, eqb-true, ltb-true, leb-true}
-use Rattle.laws.specs.Lists.{position, all, any, member, same, keep}
+use Rattle.laws.specs.Lists.{position, all, member, same, keep}
 use Rattle.laws.specs.Sections.{Bytes}
-use Rattle.language.specs.Words.{words, wordOf}
+use Rattle.laws.proofs.Tests.{same-equal}
+use Rattle.language.specs.Words.{words, wordOf, wordCount}
 use Rattle.lexer.specs.Keys.{packed, shortAt, longAt}
 
 -- ---- tests
-
-pub eqb-iff : (a b c d : ℕ) → (a ≡ b → c ≡ d) → (c ≡ d → a ≡ b) → eqb a b ≡ eqb c d
-eqb-iff a b c d f g = by (ℕ-discrete a b)
-  where
-    by : Dec (a ≡ b) → eqb a b ≡ eqb c d
-    by (yes e) = eq-eqb a b e ∙ sym (eq-eqb c d (f e))
-    by (no e) = ne-eqb a b e ∙ sym (ne-eqb c d (λ h. e (g h)))
 
 pub and-left : (a b : Bool) → a && b ≡ true → a ≡ true
 and-left true b e = refl
@@ -80,7 +74,7 @@ same-packed (x ∷ xs) (y ∷ ys) a b = by (ℕ-discrete x y) (same-packed xs ys
         → eqb x y && same xs ys ≡ eqb (256 * packed xs + x) (256 * packed ys + y)
     by (yes e) ih =
         rw (eq-eqb x y e, ih)
-        (eqb-iff (packed xs) (packed ys) (256 * packed xs + x) (256 * packed ys + y) (λ h. omega (arith, e)) (λ h. omega (arith, e)))
+        (same-equal (packed xs) (packed ys) (256 * packed xs + x) (256 * packed ys + y) (λ h. omega (arith, e)) (λ h. omega (arith, e)))
     by (no e) ih =
         rw (ne-eqb x y e) (sym (ne-eqb (256 * packed xs + x) (256 * packed ys + y) (λ h. e (omega (arith, h, a .0, b .0)))))
 
@@ -190,7 +184,7 @@ same-length (x ∷ xs) (y ∷ ys) h = rw (same-length xs ys (λ e. h (ap suc e))
     none true = refl
     none false = refl
 
-pub no-word : (n : List ℕ) → (length n < 3) ⊎ (9 < length n) → wordOf n ≡ 52
+pub no-word : (n : List ℕ) → (length n < 3) ⊎ (9 < length n) → wordOf n ≡ wordCount
 unfolding wordOf words
 no-word n h =
     position-agree lengthTest (λ w. same w n) (λ w. false)
@@ -204,7 +198,7 @@ no-word n h =
 abbrev pub shortKeys : List ℕ
 shortKeys = reversed (keep (λ k. ltb k 18446744073709551616) (map packed words))
 
-pub no-short-word : (k : ℕ) → k < 18446744073709551616 → NoneOf shortKeys k → shortAt k ≡ 52
+pub no-short-word : (k : ℕ) → k < 18446744073709551616 → NoneOf shortKeys k → shortAt k ≡ wordCount
 unfolding shortAt words
 no-short-word k h n =
     position-agree (λ w. member (packed w) shortKeys || leb 18446744073709551616 (packed w)) (λ w. eqb (packed w) k) (λ w. false)
@@ -216,7 +210,7 @@ no-short-word k h n =
 
 -- the key of the first seven bytes is known, and the rest is none of those that go with it
 pub no-rest : {k m : ℕ} (r : ℕ) (ks : List ℕ) → k ≡ m → NoneOf ks r
-    → all (λ w. not (eqb (packed (take 7 w)) m) || member (packed (drop 7 w)) ks) words ≡ true → 52 ≡ longAt k r
+    → all (λ w. not (eqb (packed (take 7 w)) m) || member (packed (drop 7 w)) ks) words ≡ true → wordCount ≡ longAt k r
 unfolding longAt words
 no-rest {k} {m} r ks e n t =
     sym
@@ -231,7 +225,7 @@ no-rest {k} {m} r ks e n t =
 
 -- the key of the first seven bytes is none of a longer word's
 pub no-first : (k r : ℕ) (ks : List ℕ) → NoneOf ks k → 1 < r
-    → all (λ w. member (packed (take 7 w)) ks || eqb (packed (drop 7 w)) 1) words ≡ true → 52 ≡ longAt k r
+    → all (λ w. member (packed (take 7 w)) ks || eqb (packed (drop 7 w)) 1) words ≡ true → wordCount ≡ longAt k r
 unfolding longAt words
 no-first k r ks n h t =
     sym

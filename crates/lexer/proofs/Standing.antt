@@ -1,19 +1,18 @@
 -- The lexer's numbers after a byte stand for the definition's lexer after it. Assumes nothing.
 use mathlib.Core.Bool.{Bool, true, false, cond}
 use mathlib.Core.Path.{_≡_, refl, sym, ap, _∙_, subst}
-use mathlib.Core.List.{List, [], _∷_, _++_, append-nil}
+use mathlib.Core.List.{List, [], _∷_, _++_}
 use Prim.Native.Nat.{ℕ, zero, suc, _+_, _-_, _*_, _≤_, _<_}
-use native.Mathlib.Nat.{not-suc-le-zero, le-refl, le-of-lt}
-use native.Mathlib.Numerals.{add-one}
+use native.Mathlib.Nat.{le-refl, le-of-lt}
 use native.Mathlib.Omega.{arith}
-use lib.Dec.{T, eqb, ltb, leb, lit<}
-use lib.ListN.{length, take, drop, getD, length-drop, length-take}
-use lib.Seq.{take-suc, getD-drop, length-take-le, drop-cons}
+use lib.Dec.{eqb, ltb, lit<}
+use lib.ListN.{length, take, drop, getD, length-drop}
+use lib.Seq.{take-suc, getD-drop, length-take-le}
 use borrow.Author.Tests.{lt-ltb}
 use Rattle.language.specs.Bytes.{classOf, classNumber, hexValue}
 use Rattle.language.specs.Words.{wordOf, wordCount}
 use Rattle.language.specs.Tokens as meaning
-use Rattle.language.specs.Tokens.{Mode, quiet, lexStep, begin, ends, ended, endedAs, nameOrWord, decimalDigit, hexadecimalDigit, longerName, longerNumber}
+use Rattle.language.specs.Tokens.{Mode, begin, ends, ended, endedAs, nameOrWord, decimalDigit, hexadecimalDigit, longerName, longerNumber}
 use Rattle.lexer.specs.declared.Lexer.{Lexer}
 use Rattle.lexer.specs.declared.Lexed.{Lexed}
 use Rattle.lexer.specs.declared.Token.the-variants as tokens

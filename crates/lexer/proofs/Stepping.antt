@@ -1,7 +1,7 @@
 -- One byte, and the bytes up to the first that finds something. Assumes nothing.
 use mathlib.Core.Bool.{Bool, true, false, cond}
-use mathlib.Core.Path.{_≡_, refl, sym, ap, _∙_, subst}
-use mathlib.Core.List.{List, [], _∷_, _++_, foldl, foldl-append, map}
+use mathlib.Core.Path.{_≡_, refl, sym, ap, _∙_}
+use mathlib.Core.List.{List, [], _∷_, foldl, foldl-append}
 use Prim.Native.Nat.{ℕ, _+_, _-_, _≤_, _<_}
 use native.Mathlib.Nat.{le-refl, zero-add}
 use native.Mathlib.Omega.{arith}
@@ -9,7 +9,7 @@ use borrow.Author.Tests.{eqb-true}
 use lib.Dec.{eqb, ltb, leb}
 use lib.ListN.{length, getD}
 use Rattle.laws.proofs.Branches.{branches}
-use Rattle.laws.proofs.Searching.{getD-range}
+use Rattle.laws.proofs.Ranges.{getD-map-from}
 use Rattle.language.specs.Bytes.{classOf, classNumber}
 use Rattle.language.specs.Tokens as meaning
 use Rattle.language.specs.Tokens.{Mode, quiet, lexStep, lexMore, lexEnd}
@@ -17,11 +17,10 @@ use Rattle.lexer.specs.declared.Lexer.{Lexer}
 use Rattle.lexer.specs.declared.Lexed.{Lexed}
 use Rattle.lexer.specs.declared.Token.{Token}
 use Rattle.lexer.specs.declared.Token.the-variants as tokens
-use Rattle.lexer.specs.declared.Found.{Found}
 use Rattle.lexer.specs.declared.Found.the-variants as founds
-use Rattle.lexer.specs.Actions.{modeNumber, beginsAt, inPlainAt, actionAt}
+use Rattle.lexer.specs.Actions.{beginsAt, inPlainAt, actionAt}
 use Rattle.lexer.specs.Lexing.{classTable, part, held, Stands, Finds, Gives, lexerFrom, lexedFrom, Passed, Onward, Stepped, Scanned, Finished}
-use Rattle.lexer.specs.Advancing.{freshAt, begunAt, enteredAt, singleAt, endedAt, longerAt, numberAt, advancedAt, endsAt, findingAt}
+use Rattle.lexer.specs.Advancing.{freshAt, begunAt, enteredAt, singleAt, endedAt, advancedAt, endsAt, findingAt}
 use Rattle.lexer.proofs.Acting.{Act, Counted, acts}
 use Rattle.lexer.proofs.Standing.{part-more, part-none, length-part, advances, advances-quietly, finds-gives, ends-found}
 
@@ -29,7 +28,7 @@ use Rattle.lexer.proofs.Standing.{part-more, part-none, length-part, ad
 pub class-at : (classes : List ℕ) (b : ℕ) → classes ≡ classTable → b < 256 → getD classes b 0 ≡ classNumber (classOf b)
 unfolding classTable
 class-at classes b e h =
-    rw e (getD-range (λ x. classNumber (classOf x)) 0 256 b 0 h ∙ ap (λ (n : ℕ). classNumber (classOf n)) (zero-add b))
+    rw e (getD-map-from (λ x. classNumber (classOf x)) 0 0 256 b h ∙ ap (λ (n : ℕ). classNumber (classOf n)) (zero-add b))
 
 -- ---- the place after a byte
 

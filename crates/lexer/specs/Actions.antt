@@ -1,5 +1,5 @@
 -- What a byte does to what is open, by number, as the code tests it. Assumes nothing.
-use mathlib.Core.Bool.{Bool, true, false, cond}
+use mathlib.Core.Bool.{cond}
 use Prim.Native.Nat.{ℕ}
 use lib.Dec.{eqb, ltb}
 use Rattle.language.specs.Bytes.{hexValue}

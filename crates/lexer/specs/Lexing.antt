@@ -1,13 +1,11 @@
 -- What the lexer's numbers stand for: the definition's lexer and what it finds (document 01, "The text"). Assumes nothing.
-use mathlib.Core.Bool.{Bool, true, false, cond}
+use mathlib.Core.Bool.{Bool}
 use mathlib.Core.List.{List, [], _∷_, _++_, foldl, map}
 use mathlib.Core.Path.{_≡_}
 use Prim.Native.Nat.{ℕ, _+_, _-_, _≤_, _<_}
-use lib.Dec.{eqb, ltb, leb}
 use lib.ListN.{length, take, drop, getD}
 use Rattle.laws.specs.Lists.{below}
 use Rattle.language.specs.Bytes.{classOf, classNumber}
-use Rattle.language.specs.Words.{wordOf, wordCount}
 use Rattle.language.specs.Tokens as meaning
 use Rattle.lexer.specs.declared.Lexer.{Lexer}
 use Rattle.lexer.specs.declared.Token.{Token}
@@ -15,8 +13,8 @@ use Rattle.lexer.specs.declared.Token.the-variants as tokens
 use Rattle.lexer.specs.declared.Found.{Found}
 use Rattle.lexer.specs.declared.Found.the-variants as founds
 use Rattle.lexer.specs.declared.Lexed.{Lexed}
-use Rattle.lexer.specs.Numbers.{amountFrom, amountOf, grownAt}
-use Rattle.lexer.specs.Actions.{modeNumber, beginsAt}
+use Rattle.lexer.specs.Numbers.{amountFrom, amountOf}
+use Rattle.lexer.specs.Actions.{modeNumber}
 
 -- "Each of the 256 byte values belongs to exactly one class": the classes as numbers.
 unfoldable pub classTable : List ℕ

@@ -1,8 +1,7 @@
 -- Numbers of any size in a word of 64 bits and a flag. Assumes nothing.
 use mathlib.Core.Bool.{Bool, true, false, cond}
-use mathlib.Core.Path.{_≡_}
-use Prim.Native.Nat.{ℕ, _+_, _-_, _*_, _/_, _≤_}
-use lib.Dec.{ltb, leb}
+use Prim.Native.Nat.{ℕ, _+_, _-_, _*_, _/_}
+use lib.Dec.{ltb}
 use Rattle.lexer.specs.declared.numbers.Amount.{Amount}
 
 -- 2^64

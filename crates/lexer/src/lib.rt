@@ -6,10 +6,11 @@ mod words;
 
 use crate::numbers::Amount;
 pub use class_table::classes;
+use instructions::words::COUNT;
 pub use words::word;
-ghost use mathlib.Core.Bool.{true, false};
+ghost use mathlib.Core.Bool.{false};
 ghost use mathlib.Core.Path.{_≡_};
-ghost use Prim.Native.Nat.{_+_, _≤_, _<_};
+ghost use Prim.Native.Nat.{_≤_, _<_};
 ghost use lib.ListN.{length};
 ghost use Rattle.lexer.specs.Lexing.{classTable, lexerFrom, Passed, Onward, Stepped, Scanned, Finished};
 ghost use Rattle.lexer.specs.Advancing.{spellingAt, freshAt, begunAt, enteredAt, singleAt, endedAt, longerAt, numberAt, advancedAt, endsAt, findingAt};
@@ -55,7 +56,7 @@ pub struct Lexed {
 fn name_or_word(word: u8, length: usize) -> Token
     ensures { λ r. ⌜ r ≡ spellingAt word length ⌝ }
 {
-    if word == 52 {
+    if word == COUNT {
         return Token::Name(length);
     }
     Token::Word(word)

@@ -5,6 +5,7 @@ ghost use lib.ListN.{length};
 ghost use Rattle.laws.specs.Sections.{Bytes};
 ghost use Rattle.language.specs.Words.{wordOf};
 ghost use Rattle.lexer.specs.Keys.{packed, shortAt, longAt};
+use instructions::words::COUNT;
 
 // A name of at most 7 bytes as one number, which no other name has: its bytes with a 1 after them, the first byte lowest.
 fn key(name: &[u8]) -> u64
@@ -20,7 +21,7 @@ fn key(name: &[u8]) -> u64
     k
 }
 
-// The word of at most 7 bytes with this key, or 52.
+// The word of at most 7 bytes with this key, or the count of the words.
 fn short_word(key: u64) -> u8
     ensures { λ r. ⌜ r ≡ shortAt key ⌝ }
 {
@@ -65,11 +66,11 @@ fn short_word(key: u64) -> u8
         0x1706d756a => 48, // jump
         0x16e7275746572 => 50, // return
         0x1657661656c => 51, // leave
-        _ => 52,
+        _ => COUNT,
     }
 }
 
-// The word whose first 7 bytes and whose rest have these keys, or 52.
+// The word whose first 7 bytes and whose rest have these keys, or the count of the words.
 fn long_word(key: u64, rest: u64) -> u8
     requires { ⌜ 1 < rest ⌝ }
     ensures { λ r. ⌜ r ≡ longAt key rest ⌝ }
@@ -77,57 +78,57 @@ fn long_word(key: u64, rest: u64) -> u8
     match key {
         0x16f6974636e7566 => match rest {
             0x16e => 0, // function
-            _ => 52,
+            _ => COUNT,
         },
         0x165747369676572 => match rest {
             0x172 => 3, // register
-            _ => 52,
+            _ => COUNT,
         },
         0x169752e64616f6c => match rest {
             0x138 => 18, // load.ui8
             0x13631 => 20, // load.ui16
             0x13233 => 22, // load.ui32
             0x13436 => 24, // load.ui64
-            _ => 52,
+            _ => COUNT,
         },
         0x131692e64616f6c => match rest {
             0x136 => 19, // load.i16
-            _ => 52,
+            _ => COUNT,
         },
         0x133692e64616f6c => match rest {
             0x132 => 21, // load.i32
-            _ => 52,
+            _ => COUNT,
         },
         0x136692e64616f6c => match rest {
             0x134 => 23, // load.i64
-            _ => 52,
+            _ => COUNT,
         },
         0x16574672e706d63 => match rest {
             0x171 => 43, // cmp.gteq
-            _ => 52,
+            _ => COUNT,
         },
         0x165746c2e706d63 => match rest {
             0x171 => 44, // cmp.lteq
-            _ => 52,
+            _ => COUNT,
         },
         0x16f632e706d756a => match rest {
             0x1646e => 49, // jump.cond
-            _ => 52,
+            _ => COUNT,
         },
-        _ => 52,
+        _ => COUNT,
     }
 }
 
-// The number of the word that these bytes spell, or 52 where they spell none.
+// The number of the word that these bytes spell, or the count of the words where they spell none.
 pub fn word(name: &[u8]) -> u8
     ensures { λ r. ⌜ r ≡ wordOf (now (name .entry)) ⌝ }
 {
     let n = name.len();
     if n < 3 {
-        return 52;
+        return COUNT;
     }
     if 9 < n {
-        return 52;
+        return COUNT;
     }
     if n < 8 {
         return short_word(key(name));

@@ -2,14 +2,13 @@
 use mathlib.Core.List.{List}
 use mathlib.Core.Path.{_≡_, sym, ap, _∙_}
 use Prim.Native.Nat.{ℕ, suc, _+_, _-_, _≤_}
-use native.Mathlib.Nat.{zero-add}
 use native.Mathlib.Omega.{arith}
 use lib.ListN.{length}
-use Rattle.laws.proofs.Sums.{sum-from-suc}
+use Rattle.laws.proofs.OneMore.{sum-below-suc}
 use Rattle.language.specs.Programs.{rowsOf}
 use Rattle.language.specs.Table.{blockCount, blockFirst, blockRows, rowsBefore, decodeFunction}
 use Rattle.theorems.specs.TableLaw.{FunctionFits}
-use Rattle.theorems.proofs.TableView.{block-count, block-first-is, row-count}
+use Rattle.language.proofs.TableView.{block-count, block-first-is, row-count}
 
 module _ (t : List ℕ) (a : ℕ) (fits : FunctionFits (decodeFunction t a)) {n : ℕ} (count : n ≡ blockCount t a) where
   pub few-blocks : n ≤ 64
@@ -25,10 +24,9 @@ module _ (t : List ℕ) (a : ℕ) (fits : FunctionFits (decodeFunction t a)) {n 
   all-rows some {x} {y} p q =
       let first : blockFirst t a (n - 1) ≡ rowsBefore t a (n - 1) = block-first-is t a (fits .placed) (n - 1) (omega arith) in
       let next : n ≡ suc (n - 1) = omega arith in
-      let last : blockRows t a (0 + (n - 1)) ≡ blockRows t a (n - 1) = ap (blockRows t a) (zero-add (n - 1)) in
-      let sums : rowsBefore t a (suc (n - 1)) ≡ rowsBefore t a (n - 1) + blockRows t a (0 + (n - 1)) = sum-from-suc (blockRows t a) 0 (n - 1) in
+      let sums : rowsBefore t a (suc (n - 1)) ≡ rowsBefore t a (n - 1) + blockRows t a (n - 1) = sum-below-suc (blockRows t a) (n - 1) in
       let here : rowsBefore t a n ≡ rowsBefore t a (suc (n - 1)) = ap (rowsBefore t a) next in
-      cc-sum (p ∙ first) (q ∙ sym last) (rows-are ∙ here ∙ sums)
+      cc-sum (p ∙ first) q (rows-are ∙ here ∙ sums)
     where
       cc-sum : {u v w z k : ℕ} → u ≡ w → v ≡ z → k ≡ w + z → u + v ≡ k
       cc-sum e d h = omega arith

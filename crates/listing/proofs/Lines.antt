@@ -1,9 +1,8 @@
 -- The parts of a line, and lines one after the other. Assumes nothing.
 use mathlib.Core.List.{List, [], _∷_, _++_, map, append-assoc, append-nil}
-use mathlib.Core.Path.{_≡_, refl, sym, ap, _∙_, subst}
-use Prim.Native.Nat.{ℕ, zero, suc, _+_, _≤_, _<_}
+use mathlib.Core.Path.{_≡_, sym, ap, _∙_, subst}
+use Prim.Native.Nat.{ℕ, _+_, _≤_, _<_}
 use native.Mathlib.Nat.{zero-add}
-use native.Mathlib.Omega.{arith}
 use lib.ListN.{length}
 use Rattle.laws.specs.Lists.{gather, below}
 use Rattle.laws.proofs.Ranges.{map-from-append}
@@ -15,7 +14,7 @@ use Rattle.language.specs.Programs.{Func, rowsOf}
 use Rattle.language.specs.Table.{functionCount, functionAt, functionName, functionSsa, decodeFunction, decode}
 use Rattle.theorems.specs.TableLaw.{FunctionFits}
 use Rattle.theorems.proofs.TableSound.{accepted-fits}
-use Rattle.theorems.proofs.TableView.{function-count, function-is}
+use Rattle.language.proofs.TableView.{function-count, function-is}
 use Rattle.decimal.specs.Writing.{Written}
 use Rattle.decimal.proofs.Writings.{written-then}
 use Rattle.listing.specs.Lines.{sizesOf}
@@ -69,8 +68,5 @@ line-written t a p q {entry} {one} {two} {exit} {at} {b} {e} {end} u v w =
 -- ---- a table that was accepted
 
 module _ (t : List ℕ) (accepted : check (decode t) ≡ Verdict.accepted) where
-  pub few-functions : functionCount t ≤ 16
-  few-functions = omega (arith, function-count t, accepted-fits (decode t) accepted .functionCount)
-
   pub function-fits : (i : ℕ) → i < functionCount t → FunctionFits (decodeFunction t (functionAt i))
   function-fits i h = subst FunctionFits (function-is t i h) (accepted-fits (decode t) accepted .functions i (rw (function-count t) h))

@@ -1,14 +1,13 @@
 // The lines that a program prints: "a line for each function, tabs between: name, ssa, registers, blocks, instructions; or
 // `refused`, number, place." They go into a lent buffer; whoever prints them writes the bytes up to the place that is answered.
-ghost use mathlib.Core.List.{[], _∷_, _++_};
+ghost use mathlib.Core.List.{_∷_};
 ghost use mathlib.Core.Path.{_≡_};
-ghost use Prim.Native.Nat.{_+_, _*_, _<_, _≤_};
+ghost use Prim.Native.Nat.{_+_, _<_, _≤_};
 ghost use lib.ListN.{length};
-ghost use Rattle.language.specs.Bytes.{lineFeed};
 ghost use Rattle.language.specs.Checking.{Verdict, check};
 ghost use Rattle.language.specs.Listing.{tab, digits, functionLine, listingOf, refusedLine};
 ghost use Rattle.language.specs.Programs.{rowsOf};
-ghost use Rattle.language.specs.Table.{functionSsa, decodeFunction, decode};
+ghost use Rattle.language.specs.Table.{decodeFunction, decode, InTable, tableLength};
 ghost use Rattle.theorems.specs.TableLaw.{FunctionFits};
 ghost use Rattle.decimal.specs.Writing.{Written};
 ghost use Rattle.listing.specs.Lines.{sizesOf};
@@ -16,6 +15,7 @@ use decimal::put_digits;
 use table::block_count;
 use table::block_first;
 use table::block_rows;
+use table::function_at;
 use table::function_count;
 use table::function_name;
 use table::function_ssa;
@@ -26,11 +26,8 @@ const TAB: u8 = 9;
 
 const LINE_FEED: u8 = 10;
 
-// The cells of a function in a table.
-const FUNCTION: usize = 34697;
-
 // A tab and a number.
-pub fn put_number(n: u64, out: &mut [u8], at: usize) -> usize
+pub fn put_field(n: u64, out: &mut [u8], at: usize) -> usize
     requires { ⌜ at + 21 ≤ length (now out) ⌝ }
     ensures { λ r. ⌜ Written (now (out .entry)) at (tab ∷ digits n) (now (out .exit)) r × (r ≤ at + 21) ⌝ }
 {
@@ -40,7 +37,7 @@ pub fn put_number(n: u64, out: &mut [u8], at: usize) -> usize
 
 // How many rows a function has: its last block begins after those of all others.
 fn row_count(t: &[u8], a: usize) -> usize
-    requires { ⌜ (a + 34697 ≤ length (now t)) × FunctionFits (decodeFunction (now t) a) ⌝ }
+    requires { ⌜ (InTable (now t) a) × FunctionFits (decodeFunction (now t) a) ⌝ }
     ensures { λ r. ⌜ (r ≡ length (rowsOf (decodeFunction (now (t .entry)) a))) × (r < 131072) ⌝ }
 {
     let n = block_count(t, a);
@@ -53,37 +50,37 @@ fn row_count(t: &[u8], a: usize) -> usize
 
 // "registers, blocks, instructions", and the line's end.
 fn put_sizes(t: &[u8], a: usize, out: &mut [u8], at: usize) -> usize
-    requires { ⌜ (a + 34697 ≤ length (now t)) × FunctionFits (decodeFunction (now t) a) × (at + 64 ≤ length (now out)) ⌝ }
+    requires { ⌜ (InTable (now t) a) × FunctionFits (decodeFunction (now t) a) × (at + 64 ≤ length (now out)) ⌝ }
     ensures { λ r. ⌜ Written (now (out .entry)) at (sizesOf (decodeFunction (now (t .entry)) a)) (now (out .exit)) r × (r ≤ at + 64) ⌝ }
 {
-    let e = put_number(register_count(t, a) as u64, out, at);
-    let f = put_number(block_count(t, a) as u64, out, e);
-    let g = put_number(row_count(t, a) as u64, out, f);
+    let e = put_field(register_count(t, a) as u64, out, at);
+    let f = put_field(block_count(t, a) as u64, out, e);
+    let g = put_field(row_count(t, a) as u64, out, f);
     out[g] = LINE_FEED;
     g + 1
 }
 
 // The line of the function at cell a.
 fn put_line(t: &[u8], a: usize, out: &mut [u8], at: usize) -> usize
-    requires { ⌜ (a + 34697 ≤ length (now t)) × FunctionFits (decodeFunction (now t) a) × (at + 149 ≤ length (now out)) ⌝ }
+    requires { ⌜ (InTable (now t) a) × FunctionFits (decodeFunction (now t) a) × (at + 149 ≤ length (now out)) ⌝ }
     ensures { λ r. ⌜ Written (now (out .entry)) at (functionLine (decodeFunction (now (t .entry)) a)) (now (out .exit)) r × (r ≤ at + 149) ⌝ }
 {
     let name = function_name(t, a);
     put_bytes(out, at, name);
-    let e = put_number(function_ssa(t, a) as u64, out, at + name.len());
+    let e = put_field(function_ssa(t, a) as u64, out, at + name.len());
     put_sizes(t, a, out, e)
 }
 
 // The lines of an accepted table, from the buffer's beginning on: 16 of them, with at most 149 bytes each.
 pub fn list_program(t: &[u8], out: &mut [u8]) -> usize
-    requires { ⌜ (length (now t) ≡ 555153) × (check (decode (now t)) ≡ Verdict.accepted) × (2384 ≤ length (now out)) ⌝ }
+    requires { ⌜ (length (now t) ≡ tableLength) × (check (decode (now t)) ≡ Verdict.accepted) × (2384 ≤ length (now out)) ⌝ }
     ensures { λ r. ⌜ Written (now (out .entry)) 0 (listingOf (decode (now (t .entry)))) (now (out .exit)) r × (r ≤ 2384) ⌝ }
 {
     let n = function_count(t);
     let mut at = 0;
     let mut i = 0;
     while i < n {
-        at = put_line(t, 1 + FUNCTION * i, out, at);
+        at = put_line(t, function_at(i), out, at);
         i += 1;
     }
     at
@@ -95,8 +92,8 @@ pub fn list_refusal(number: u8, place: usize, out: &mut [u8]) -> usize
     ensures { λ r. ⌜ Written (now (out .entry)) 0 (refusedLine number place) (now (out .exit)) r × (r ≤ 50) ⌝ }
 {
     put_bytes(out, 0, b"refused");
-    let e = put_number(number as u64, out, 7);
-    let f = put_number(place as u64, out, e);
+    let e = put_field(number as u64, out, 7);
+    let f = put_field(place as u64, out, e);
     out[f] = LINE_FEED;
     f + 1
 }

@@ -1,11 +1,10 @@
-pub mod Ranks
 pub mod Here
 pub mod PhiLoops
-pub mod Ranking
+pub mod PhisLaws
 pub mod PhiSteps
-pub mod Starting
+pub mod StartsLaws
 pub mod Values
-pub mod Dispatch
+pub mod StepLaws
 pub mod Midway
 pub mod Passing
-pub mod Answering
+pub mod RunsLaws

@@ -1,14 +1,15 @@
 // The phi of a block: "All phi of a block read before any writes".
 ghost use mathlib.Core.Path.{_≡_};
 ghost use mathlib.Core.Bool.{true};
-ghost use Prim.Native.Nat.{_+_, _*_, _<_, _≤_};
+ghost use Prim.Native.Nat.{_<_};
 ghost use lib.ListN.{length};
-ghost use Rattle.language.specs.Table.{blockCount, decodeFunction};
+ghost use Rattle.language.specs.Table.{blockCount, decodeFunction, InTable};
 ghost use Rattle.language.specs.Checking.{goesTo};
 ghost use Rattle.theorems.specs.Clean.{Clean};
-ghost use Rattle.rules.specs.Prepared.{Sized, rankOf};
-ghost use Rattle.rules.specs.Preparing.{Flowed};
-ghost use Rattle.machine.specs.Phis.{Readable, Taken, written};
+ghost use Rattle.flow.specs.Sized.{Sized};
+ghost use Rattle.flow.specs.Predecessors.{rankOf, Flowed};
+ghost use Rattle.machine.specs.Phis.{Readable, Taken, phisWritten};
+use flow::rank;
 use table::block_first;
 use table::block_rows;
 use table::jump_first;
@@ -16,15 +17,8 @@ use table::phi_entry;
 use table::phi_first;
 use table::row_target;
 
-// A prepared number as an index.
-fn wide(x: u16) -> usize
-    ensures { λ r. ⌜ r ≡ x ⌝ }
-{
-    x as usize
-}
-
-// The place of block x among the predecessors of block b, which it goes to: prepared for each of the two blocks it may name.
-pub fn rank(t: &[u8], a: usize, m: &[u16], x: usize, b: usize) -> usize
+// The phi entry that a run takes which comes from block x to block b: the rank of x there, prepared for each of the two blocks it may name.
+pub fn entry_from(t: &[u8], a: usize, m: &[u16], x: usize, b: usize) -> usize
     requires { ⌜ Sized (now t) a × Clean (decodeFunction (now t) a) ⌝ }
     requires { ⌜ Flowed (decodeFunction (now t) a) (now m) (blockCount (now t) a) ⌝ }
     requires { ⌜ (x < blockCount (now t) a) × (goesTo (decodeFunction (now t) a) x b ≡ true) ⌝ }
@@ -32,9 +26,9 @@ pub fn rank(t: &[u8], a: usize, m: &[u16], x: usize, b: usize) -> usize
 {
     let last = block_first(t, a, x) + block_rows(t, a, x) - 1;
     if jump_first(t, a, last) == b {
-        return wide(m[640 + 2 * x]);
+        return rank(m, x, 0);
     }
-    wide(m[640 + 2 * x + 1])
+    rank(m, x, 1)
 }
 
 // What entry k of each phi holds, in row order.
@@ -47,7 +41,7 @@ fn read_phis(
     registers: &[u64],
     taken: &mut [u64],
 )
-    requires { ⌜ (a + 34697 ≤ length (now t)) × (length (now taken) ≡ 1024) ⌝ }
+    requires { ⌜ (InTable (now t) a) × (length (now taken) ≡ 1024) ⌝ }
     requires { ⌜ Readable (now t) a first n k (now registers) ⌝ }
     ensures { λ _. ⌜ Taken (now (t .entry)) a first n k (now (registers .entry)) (now (taken .exit)) ⌝ }
 {
@@ -68,10 +62,10 @@ fn write_phis(
     taken: &[u64],
     registers: &mut [u64],
 )
-    requires { ⌜ (a + 34697 ≤ length (now t)) × (length (now taken) ≡ 1024) ⌝ }
+    requires { ⌜ (InTable (now t) a) × (length (now taken) ≡ 1024) ⌝ }
     requires { ⌜ Readable (now t) a first n k (now registers) ⌝ }
     requires { ⌜ Taken (now t) a first n k (now registers) (now taken) ⌝ }
-    ensures { λ _. ⌜ now (registers .exit) ≡ written (now (t .entry)) a first k (now (registers .entry)) n ⌝ }
+    ensures { λ _. ⌜ now (registers .exit) ≡ phisWritten (now (t .entry)) a first k (now (registers .entry)) n ⌝ }
 {
     let mut i = 0;
     while i < n {
@@ -90,9 +84,9 @@ pub fn take_phis(
     taken: &mut [u64],
     registers: &mut [u64],
 )
-    requires { ⌜ (a + 34697 ≤ length (now t)) × (length (now taken) ≡ 1024) ⌝ }
+    requires { ⌜ (InTable (now t) a) × (length (now taken) ≡ 1024) ⌝ }
     requires { ⌜ Readable (now t) a first n k (now registers) ⌝ }
-    ensures { λ _. ⌜ now (registers .exit) ≡ written (now (t .entry)) a first k (now (registers .entry)) n ⌝ }
+    ensures { λ _. ⌜ now (registers .exit) ≡ phisWritten (now (t .entry)) a first k (now (registers .entry)) n ⌝ }
 {
     read_phis(t, a, first, n, k, registers, taken);
     write_phis(t, a, first, n, k, taken, registers);

@@ -1,35 +1,22 @@
 // What a run starts from: arguments that fit, and registers that hold them.
 ghost use mathlib.Core.Path.{_≡_};
 ghost use mathlib.Core.List.{_++_};
-ghost use Prim.Native.Nat.{_+_, _-_, _^_, _<_, _≤_};
-ghost use lib.Dec.{ltb};
+ghost use Prim.Native.Nat.{_+_, _-_, _≤_};
 ghost use lib.ListN.{length, replicate};
-ghost use Rattle.language.specs.Instructions.{width as widthOf};
-ghost use Rattle.language.specs.Table.{registerCount, decodeFunction};
+ghost use Rattle.language.specs.Table.{registerCount, decodeFunction, InTable};
 ghost use Rattle.language.specs.Running.{firstUnfit};
-use instructions::width;
+use instructions::number_fits;
 use table::register_type;
-
-// Whether a number is one of a type: below 2^w.
-fn fits(kind: u8, v: u64) -> bool
-    ensures { λ r. ⌜ r ≡ ltb v (2 ^ widthOf kind) ⌝ }
-{
-    let w = width(kind);
-    if w == 64 {
-        return true;
-    }
-    v >> w == 0
-}
 
 // The first argument not below 2^w, or their number: the place of 20.
 pub fn first_unfit(t: &[u8], a: usize, args: &[u64]) -> usize
-    requires { ⌜ (a + 34697 ≤ length (now t)) × (registerCount (now t) a ≤ 256) ⌝ }
+    requires { ⌜ (InTable (now t) a) × (registerCount (now t) a ≤ 256) ⌝ }
     requires { ⌜ length (now args) ≤ registerCount (now t) a ⌝ }
     ensures { λ r. ⌜ r ≡ firstUnfit (decodeFunction (now (t .entry)) a) (now (args .entry)) ⌝ }
 {
     let mut i = 0;
     while i < args.len() {
-        if !fits(register_type(t, a, i), args[i]) {
+        if !number_fits(args[i], register_type(t, a, i)) {
             return i;
         }
         i += 1;

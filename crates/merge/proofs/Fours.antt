@@ -194,6 +194,3 @@ judged-together t i budget ns args vs n m four a r l e =
 
 pub front-within : (xs ys : List ℕ) (n : ℕ) → length xs ≡ n → n ≤ length (xs ++ ys)
 front-within xs ys n e = simp length-append (omega (arith, e))
-
-pub part-size : (ns : List ℕ) (k e : ℕ) → k ≤ e → e ≤ length ns → length (take (e - k) (drop k ns)) ≡ e - k
-part-size ns k e l m = simp (length-take, length-drop) (omega arith)

@@ -2,7 +2,7 @@
 use mathlib.Core.Bool.{Bool, true, false, cond, _&&_}
 use mathlib.Core.List.{List, [], _∷_, map}
 use mathlib.Core.Logic.{_⊎_, inl, inr, _↔_}
-use mathlib.Core.Path.{_≡_, refl, sym, _∙_, ap, subst, subst⁻¹}
+use mathlib.Core.Path.{_≡_, refl, sym, _∙_, ap, subst⁻¹}
 use Prim.Native.Nat.{ℕ, _%_, _<_}
 use native.Mathlib.Omega.{arith}
 use lib.Dec.{eqb}
@@ -14,39 +14,39 @@ use Rattle.records.specs.declared.Record.{Record}
 use Rattle.records.specs.Records.{Sized}
 use Rattle.records.specs.Stores.{insert, inserts, Rising, AllSized, storeLength, storeCells, Holds}
 use Rattle.records.specs.Limits.{Test, limitAnswer, failOf, judged}
-use Rattle.records.specs.Answers.{Merged as Mergedᴿ, unchanged, emptied, Kept, Lent, StoreJoined, testsOf}
+use Rattle.records.specs.Answers.{MergedStore, unchanged, emptied, Kept, Lent, StoreJoined, testsOf}
 use Rattle.records.specs.Trees.{Tree, In, SizedIn, SameRecords, storeOf}
 use Rattle.records.proofs.Storing.{rising-insert, rising-inserts, sized-insert, sized-inserts}
-use Rattle.merge.specs.declared.answers.Merged.{Merged}
-use Rattle.merge.specs.Calls.{verdictOf, mergedOf}
+use Rattle.merge.specs.declared.results.Merged.{Merged}
+use Rattle.merge.specs.Calls.{mergedVerdict, mergedOf}
 use Rattle.merge.specs.Histories.{History, Refused, Leaves, adds, acceptedIn, OneOf, Merges, SizedTest, SizedTests, LeavesWinners, RefusalsLeave}
 use Rattle.merge.proofs.Refusing.{not-both, allowed-done, lent-done, lent-refused, allowed-refused, harmless-refused, kept-done}
 
 -- ---- refusals
 
-emptied-refused : (s : List ℕ) (m : Mergedᴿ) {k p : ℕ} → m ≡ emptied s → m .answer ≡ Verdict.refused k p → m .store ≡ s
+emptied-refused : (s : List ℕ) (m : MergedStore) {k p : ℕ} → m ≡ emptied s → m .answer ≡ Verdict.refused k p → m .store ≡ s
 unfolding emptied
 emptied-refused s m {k} {p} c e = by (eqb (length s) storeLength) c
   where
     by : (b : Bool) → m ≡ cond b (record { answer = Verdict.accepted; store = storeCells [] }) (unchanged s 22 0) → m .store ≡ s
-    by true d = absurd (not-both (sym (ap (λ (m : Mergedᴿ). m .answer) d) ∙ e))
-    by false d = ap (λ (m : Mergedᴿ). m .store) d
+    by true d = absurd (not-both (sym (ap (λ (m : MergedStore). m .answer) d) ∙ e))
+    by false d = ap (λ (m : MergedStore). m .store) d
 
-emptied-done : (s : List ℕ) (m : Mergedᴿ) → m ≡ emptied s → m .answer ≡ Verdict.accepted → m .store ≡ storeCells []
+emptied-done : (s : List ℕ) (m : MergedStore) → m ≡ emptied s → m .answer ≡ Verdict.accepted → m .store ≡ storeCells []
 unfolding emptied
 emptied-done s m c e = by (eqb (length s) storeLength) c
   where
     by : (b : Bool) → m ≡ cond b (record { answer = Verdict.accepted; store = storeCells [] }) (unchanged s 22 0) → m .store ≡ storeCells []
-    by true d = ap (λ (m : Mergedᴿ). m .store) d
-    by false d = absurd (not-both (sym e ∙ ap (λ (m : Mergedᴿ). m .answer) d))
+    by true d = ap (λ (m : MergedStore). m .store) d
+    by false d = absurd (not-both (sym e ∙ ap (λ (m : MergedStore). m .answer) d))
 
 pub refusals-leave : RefusalsLeave
 refusals-leave s s′ (Refused.byRecord t i budget x r k p c e) =
-    let P : Mergedᴿ → Type 0 = Kept s (insert (judged t i budget x)) in
+    let P : MergedStore → Type 0 = Kept s (insert (judged t i budget x)) in
     allowed-refused s (Lent (eqb (length s) storeLength) s P) (mergedOf r s′) (limitAnswer t i)
     (lent-refused s P (mergedOf r s′) (eqb (length s) storeLength) (λ h. harmless-refused (h .harmless) e)) c
 refusals-leave s s′ (Refused.byRecords t i budget ns r k p c e) =
-    let P : Mergedᴿ → Type 0 = Kept s (inserts (map (judged t i budget) (testsOf ns))) in
+    let P : MergedStore → Type 0 = Kept s (inserts (map (judged t i budget) (testsOf ns))) in
     let b = eqb (length s) storeLength && eqb (length ns % 4) 0 in
     allowed-refused s (Lent b s P) (mergedOf r s′) (limitAnswer t i) (lent-refused s P (mergedOf r s′) b (λ h. harmless-refused (h .harmless) e)) c
 refusals-leave s s′ (Refused.byStore u r k p c e) =
@@ -144,12 +144,12 @@ module _ (t : List ℕ) (i budget : ℕ) where
 
   -- a call that is done has put f of the records there
   kept-holds :
-      (s s′ : List ℕ) (f : List Record → List Record) (r : Merged) (es : List Record) → Kept s f (mergedOf r s′) → verdictOf r ≡ Verdict.accepted → Holds s es
+      (s s′ : List ℕ) (f : List Record → List Record) (r : Merged) (es : List Record) → Kept s f (mergedOf r s′) → mergedVerdict r ≡ Verdict.accepted → Holds s es
       → Rising (f es) → AllSized (f es) → Holds s′ (f es)
   kept-holds s s′ f r es c e h up z =
       let is = c .held es h in
-      let d = kept-done s (f es) (sym (ap (λ (m : Mergedᴿ). m .answer) is) ∙ e) in
-      record { rising = up; sized = z; room = d .0; bytes = ap (λ (m : Mergedᴿ). m .store) is ∙ d .1 }
+      let d = kept-done s (f es) (sym (ap (λ (m : MergedStore). m .answer) is) ∙ e) in
+      record { rising = up; sized = z; room = d .0; bytes = ap (λ (m : MergedStore). m .store) is ∙ d .1 }
 
   pub leaves-winners : (h : History) (s : List ℕ) → SizedTests h → Leaves t i budget h s → Holds s (storeOf (acceptedIn t i budget h))
   unfolding storeOf
@@ -158,7 +158,7 @@ module _ (t : List ℕ) (i budget : ℕ) where
   leaves-winners (History.add x h) s z l =
       let s₀ = l .0 in
       let r = l .1 .0 in
-      let P : Mergedᴿ → Type 0 = Kept s₀ (insert (judged t i budget x)) in
+      let P : MergedStore → Type 0 = Kept s₀ (insert (judged t i budget x)) in
       let c = allowed-done s₀ (Lent (eqb (length s₀) storeLength) s₀ P) (mergedOf r s) (limitAnswer t i) (l .1 .1 .1 .0) (l .1 .1 .1 .1) in
       let k = lent-done s₀ P (mergedOf r s) (eqb (length s₀) storeLength) (c .1) (l .1 .1 .1 .1) in
       let g = leaves-winners h s₀ (λ y m. z y (inr m)) (l .1 .1 .0) in
@@ -169,7 +169,7 @@ module _ (t : List ℕ) (i budget : ℕ) where
       let s₀ = l .0 in
       let r = l .1 .0 in
       let rs = map (judged t i budget) (testsOf ns) in
-      let P : Mergedᴿ → Type 0 = Kept s₀ (inserts rs) in
+      let P : MergedStore → Type 0 = Kept s₀ (inserts rs) in
       let b = eqb (length s₀) storeLength && eqb (length ns % 4) 0 in
       let c = allowed-done s₀ (Lent b s₀ P) (mergedOf r s) (limitAnswer t i) (l .1 .1 .1 .0) (l .1 .1 .1 .1) in
       let k = lent-done s₀ P (mergedOf r s) b (c .1) (l .1 .1 .1 .1) in
@@ -188,12 +188,12 @@ module _ (t : List ℕ) (i budget : ℕ) where
       let g = leaves-winners h s₀ (λ y m. z y (inl m)) (l .1 .1 .1 .0) in
       let f = leaves-winners k u (λ y m. z y (inr m)) (l .1 .1 .1 .1 .0) in
       let is = c .held es fs g f in
-      let d = kept-done s₀ (inserts fs es) (sym (ap (λ (m : Mergedᴿ). m .answer) is) ∙ l .1 .1 .1 .1 .1 .1) in
+      let d = kept-done s₀ (inserts fs es) (sym (ap (λ (m : MergedStore). m .answer) is) ∙ l .1 .1 .1 .1 .1 .1) in
       record {
         rising = rising-inserts fs es (g .rising);
         sized = sized-inserts fs es (f .sized) (g .sized);
         room = d .0;
-        bytes = ap (λ (m : Mergedᴿ). m .store) is ∙ d .1;
+        bytes = ap (λ (m : MergedStore). m .store) is ∙ d .1;
       }
   leaves-winners (History.refused h) s z l =
       subst⁻¹ (λ (s : List ℕ). Holds s (storeOf (acceptedIn t i budget h))) (refusals-leave (l .0) s (l .1 .1)) (leaves-winners h (l .0) z (l .1 .0))

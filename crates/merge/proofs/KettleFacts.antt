@@ -24,17 +24,17 @@ use Rattle.theorems.proofs.TableSound.{accepted-held}
 use Rattle.theorems.proofs.OverTables.{demand3-over-tables, run-answer}
 use Rattle.theorems.proofs.Turn.{translatable-cells}
 use Rattle.records.specs.declared.Record.{Record}
-use Rattle.records.specs.Records.{greater, lower, meant, larger, wins, best}
-use Rattle.records.specs.Stores.{Found, inserts, lookup}
+use Rattle.records.specs.Records.{compared, meant, larger, wins, best}
+use Rattle.records.specs.Stores.{FoundRecord, inserts, lookup}
 use Rattle.records.specs.Limits.{Test, limitAnswer, failOf, judged}
 use Rattle.records.specs.Answers.{Looked}
 use Rattle.records.specs.Trees.{In, Winner, storeOf}
 use Rattle.records.proofs.RecordFacts.{ways}
 use Rattle.records.proofs.Order.{wins-self}
 use Rattle.records.proofs.Trees.{one-winner}
-use Rattle.merge.specs.declared.answers.Merged.{Merged}
-use Rattle.merge.specs.declared.answers.Look.{Look}
-use Rattle.merge.specs.Calls.{verdictOf, lookOf, StoreCalled, LookCalled}
+use Rattle.merge.specs.declared.results.Merged.{Merged}
+use Rattle.merge.specs.declared.results.Look.{Look}
+use Rattle.merge.specs.Calls.{mergedVerdict, lookOf, StoreCalled, LookCalled}
 use Rattle.merge.specs.Histories.{History, Leaves, acceptedIn, Merges, SizedTest, SizedTests}
 use Rattle.merge.specs.Translated.{Suffices, TranslatedTo}
 use Rattle.merge.specs.Possible.{Whole}
@@ -133,29 +133,29 @@ failed = record { appliance = 417; time = 850; fail = 1; tablet = 2; reading = 4
 
 -- However x and y are merged, one after the other or as two stores, in either order, the kettle's record is then w.
 abbrev pub Answered : Record → Record → Record → Type 0
-Answered x y w = map (lookup 417) (ways x y) ≡ map (λ s. Found.found w) (ways x y)
+Answered x y w = map (lookup 417) (ways x y) ≡ map (λ s. FoundRecord.found w) (ways x y)
 
 -- Both are judged by the function as written; then the afternoon's, on the tablet, by its translation.
 pub office-answers : Answered (judgedBy limit 18 afternoon) (judgedBy limit 18 morning) failed
-unfolding computing limit greater lower meant larger wins best inserts storeOf
+unfolding computing limit compared meant larger wins best inserts storeOf
 office-answers = refl
 
 pub tablet-answers : Answered (judgedBy (translation limit) 54 afternoon) (judgedBy limit 18 morning) failed
-unfolding computing limit greater lower meant larger wins best inserts storeOf
+unfolding computing limit compared meant larger wins best inserts storeOf
 tablet-answers = refl
 
 -- ---- of its table, and of calls
 
-abbrev pub written : List ℕ
-written = cells (limit ∷ [])
+abbrev pub asWritten : List ℕ
+asWritten = cells (limit ∷ [])
 
 abbrev pub translated : List ℕ
 translated = cells (translation limit ∷ [])
 
-holds : decode written ≡ limit ∷ []
+holds : decode asWritten ≡ limit ∷ []
 holds = accepted-held (limit ∷ []) limit-accepted .back
 
-here : functionInTable written 0 ≡ limit
+here : functionInTable asWritten 0 ≡ limit
 here = ap (λ (p : Program). getD p 0 noFunction) holds
 
 limit-marked : T (isSsa limit)
@@ -166,37 +166,37 @@ limit-sized : T (translationFits limit)
 unfolding computing limit
 limit-sized = _
 
-limit-translatable : TranslatableIn written 0
+limit-translatable : TranslatableIn asWritten 0
 limit-translatable =
     translatable-cells (limit ∷ []) 0 (record { passes = limit-accepted; there = omega arith; marked = limit-marked; sized = limit-sized })
 
 -- The premises of the laws hold: it is allowed, and it is translated.
-limit-there : Limit written 0
+limit-there : Limit asWritten 0
 limit-there = record { passes = limit-translatable .passes; there = limit-translatable .there; signature = rw (here, limit-signature) tt }
 
-pub written-allowed : limitAnswer written 0 ≡ Verdict.accepted
-written-allowed = limit-allowed written 0 limit-there
+pub written-allowed : limitAnswer asWritten 0 ≡ Verdict.accepted
+written-allowed = limit-allowed asWritten 0 limit-there
 
-pub written-translated : TranslatedTo written 0 translated
+pub written-translated : TranslatedTo asWritten 0 translated
 written-translated =
-    let d = demand3-over-tables written 0 limit-translatable in
+    let d = demand3-over-tables asWritten 0 limit-translatable in
     let w = d .written ∙ ap (λ (f : Func). cells (translation f ∷ [])) here in
     λ j. record { answer = d .done j; table = w j }
 
 -- What its table judges is what its run says.
-judged-written : (b : ℕ) (x : Test) → x .reading < 2 ^ 64 → judged written 0 b x ≡ judgedBy limit b x
+judged-written : (b : ℕ) (x : Test) → x .reading < 2 ^ 64 → judged asWritten 0 b x ≡ judgedBy limit b x
 unfolding judged
 judged-written b x l =
-    let fits = reading-fits (functionInTable written 0) (limit-there .signature) (x .reading) l in
-    let ran = run-answer written 0 (x .reading ∷ []) b maxRegisters (limit-there .passes) (limit-there .there) fits (limit-room written 0 limit-there) in
+    let fits = reading-fits (functionInTable asWritten 0) (limit-there .signature) (x .reading) l in
+    let ran = run-answer asWritten 0 (x .reading ∷ []) b maxRegisters (limit-there .passes) (limit-there .there) fits (limit-room asWritten 0 limit-there) in
     ap
     (λ (v : Ran). record { appliance = x .appliance; time = x .time; fail = failOf v; tablet = x .tablet; reading = x .reading })
     (ran ∙ ap (λ (f : Func). ranOn f b x) here)
 
-pub morning-judged : judged written 0 18 morning ≡ passed
+pub morning-judged : judged asWritten 0 18 morning ≡ passed
 morning-judged = judged-written 18 morning (omega arith) ∙ ap (λ (v : Ran). record { appliance = 417; time = 570; fail = failOf v; tablet = 1; reading = 90 }) morning-passes
 
-pub afternoon-judged : judged written 0 18 afternoon ≡ failed
+pub afternoon-judged : judged asWritten 0 18 afternoon ≡ failed
 afternoon-judged = judged-written 18 afternoon (omega arith) ∙ ap (λ (v : Ran). record { appliance = 417; time = 850; fail = failOf v; tablet = 2; reading = 450 }) afternoon-fails
 
 -- Budgets 18 and 54 suffice for both.
@@ -209,7 +209,7 @@ returned-ends f x n v = by (runOf f (x .reading ∷ []) n) refl
     by (Run.ended Outcome.left p g) q e = absurd (let z : _≡_ {A = ℕ} 0 1 = cc in omega arith)
     by (Run.ended (Outcome.stopped k) p g) q e = absurd (let z : _≡_ {A = ℕ} 0 1 = cc in omega arith)
 
-enough : (x : Test) (v : ℕ) → ranOn limit 18 x ≡ Ran.returned v 18 → Suffices written 0 18 54 x
+enough : (x : Test) (v : ℕ) → ranOn limit 18 x ≡ Ran.returned v 18 → Suffices asWritten 0 18 54 x
 enough x v e =
     let ends = subst⁻¹ (λ (f : Func). Ends f (x .reading ∷ []) 18 (Outcome.returned v)) here (returned-ends limit x 18 v e) in
     (18, (Outcome.returned v, (ends, (omega arith, omega arith))))
@@ -226,12 +226,12 @@ both-sized h e x m = by (e x .0 m)
     by (inr d) = subst⁻¹ SizedTest d (record { appliance = omega arith; time = omega arith; tablet = omega arith; reading = omega arith })
 
 fail-wins : wins failed passed ≡ true
-unfolding computing greater lower meant larger wins
+unfolding computing compared meant larger wins
 fail-wins = refl
 
 -- In whatever order, grouping and repetition the two come in, the store answers the fail.
 module _ (t : List ℕ) (i budget : ℕ) (pass : judged t i budget morning ≡ passed) (fail : judged t i budget afternoon ≡ failed) where
-  winner : (h : History) → Both h → Winner (acceptedIn t i budget h) 417 (Found.found failed)
+  winner : (h : History) → Both h → Winner (acceptedIn t i budget h) 417 (FoundRecord.found failed)
   winner h e = (
     subst (λ (r : Record). In r (acceptedIn t i budget h)) fail (merged-in t i budget h afternoon (e afternoon .1 (inr refl))),
     refl,
@@ -242,54 +242,54 @@ module _ (t : List ℕ) (i budget : ℕ) (pass : judged t i budget morning ≡ p
       by r (inl d) q = subst⁻¹ (λ (r : Record). wins failed r ≡ true) (q ∙ ap (judged t i budget) d ∙ pass) fail-wins
       by r (inr d) q = subst⁻¹ (λ (r : Record). wins failed r ≡ true) (q ∙ ap (judged t i budget) d ∙ fail) (wins-self failed)
 
-  answers-fail : (h : History) (s : List ℕ) (r : Look) → Both h → Leaves t i budget h s → LookCalled s 417 r → r ≡ lookOf (Looked.looked (Found.found failed))
+  answers-fail : (h : History) (s : List ℕ) (r : Look) → Both h → Leaves t i budget h s → LookCalled s 417 r → r ≡ lookOf (Looked.looked (FoundRecord.found failed))
   answers-fail h s r e l c =
       let z = both-sized h e in
       let f = look-of-calls t i budget h s 417 r z l c in
-      f .1 .1 ∙ ap (λ (f : Found). lookOf (Looked.looked f)) (one-winner (acceptedIn t i budget h) 417 (f .0) (Found.found failed) (accepted-sized t i budget h z) (f .1 .0) (winner h e))
+      f .1 .1 ∙ ap (λ (f : FoundRecord). lookOf (Looked.looked f)) (one-winner (acceptedIn t i budget h) 417 (f .0) (FoundRecord.found failed) (accepted-sized t i budget h z) (f .1 .0) (winner h e))
 
 -- The office's store, by the function as written, and the tablet's, by its translation.
 pub office-looks :
-    (h : History) (s : List ℕ) (r : Look) → Both h → Leaves written 0 18 h s → LookCalled s 417 r → r ≡ lookOf (Looked.looked (Found.found failed))
-office-looks = answers-fail written 0 18 morning-judged afternoon-judged
+    (h : History) (s : List ℕ) (r : Look) → Both h → Leaves asWritten 0 18 h s → LookCalled s 417 r → r ≡ lookOf (Looked.looked (FoundRecord.found failed))
+office-looks = answers-fail asWritten 0 18 morning-judged afternoon-judged
 
 pub tablet-looks :
-    (h : History) (s : List ℕ) (r : Look) → Both h → Leaves translated 0 54 h s → LookCalled s 417 r → r ≡ lookOf (Looked.looked (Found.found failed))
+    (h : History) (s : List ℕ) (r : Look) → Both h → Leaves translated 0 54 h s → LookCalled s 417 r → r ≡ lookOf (Looked.looked (FoundRecord.found failed))
 tablet-looks =
-    let v = verdicts-translated written 0 translated written-allowed written-translated in
+    let v = verdicts-translated asWritten 0 translated written-allowed written-translated in
     answers-fail translated 0 54 (sym (v .verdicts 18 54 morning (omega arith) (enough morning 1 morning-passes)) ∙ morning-judged)
     (sym (v .verdicts 18 54 afternoon (omega arith) (enough afternoon 0 afternoon-fails)) ∙ afternoon-judged)
 
 -- Budgets 18 and 54 suffice where the two tests alone are merged.
-both-suffices : (x : Test) → (x ≡ morning) ⊎ (x ≡ afternoon) → Suffices written 0 18 54 x
-both-suffices x (inl d) = subst⁻¹ (Suffices written 0 18 54) d (enough morning 1 morning-passes)
-both-suffices x (inr d) = subst⁻¹ (Suffices written 0 18 54) d (enough afternoon 0 afternoon-fails)
+both-suffices : (x : Test) → (x ≡ morning) ⊎ (x ≡ afternoon) → Suffices asWritten 0 18 54 x
+both-suffices x (inl d) = subst⁻¹ (Suffices asWritten 0 18 54) d (enough morning 1 morning-passes)
+both-suffices x (inr d) = subst⁻¹ (Suffices asWritten 0 18 54) d (enough afternoon 0 afternoon-fails)
 
 -- And their bytes are the same.
-pub same-bytes : (h : History) (s u : List ℕ) → Both h → Leaves written 0 18 h s → Leaves translated 0 54 h u → s ≡ u
+pub same-bytes : (h : History) (s u : List ℕ) → Both h → Leaves asWritten 0 18 h s → Leaves translated 0 54 h u → s ≡ u
 same-bytes h s u e =
-    stores-translated written 0 translated 18 54 h s u written-allowed written-translated (both-sized h e) (λ x m. inl (both-suffices x (e x .0 m)))
+    stores-translated asWritten 0 translated 18 54 h s u written-allowed written-translated (both-sized h e) (λ x m. inl (both-suffices x (e x .0 m)))
 
 -- The tablet's store merged into the office's: the office then answers the fail.
 pub handed-in-looks :
     (h k : History) (s u s′ : List ℕ) (m : Merged) (r : Look)
     → Both (History.join h k)
-    → Leaves written 0 18 h s
+    → Leaves asWritten 0 18 h s
     → Leaves translated 0 54 k u
     → StoreCalled u s m s′
-    → verdictOf m ≡ Verdict.accepted
+    → mergedVerdict m ≡ Verdict.accepted
     → LookCalled s′ 417 r
-    → r ≡ lookOf (Looked.looked (Found.found failed))
+    → r ≡ lookOf (Looked.looked (FoundRecord.found failed))
 handed-in-looks h k s u s′ m r e l d c a =
     let z = both-sized (History.join h k) e in
-    let w = leaves-translated written 0 translated 18 54 k u written-allowed written-translated (λ x n. z x (inr n)) (λ x n. inl (both-suffices x (e x .0 (inr n)))) d in
+    let w = leaves-translated asWritten 0 translated 18 54 k u written-allowed written-translated (λ x n. z x (inr n)) (λ x n. inl (both-suffices x (e x .0 (inr n)))) d in
     office-looks (History.join h k) s′ r e (s, (u, (m, (l, (w, (c, a))))))
 
 -- ---- and there are such stores
 
-both-left : (h : History) → Both h → Whole h → (s : List ℕ) × Leaves written 0 18 h s
+both-left : (h : History) → Both h → Whole h → (s : List ℕ) × Leaves asWritten 0 18 h s
 both-left h e w =
-    can-be-left written 0 18 h (417 ∷ []) written-allowed (both-sized h e) w (λ y m. by (e y .0 m)) (omega arith)
+    can-be-left asWritten 0 18 h (417 ∷ []) written-allowed (both-sized h e) w (λ y m. by (e y .0 m)) (omega arith)
   where
     by : {y : Test} → (y ≡ morning) ⊎ (y ≡ afternoon) → T (member (y .appliance) (417 ∷ []))
     by (inl d) = subst⁻¹ (λ (y : Test). T (member (y .appliance) (417 ∷ []))) d tt
@@ -327,8 +327,8 @@ both-in-two x = (there, back)
     back (inl e) = inl (inl e)
     back (inr e) = inr (inl e)
 
-pub one-store-left : Both oneStore × ((s : List ℕ) × Leaves written 0 18 oneStore s)
+pub one-store-left : Both oneStore × ((s : List ℕ) × Leaves asWritten 0 18 oneStore s)
 one-store-left = (both-in-one, both-left oneStore both-in-one tt)
 
-pub two-stores-left : Both twoStores × ((s : List ℕ) × Leaves written 0 18 twoStores s)
+pub two-stores-left : Both twoStores × ((s : List ℕ) × Leaves asWritten 0 18 twoStores s)
 two-stores-left = (both-in-two, both-left twoStores both-in-two (tt, tt))

@@ -11,23 +11,23 @@ use borrow.Author.Tests.{eq-eqb}
 use Rattle.laws.specs.Lists.{member}
 use Rattle.language.specs.Checking.{Verdict}
 use Rattle.records.specs.declared.Record.{Record}
-use Rattle.records.specs.Stores.{Found, insert, inserts, lookup, nth, capacity, storeLength, storeCells, Holds, recordsOf}
+use Rattle.records.specs.Stores.{FoundRecord, insert, inserts, lookup, nth, capacity, storeLength, storeCells, Holds, recordsOf}
 use Rattle.records.specs.Limits.{Test, limitAnswer, judged}
-use Rattle.records.specs.Answers.{Merged as Mergedᴿ, Looked, kept, Kept, Lent, Allowed, StoreJoined, LentToLook, LookedIn, testsOf}
+use Rattle.records.specs.Answers.{MergedStore, Looked, kept, Kept, Lent, Allowed, StoreJoined, LentToLook, LookedIn, testsOf}
 use Rattle.records.specs.Trees.{Tree, In, Winner, storeOf}
 use Rattle.records.proofs.Trees.{any-order, merged-twice, answers-winner, room-for-so-many}
 use Rattle.records.proofs.Cells.{held-length, held-records}
-use Rattle.merge.specs.declared.answers.Merged.{Merged}
-use Rattle.merge.specs.Calls.{verdictOf, mergedOf, lookOf, RecordCalled, RecordsCalled}
+use Rattle.merge.specs.declared.results.Merged.{Merged}
+use Rattle.merge.specs.Calls.{mergedVerdict, mergedOf, lookOf, RecordCalled, RecordsCalled}
 use Rattle.merge.specs.Histories.{History, Leaves, acceptedIn, OneOf, Merges, SizedTests, AnyOrderOfCalls, TwiceOfCalls, TwiceOfRecords, LookOfCalls, NthOfCalls, RoomOfCalls, RoomOfRecords, RoomOfStores, FullExactly}
 use Rattle.merge.proofs.Refusing.{allowed-done, kept-room, kept-none, kept-full}
 use Rattle.merge.proofs.Newcomers.{longer-by-one, as-long}
 use Rattle.merge.proofs.Histories.{judged-appliance, merged-in, in-merged, accepted-sized, same-records, leaves-winners, store-adds}
 
-abbrev answerOf : Mergedᴿ → Verdict
-answerOf m = m .answer
+abbrev answerIn : MergedStore → Verdict
+answerIn m = m .answer
 
-abbrev storeIn : Mergedᴿ → List ℕ
+abbrev storeIn : MergedStore → List ℕ
 storeIn m = m .store
 
 pub any-order-of-calls : AnyOrderOfCalls
@@ -38,7 +38,7 @@ any-order-of-calls t i budget h k s u z e l m =
     hs .bytes ∙ ap storeCells o ∙ sym (ks .bytes)
 
 -- a store lent to be merged into has the right length
-lent-is : (s : List ℕ) (P : Mergedᴿ → Type 0) (m : Mergedᴿ) {es : List Record} → Holds s es → Lent (eqb (length s) storeLength) s P m → P m
+lent-is : (s : List ℕ) (P : MergedStore → Type 0) (m : MergedStore) {es : List Record} → Holds s es → Lent (eqb (length s) storeLength) s P m → P m
 lent-is s P m h c = subst (λ (b : Bool). Lent b s P m) (eq-eqb (length s) storeLength (held-length h)) c
 
 -- a test that was merged has a limit function that is allowed
@@ -60,7 +60,7 @@ recorded :
     → RecordCalled t i budget x s r s′ → mergedOf r s′ ≡ kept s (insert (judged t i budget x) (storeOf (acceptedIn t i budget h)))
 recorded t i budget h s x r s′ z l a c =
     let g = leaves-winners t i budget h s z l in
-    let P : Mergedᴿ → Type 0 = Kept s (insert (judged t i budget x)) in
+    let P : MergedStore → Type 0 = Kept s (insert (judged t i budget x)) in
     let d : Lent (eqb (length s) storeLength) s P (mergedOf r s′) = subst (λ (v : Verdict). Allowed v s (Lent (eqb (length s) storeLength) s P) (mergedOf r s′)) a c in
     lent-is s P (mergedOf r s′) g d .held (storeOf (acceptedIn t i budget h)) g
 
@@ -70,7 +70,7 @@ recorded-many :
     → length ns % 4 ≡ 0 → RecordsCalled t i budget ns s r s′ → mergedOf r s′ ≡ kept s (inserts (map (judged t i budget) (testsOf ns)) (storeOf (acceptedIn t i budget h)))
 recorded-many t i budget h s ns r s′ z l a four c =
     let g = leaves-winners t i budget h s z l in
-    let P : Mergedᴿ → Type 0 = Kept s (inserts (map (judged t i budget) (testsOf ns))) in
+    let P : MergedStore → Type 0 = Kept s (inserts (map (judged t i budget) (testsOf ns))) in
     let d : Lent (eqb (length s) storeLength && eqb (length ns % 4) 0) s P (mergedOf r s′) =
     subst (λ (v : Verdict). Allowed v s (Lent (eqb (length s) storeLength && eqb (length ns % 4) 0) s P) (mergedOf r s′)) a c in
     let lengths : (eqb (length s) storeLength && eqb (length ns % 4) 0) ≡ true = rw (eq-eqb (length s) storeLength (held-length g), eq-eqb (length ns % 4) 0 four) refl in
@@ -92,7 +92,7 @@ twice-of-calls t i budget h s x r s′ z l m c =
     let same : insert (judged t i budget x) (storeOf u) ≡ storeOf u =
     store-add (judged t i budget x) u ∙ merged-twice (judged t i budget x) u (accepted-sized t i budget h z) (merged-in t i budget h x m) in
     let is = recorded t i budget h s x r s′ z l (allowed-of t i budget h s x l m) c ∙ ap (kept s) same ∙ kept-room s (storeOf u) (g .room) in
-    (ap answerOf is, ap storeIn is ∙ sym (g .bytes))
+    (ap answerIn is, ap storeIn is ∙ sym (g .bytes))
 
 pub twice-of-records : TwiceOfRecords
 twice-of-records t i budget h s ns r s′ z l all four a c =
@@ -101,7 +101,7 @@ twice-of-records t i budget h s ns r s′ z l all four a c =
     let same : storeOf u ≡ storeOf (acceptedIn t i budget (History.many ns h)) =
     any-order u (acceptedIn t i budget (History.many ns h)) (accepted-sized t i budget h z) (same-records t i budget h (History.many ns h) (λ x. (inr, back x))) in
     let is = recorded-many t i budget h s ns r s′ z l a four c ∙ ap (kept s) (sym (store-adds t i budget (testsOf ns) u) ∙ sym same) ∙ kept-room s (storeOf u) (g .room) in
-    (ap answerOf is, ap storeIn is ∙ sym (g .bytes))
+    (ap answerIn is, ap storeIn is ∙ sym (g .bytes))
   where
     back : (x : Test) → OneOf x (testsOf ns) ⊎ Merges x h → Merges x h
     back x (inl o) = all x o
@@ -130,31 +130,31 @@ those-of t i budget h list f r n =
     subst⁻¹ (λ (a : ℕ). T (member a list)) e (f (m .0) (m .1 .0))
 
 -- a call answers what its limit function is answered, where it is done once that is allowed
-answers-limit : (s : List ℕ) (P : Mergedᴿ → Type 0) (m : Mergedᴿ) (v : Verdict) → Allowed v s P m → (v ≡ Verdict.accepted → m .answer ≡ Verdict.accepted) → m .answer ≡ v
+answers-limit : (s : List ℕ) (P : MergedStore → Type 0) (m : MergedStore) (v : Verdict) → Allowed v s P m → (v ≡ Verdict.accepted → m .answer ≡ Verdict.accepted) → m .answer ≡ v
 answers-limit s P m Verdict.accepted c f = f refl
-answers-limit s P m (Verdict.refused k p) c f = ap answerOf c
+answers-limit s P m (Verdict.refused k p) c f = ap answerIn c
 
 pub room-of-calls : RoomOfCalls
 room-of-calls t i budget h s x r s′ list z l f room c =
     answers-limit s (Lent (eqb (length s) storeLength) s (Kept s (insert (judged t i budget x)))) (mergedOf r s′) (limitAnswer t i) c done
   where
-    done : limitAnswer t i ≡ Verdict.accepted → verdictOf r ≡ Verdict.accepted
+    done : limitAnswer t i ≡ Verdict.accepted → mergedVerdict r ≡ Verdict.accepted
     done a =
         let u = acceptedIn t i budget h in
         let short = room-for-so-many (Tree.add (judged t i budget x) u) list (those-of t i budget (History.add x h) list f) room in
         let is = recorded t i budget h s x r s′ (λ y m. z y (inr m)) l a c ∙ ap (kept s) (store-add (judged t i budget x) u) in
-        ap answerOf (is ∙ kept-room s (storeOf (Tree.add (judged t i budget x) u)) short)
+        ap answerIn (is ∙ kept-room s (storeOf (Tree.add (judged t i budget x) u)) short)
 
 pub room-of-records : RoomOfRecords
 room-of-records t i budget h s ns r s′ list z l f room four c =
     answers-limit s (Lent (eqb (length s) storeLength && eqb (length ns % 4) 0) s (Kept s (inserts (map (judged t i budget) (testsOf ns))))) (mergedOf r s′) (limitAnswer t i) c done
   where
-    done : limitAnswer t i ≡ Verdict.accepted → verdictOf r ≡ Verdict.accepted
+    done : limitAnswer t i ≡ Verdict.accepted → mergedVerdict r ≡ Verdict.accepted
     done a =
         let u = acceptedIn t i budget (History.many ns h) in
         let short = room-for-so-many u list (those-of t i budget (History.many ns h) list f) room in
         let is = recorded-many t i budget h s ns r s′ (λ y m. z y (inr m)) l a four c ∙ ap (kept s) (sym (store-adds t i budget (testsOf ns) (acceptedIn t i budget h))) in
-        ap answerOf (is ∙ kept-room s (storeOf u) short)
+        ap answerIn (is ∙ kept-room s (storeOf u) short)
 
 pub room-of-stores : RoomOfStores
 room-of-stores t i budget h k s u r s′ list z l m f room c =
@@ -166,12 +166,12 @@ room-of-stores t i budget h k s u r s′ list z l m f room c =
     rw (eq-eqb (length s) storeLength (held-length hs), eq-eqb (length u) storeLength (held-length ks)) refl in
     let d : StoreJoined u s (mergedOf r s′) = subst (λ (b : Bool). Lent b s (StoreJoined u s) (mergedOf r s′)) lengths c in
     let short = room-for-so-many (Tree.join a b) list (those-of t i budget (History.join h k) list f) room in
-    ap answerOf (d .held (storeOf a) (storeOf b) hs ks ∙ ap (kept s) (store-join a b) ∙ kept-room s (storeOf (Tree.join a b)) short)
+    ap answerIn (d .held (storeOf a) (storeOf b) hs ks ∙ ap (kept s) (store-join a b) ∙ kept-room s (storeOf (Tree.join a b)) short)
 
 -- ---- 60
 
 pub full-exactly : FullExactly
-full-exactly t i budget h s x r s′ z l a c = (λ e. only (kept-full s fs (sym (ap answerOf is) ∙ e)), λ e. ap answerOf (is ∙ kept-none s fs (if (e .0) (e .1))))
+full-exactly t i budget h s x r s′ z l a c = (λ e. only (kept-full s fs (sym (ap answerIn is) ∙ e)), λ e. ap answerIn (is ∙ kept-none s fs (if (e .0) (e .1))))
   where
     u : Tree
     u = acceptedIn t i budget h
@@ -198,22 +198,22 @@ full-exactly t i budget h s x r s′ z l a c = (λ e. only (kept-full s fs (sym 
     only : capacity < length fs → (length es ≡ capacity) × ((y : Test) → Merges y h → y .appliance ≡ x .appliance → ⊥)
     only more = by (lookup mine es) refl looked
       where
-        by : (f : Found) → lookup mine es ≡ f → Winner u mine f → (length es ≡ capacity) × ((y : Test) → Merges y h → y .appliance ≡ x .appliance → ⊥)
-        by Found.none e w =
+        by : (f : FoundRecord) → lookup mine es ≡ f → Winner u mine f → (length es ≡ capacity) × ((y : Test) → Merges y h → y .appliance ≡ x .appliance → ⊥)
+        by FoundRecord.none e w =
             let n = longer-by-one (judged t i budget x) es e in (
               omega (arith, g .room, n, more),
               λ y m d. w (judged t i budget y) (merged-in t i budget h y m) (judged-appliance t i budget y ∙ d ∙ sym (judged-appliance t i budget x)),
             )
-        by (Found.found v) e w =
+        by (FoundRecord.found v) e w =
             let n = as-long (judged t i budget x) es (g .rising) e in
             absurd (omega (arith, g .room, n, more))
 
     if : length es ≡ capacity → ((y : Test) → Merges y h → y .appliance ≡ x .appliance → ⊥) → capacity < length fs
     if full new = by (lookup mine es) refl looked
       where
-        by : (f : Found) → lookup mine es ≡ f → Winner u mine f → capacity < length fs
-        by Found.none e w = let n = longer-by-one (judged t i budget x) es e in omega (arith, full, n)
-        by (Found.found v) e w =
+        by : (f : FoundRecord) → lookup mine es ≡ f → Winner u mine f → capacity < length fs
+        by FoundRecord.none e w = let n = longer-by-one (judged t i budget x) es e in omega (arith, full, n)
+        by (FoundRecord.found v) e w =
             let m = in-merged t i budget h v (w .0) in
             let d : m .0 .appliance ≡ x .appliance = sym (judged-appliance t i budget (m .0)) ∙ sym (ap (λ (r : Record). r .appliance) (m .1 .1)) ∙ w .1 ∙ judged-appliance t i budget x in
             absurd (new (m .0) (m .1 .0) d)

@@ -13,12 +13,12 @@ use Rattle.language.specs.Answers.{checkAnswer}
 use Rattle.records.specs.declared.Record.{Record}
 use Rattle.records.specs.Stores.{joined, recordsOf, insert, inserts, capacity, storeLength, storeCells, Holds}
 use Rattle.records.specs.Limits.{Test, limitAnswer, judged}
-use Rattle.records.specs.Answers.{Merged as Mergedᴿ, unchanged, emptied, kept, Harmless, Kept, Lent, Allowed, StoreJoined, testsOf}
+use Rattle.records.specs.Answers.{MergedStore, unchanged, emptied, kept, Harmless, Kept, Lent, Allowed, StoreJoined, testsOf}
 use Rattle.records.specs.Trees.{In, storeOf}
 use Rattle.records.proofs.Trees.{rising-store, sized-store, room-for-so-many}
 use Rattle.records.proofs.Merging.{joined-is}
 use Rattle.records.proofs.Cells.{held-records, length-store, held-length, held-alone, stored-holds}
-use Rattle.merge.specs.declared.answers.Merged.{Merged}
+use Rattle.merge.specs.declared.results.Merged.{Merged}
 use Rattle.merge.specs.Calls.{mergedOf, EmptyCalled, RecordCalled}
 use Rattle.merge.specs.Histories.{History, Refused, Leaves, acceptedIn, Merges, SizedTests}
 use Rattle.merge.specs.Possible.{Whole, CanBeLeft}
@@ -105,7 +105,7 @@ module _ (t : List ℕ) (i budget : ℕ) (a : limitAnswer t i ≡ Verdict.accept
   left (History.add x h) z w f =
       let s = storeCells (winners h) in
       let g = winners-held h (λ y m. z y (inr m)) (λ y m. f y (inr m)) in
-      let P : Mergedᴿ → Type 0 = Kept s (insert (judged t i budget x)) in
+      let P : MergedStore → Type 0 = Kept s (insert (judged t i budget x)) in
       let m = mergedOf done (storeCells (winners (History.add x h))) in
       let k : P m = kept-here s (winners h) g (insert (judged t i budget x)) (winners-room (History.add x h) f) in
       let c = subst⁻¹ (λ (b : Bool). Lent b s P m) (right-length s (winners h) g) k in (
@@ -122,7 +122,7 @@ module _ (t : List ℕ) (i budget : ℕ) (a : limitAnswer t i ≡ Verdict.accept
       let s = storeCells (winners h) in
       let g = winners-held h (λ y m. z y (inr m)) (λ y m. f y (inr m)) in
       let rs = map (judged t i budget) (testsOf ns) in
-      let P : Mergedᴿ → Type 0 = Kept s (inserts rs) in
+      let P : MergedStore → Type 0 = Kept s (inserts rs) in
       let e = store-adds t i budget (testsOf ns) (acceptedIn t i budget h) in
       let m = mergedOf done (storeCells (winners (History.many ns h))) in
       let short : length (inserts rs (winners h)) ≤ capacity = subst (λ (es : List Record). length es ≤ capacity) e (winners-room (History.many ns h) f) in

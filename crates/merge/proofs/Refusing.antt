@@ -11,38 +11,38 @@ use borrow.Author.Tests.{le-leb, lt-leb, leb-true, leb-false}
 use Rattle.language.specs.Checking.{Verdict}
 use Rattle.records.specs.declared.Record.{Record}
 use Rattle.records.specs.Stores.{capacity, storeCells}
-use Rattle.records.specs.Answers.{Merged, unchanged, kept, Harmless, Lent, Allowed}
+use Rattle.records.specs.Answers.{MergedStore, unchanged, kept, Harmless, Lent, Allowed}
 
 pub not-both : {k p : ℕ} → Verdict.accepted ≡ Verdict.refused k p → ⊥
 not-both e = let z : _≡_ {A = ℕ} 0 1 = cc in omega arith
 
 -- ---- done
 
-module _ (s : List ℕ) (P : Merged → Type 0) (m : Merged) where
+module _ (s : List ℕ) (P : MergedStore → Type 0) (m : MergedStore) where
   pub allowed-done : (v : Verdict) → Allowed v s P m → m .answer ≡ Verdict.accepted → (v ≡ Verdict.accepted) × P m
   allowed-done Verdict.accepted h e = (refl, h)
-  allowed-done (Verdict.refused k p) h e = absurd (not-both (sym e ∙ ap (λ (m : Merged). m .answer) h))
+  allowed-done (Verdict.refused k p) h e = absurd (not-both (sym e ∙ ap (λ (m : MergedStore). m .answer) h))
 
   pub lent-done : (b : Bool) → Lent b s P m → m .answer ≡ Verdict.accepted → P m
   lent-done true h e = h
-  lent-done false h e = absurd (not-both (sym e ∙ ap (λ (m : Merged). m .answer) h))
+  lent-done false h e = absurd (not-both (sym e ∙ ap (λ (m : MergedStore). m .answer) h))
 
   -- ---- refused
 
   pub lent-refused : (b : Bool) → (P m → m .store ≡ s) → Lent b s P m → m .store ≡ s
   lent-refused true f h = f h
-  lent-refused false f h = ap (λ (m : Merged). m .store) h
+  lent-refused false f h = ap (λ (m : MergedStore). m .store) h
 
   pub allowed-refused : (v : Verdict) → (P m → m .store ≡ s) → Allowed v s P m → m .store ≡ s
   allowed-refused Verdict.accepted f h = f h
-  allowed-refused (Verdict.refused n q) f h = ap (λ (m : Merged). m .store) h
+  allowed-refused (Verdict.refused n q) f h = ap (λ (m : MergedStore). m .store) h
 
-pub harmless-refused : {s : List ℕ} {m : Merged} {k p : ℕ} → Harmless s m → m .answer ≡ Verdict.refused k p → m .store ≡ s
+pub harmless-refused : {s : List ℕ} {m : MergedStore} {k p : ℕ} → Harmless s m → m .answer ≡ Verdict.refused k p → m .store ≡ s
 harmless-refused {s} {m} {k} {p} h e = by (h .either)
   where
     by : (m .answer ≡ Verdict.accepted) ⊎ (m ≡ unchanged s 60 0) → m .store ≡ s
     by (inl d) = absurd (not-both (sym d ∙ e))
-    by (inr d) = ap (λ (m : Merged). m .store) d
+    by (inr d) = ap (λ (m : MergedStore). m .store) d
 
 -- ---- room
 
@@ -70,8 +70,8 @@ module _ (s : List ℕ) (es : List Record) where
       by :
           ((length es ≤ capacity) × (kept s es ≡ record { answer = Verdict.accepted; store = storeCells es })) ⊎ ((capacity < length es) × (kept s es ≡ unchanged s 60 0))
           → (length es ≤ capacity) × (kept s es .store ≡ storeCells es)
-      by (inl h) = (h .0, ap (λ (m : Merged). m .store) (h .1))
-      by (inr h) = absurd (not-both (sym e ∙ ap (λ (m : Merged). m .answer) (h .1)))
+      by (inl h) = (h .0, ap (λ (m : MergedStore). m .store) (h .1))
+      by (inr h) = absurd (not-both (sym e ∙ ap (λ (m : MergedStore). m .answer) (h .1)))
 
   -- 60 exactly if there is no room
   pub kept-full : kept s es .answer ≡ Verdict.refused 60 0 → capacity < length es
@@ -80,5 +80,5 @@ module _ (s : List ℕ) (es : List Record) where
       by :
           ((length es ≤ capacity) × (kept s es ≡ record { answer = Verdict.accepted; store = storeCells es })) ⊎ ((capacity < length es) × (kept s es ≡ unchanged s 60 0))
           → capacity < length es
-      by (inl h) = absurd (not-both (sym (ap (λ (m : Merged). m .answer) (h .1)) ∙ e))
+      by (inl h) = absurd (not-both (sym (ap (λ (m : MergedStore). m .answer) (h .1)) ∙ e))
       by (inr h) = h .0

@@ -17,23 +17,23 @@ use Rattle.theorems.proofs.NoRefusal.{refused-numbers}
 use Rattle.records.specs.declared.Record.{Record}
 use Rattle.records.specs.Stores.{insert, capacity, storeLength, storeCells, recordsOf, joined}
 use Rattle.records.specs.Limits.{limitAnswer, judged}
-use Rattle.records.specs.Answers.{Merged as Mergedᴿ, unchanged, kept, keptAs, Kept, emptied, Lent, Allowed, RecordMerged, StoreJoined}
+use Rattle.records.specs.Answers.{MergedStore, unchanged, kept, keptAs, Kept, emptied, Lent, Allowed, RecordMerged, StoreJoined}
 use Rattle.records.proofs.Merging.{joined-is}
 use Rattle.records.proofs.Cells.{empty-zeros, held-records}
-use Rattle.ial.specs.declared.c.Answer.{Answer}
-use Rattle.ial.specs.Numbers.{numbersOf}
+use Rattle.answers.specs.declared.numbers.Answer.{Answer}
+use Rattle.answers.specs.Numbers.{numbersOf}
 use Rattle.ial.specs.Calls.{CheckLinked}
 use Rattle.ial.proofs.Demand.{symbol-checked}
-use Rattle.merge.specs.declared.answers.Merged.{Merged}
+use Rattle.merge.specs.declared.results.Merged.{Merged}
 use Rattle.merge.specs.declared.judging.Ruling.the-variants as rulings
 use Rattle.merge.specs.Rulings.{Ruled}
-use Rattle.merge.specs.Calls.{test, verdictOf, mergedOf}
+use Rattle.merge.specs.Calls.{test, mergedVerdict, mergedOf}
 use Rattle.merge.proofs.Refusing.{not-both, kept-either}
-use Rattle.merge.proofs.Rulings.{limit-refused, limit-by}
+use Rattle.merge.proofs.JudgingLaws.{limit-refused, limit-by}
 
 -- ---- lent bytes, by a length or two
 
-module _ (s : List ℕ) (P : Mergedᴿ → Type 0) (m : Mergedᴿ) where
+module _ (s : List ℕ) (P : MergedStore → Type 0) (m : MergedStore) where
   pub lent-right : length s ≡ storeLength → P m → Lent (eqb (length s) storeLength) s P m
   lent-right e h = subst⁻¹ (λ (b : Bool). Lent b s P m) (eq-eqb (length s) storeLength e) h
 
@@ -52,7 +52,7 @@ module _ (s : List ℕ) (P : Mergedᴿ → Type 0) (m : Mergedᴿ) where
 
 -- ---- answers
 
-pub told-kept : (b : Bool) (r : Merged) (s : List ℕ) → verdictOf r ≡ keptAs b [] .answer → mergedOf r s ≡ keptAs b s
+pub told-kept : (b : Bool) (r : Merged) (s : List ℕ) → mergedVerdict r ≡ keptAs b [] .answer → mergedOf r s ≡ keptAs b s
 told-kept true r s e = ap (λ (v : Verdict). record { answer = v; store = s }) e
 told-kept false r s e = ap (λ (v : Verdict). record { answer = v; store = s }) e
 
@@ -91,7 +91,7 @@ joined-kept s u b s′ l e =
         ⊎ ((capacity < length (joined (recordsOf s) (recordsOf u))) × (kept s (joined (recordsOf s) (recordsOf u)) ≡ unchanged s 60 0))
         → (keptAs b s′ .answer ≡ Verdict.accepted) ⊎ (keptAs b s′ ≡ unchanged s 60 0)
     either true e k = inl refl
-    either false e (inl k) = absurd (not-both (sym (ap (λ (m : Mergedᴿ). m .answer) (e ∙ k .1))))
+    either false e (inl k) = absurd (not-both (sym (ap (λ (m : MergedStore). m .answer) (e ∙ k .1))))
     either false e (inr k) = inr (e ∙ k .1)
 
 -- ---- refusals in numbers
@@ -122,7 +122,7 @@ limit-number t i n p e = by (checkAnswer t) refl e
 -- ---- a record, as it was ruled
 
 pub record-ruled :
-    (t : List ℕ) (i budget a b c d f : ℕ) (s : List ℕ) (m : Mergedᴿ) → Ruled t i budget d (rulings.Fail f)
+    (t : List ℕ) (i budget a b c d f : ℕ) (s : List ℕ) (m : MergedStore) → Ruled t i budget d (rulings.Fail f)
     → Lent (eqb (length s) storeLength) s (Kept s (insert (record { appliance = a; time = b; fail = f; tablet = c; reading = d }))) m
     → RecordMerged t i budget (test a b c d) s m
 unfolding judged
@@ -132,7 +132,7 @@ record-ruled t i budget a b c d f s m r h =
     subst⁻¹ (λ (v : Verdict). Allowed v s (Lent (eqb (length s) storeLength) s (Kept s (insert (judged t i budget (test a b c d))))) m) (r .0)
     (subst (λ (e : Record). Lent (eqb (length s) storeLength) s (Kept s (insert e)) m) same h)
 
-pub limit-told : (t : List ℕ) (i n p : ℕ) (s : List ℕ) (P : Mergedᴿ → Type 0) → limitAnswer t i ≡ Verdict.refused n p
+pub limit-told : (t : List ℕ) (i n p : ℕ) (s : List ℕ) (P : MergedStore → Type 0) → limitAnswer t i ≡ Verdict.refused n p
     → Allowed (limitAnswer t i) s P (mergedOf (record { number = n; place = p }) s)
 limit-told t i n p s P e =
     subst⁻¹ (λ (v : Verdict). Allowed v s P (mergedOf (record { number = n; place = p }) s)) e (refused-numbered n p s (limit-number t i n p e))
@@ -148,7 +148,7 @@ checked-refused t r e n = by (checkAnswer t) refl e
     by (Verdict.refused k p) c e =
         c ∙ ap (λ (k : ℕ). Verdict.refused k p) (sym (ap (λ (a : Answerᴸ). a .number) e)) ∙ ap (Verdict.refused (r .number)) (sym (ap (λ (a : Answerᴸ). a .place) e))
 
-module _ (t : List ℕ) (i : ℕ) (r : Answer) (checked : CheckLinked t r) (s : List ℕ) (P : Mergedᴿ → Type 0) where
+module _ (t : List ℕ) (i : ℕ) (r : Answer) (checked : CheckLinked t r) (s : List ℕ) (P : MergedStore → Type 0) where
   pub many-refused : (r .number ≡ 0 → ⊥) → Allowed (limitAnswer t i) s P (mergedOf (record { number = r .number; place = r .place }) s)
   many-refused n = limit-told t i (r .number) (r .place) s P (limit-refused t i (checked-refused t r checked n))
 
@@ -156,5 +156,5 @@ module _ (t : List ℕ) (i : ℕ) (r : Answer) (checked : CheckLinked t r) (s : 
     pub many-other : not b ≡ true → Allowed (limitAnswer t i) s P (mergedOf (record { number = 61; place = 0 }) s)
     many-other n = limit-told t i 61 0 s P (limit-by t i false (symbol-checked t r checked none) (sym signed ∙ not-true b n))
 
-    pub many-allowed : (m : Mergedᴿ) → not b ≡ false → P m → Allowed (limitAnswer t i) s P m
+    pub many-allowed : (m : MergedStore) → not b ≡ false → P m → Allowed (limitAnswer t i) s P m
     many-allowed m n h = subst⁻¹ (λ (v : Verdict). Allowed v s P m) (limit-by t i true (symbol-checked t r checked none) (sym signed ∙ not-false b n)) h

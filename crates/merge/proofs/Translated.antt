@@ -29,7 +29,7 @@ use Rattle.records.specs.declared.Record.{Record}
 use Rattle.records.specs.Stores.{insert, inserts, storeLength}
 use Rattle.records.specs.Limits.{Test, limitAnswer, failOf, judged}
 use Rattle.records.specs.Answers.{Kept, Lent, Allowed, testsOf}
-use Rattle.merge.specs.declared.answers.Merged.{Merged}
+use Rattle.merge.specs.declared.results.Merged.{Merged}
 use Rattle.merge.specs.Calls.{mergedOf, RecordCalled, RecordsCalled}
 use Rattle.merge.specs.Histories.{History, Leaves, OneOf, Merges}
 use Rattle.merge.specs.Translated.{LimitRuns, Suffices, Unended, TranslatedTo, SameVerdicts, VerdictsTranslated, LeavesTranslated, StoresTranslated}

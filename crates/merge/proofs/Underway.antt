@@ -10,7 +10,7 @@ use Rattle.laws.specs.Lists.{from}
 use Rattle.records.specs.declared.Record.{Record}
 use Rattle.records.specs.Records.{Sized}
 use Rattle.records.specs.Stores.{insert, inserts, capacity, Holds}
-use Rattle.records.specs.Answers.{Merged, keptAs, Kept}
+use Rattle.records.specs.Answers.{MergedStore, keptAs, Kept}
 use Rattle.records.proofs.Storing.{rising-insert, sized-insert, inserts-longer}
 use Rattle.merge.specs.Tries.{Tried, Underway}
 use Rattle.merge.proofs.Refusing.{kept-done, kept-full}
@@ -41,14 +41,14 @@ module _ (s₀ : List ℕ) (f : List Record → List Record) (s : List ℕ) wher
     underway-on z k es h =
         let g = u es h in
         let is = k .held (g .0) (g .1 .0) in
-        let d = kept-done s (insert r (g .0)) (sym (ap (λ (m : Merged). m .answer) is)) in (
+        let d = kept-done s (insert r (g .0)) (sym (ap (λ (m : MergedStore). m .answer) is)) in (
           insert r (g .0),
           (
             record {
               rising = rising-insert r (g .0) (g .1 .0 .rising);
               sized = sized-insert r (g .0) z (g .1 .0 .sized);
               room = d .0;
-              bytes = ap (λ (m : Merged). m .store) is ∙ d .1;
+              bytes = ap (λ (m : MergedStore). m .store) is ∙ d .1;
             },
             sym (inserts-first r rest (g .0)) ∙ g .1 .1,
           ),
@@ -59,7 +59,7 @@ module _ (s₀ : List ℕ) (f : List Record → List Record) (s : List ℕ) wher
     underway-full k es h =
         let g = u es h in
         let is = k .held (g .0) (g .1 .0) in
-        let more = kept-full s (insert r (g .0)) (sym (ap (λ (m : Merged). m .answer) is)) in
+        let more = kept-full s (insert r (g .0)) (sym (ap (λ (m : MergedStore). m .answer) is)) in
         let all : inserts rest (insert r (g .0)) ≡ f es = sym (inserts-first r rest (g .0)) ∙ g .1 .1 in
         subst (λ (es : List Record). capacity < length es) all (omega (arith, more, inserts-longer rest (insert r (g .0))))
 

@@ -6,28 +6,28 @@ use mathlib.Core.Path.{_≡_}
 use Prim.Native.Nat.{ℕ}
 use lib.Dec.{eqb}
 use Rattle.language.specs.Checking.{Verdict}
-use Rattle.records.specs.Stores.{Found}
+use Rattle.records.specs.Stores.{FoundRecord}
 use Rattle.records.specs.Limits.{Test}
-use Rattle.records.specs.Answers.{Merged as Mergedᴿ, Looked, emptied, RecordMerged, RecordsMerged, StoreMerged, LookedUp, LookedNth}
-use Rattle.merge.specs.declared.answers.Merged.{Merged}
-use Rattle.merge.specs.declared.answers.Look.{Look}
+use Rattle.records.specs.Answers.{MergedStore, Looked, emptied, RecordMerged, RecordsMerged, StoreMerged, LookedUp, LookedNth}
+use Rattle.merge.specs.declared.results.Merged.{Merged}
+use Rattle.merge.specs.declared.results.Look.{Look}
 
 -- A test by its numbers.
 abbrev pub test : (appliance time tablet reading : ℕ) → Test
 test a b c d = record { appliance = a; time = b; tablet = c; reading = d }
 
 -- An answer 0 0 says that it is done, any other is a refusal.
-abbrev pub verdictOf : Merged → Verdict
-verdictOf r = cond (eqb (r .number) 0 && eqb (r .place) 0) Verdict.accepted (Verdict.refused (r .number) (r .place))
+abbrev pub mergedVerdict : Merged → Verdict
+mergedVerdict r = cond (eqb (r .number) 0 && eqb (r .place) 0) Verdict.accepted (Verdict.refused (r .number) (r .place))
 
-abbrev pub mergedOf : Merged → List ℕ → Mergedᴿ
-mergedOf r s = record { answer = verdictOf r; store = s }
+abbrev pub mergedOf : Merged → List ℕ → MergedStore
+mergedOf r s = record { answer = mergedVerdict r; store = s }
 
 -- The numbers of a look-up.
 abbrev pub lookOf : Looked → Look
 lookOf (Looked.refused n) = record { number = n; found = 0; appliance = 0; time = 0; fail = 0; tablet = 0; reading = 0 }
-lookOf (Looked.looked Found.none) = record { number = 0; found = 0; appliance = 0; time = 0; fail = 0; tablet = 0; reading = 0 }
-lookOf (Looked.looked (Found.found e)) =
+lookOf (Looked.looked FoundRecord.none) = record { number = 0; found = 0; appliance = 0; time = 0; fail = 0; tablet = 0; reading = 0 }
+lookOf (Looked.looked (FoundRecord.found e)) =
     record {
       number = 0;
       found = 1;

@@ -10,13 +10,13 @@ use lib.Dec.{T}
 use lib.ListN.{length}
 use Rattle.laws.specs.Lists.{member}
 use Rattle.language.specs.Checking.{Verdict}
-use Rattle.records.specs.Stores.{Found, nth, capacity, Holds}
+use Rattle.records.specs.Stores.{FoundRecord, nth, capacity, Holds}
 use Rattle.records.specs.Limits.{Test, limitAnswer, judged}
 use Rattle.records.specs.Answers.{Looked, testsOf}
 use Rattle.records.specs.Trees.{Tree, Winner, storeOf}
-use Rattle.merge.specs.declared.answers.Merged.{Merged}
-use Rattle.merge.specs.declared.answers.Look.{Look}
-use Rattle.merge.specs.Calls.{verdictOf, lookOf, EmptyCalled, RecordCalled, RecordsCalled, StoreCalled, LookCalled, NthCalled}
+use Rattle.merge.specs.declared.results.Merged.{Merged}
+use Rattle.merge.specs.declared.results.Look.{Look}
+use Rattle.merge.specs.Calls.{mergedVerdict, lookOf, EmptyCalled, RecordCalled, RecordsCalled, StoreCalled, LookCalled, NthCalled}
 
 -- The calls that brought a store about, one store's within another's: emptied; a test merged; many at once; a store merged into it; a call refused.
 pub data History : Type 0 where
@@ -31,27 +31,27 @@ pub data Refused (s s′ : List ℕ) : Type 0 where
   byRecord :
       (t : List ℕ) (i budget : ℕ) (x : Test) (r : Merged) (k p : ℕ)
       → RecordCalled t i budget x s r s′
-      → verdictOf r ≡ Verdict.refused k p
+      → mergedVerdict r ≡ Verdict.refused k p
       → Refused s s′
   byRecords :
       (t : List ℕ) (i budget : ℕ) (numbers : List ℕ) (r : Merged) (k p : ℕ)
       → RecordsCalled t i budget numbers s r s′
-      → verdictOf r ≡ Verdict.refused k p
+      → mergedVerdict r ≡ Verdict.refused k p
       → Refused s s′
-  byStore : (u : List ℕ) (r : Merged) (k p : ℕ) → StoreCalled u s r s′ → verdictOf r ≡ Verdict.refused k p → Refused s s′
-  byEmpty : (r : Merged) (k p : ℕ) → EmptyCalled s r s′ → verdictOf r ≡ Verdict.refused k p → Refused s s′
+  byStore : (u : List ℕ) (r : Merged) (k p : ℕ) → StoreCalled u s r s′ → mergedVerdict r ≡ Verdict.refused k p → Refused s s′
+  byEmpty : (r : Merged) (k p : ℕ) → EmptyCalled s r s′ → mergedVerdict r ≡ Verdict.refused k p → Refused s s′
 
 module _ (t : List ℕ) (i budget : ℕ) where
   -- The history leaves store s, "begun empty and handed on unchanged", with table t, function i and this budget "the same for a whole store"; but for
   -- those so named no call was refused.
   abbrev pub Leaves : History → List ℕ → Type 0
-  Leaves History.empty s = (s₀ : List ℕ) × ((r : Merged) × (EmptyCalled s₀ r s × (verdictOf r ≡ Verdict.accepted)))
+  Leaves History.empty s = (s₀ : List ℕ) × ((r : Merged) × (EmptyCalled s₀ r s × (mergedVerdict r ≡ Verdict.accepted)))
   Leaves (History.add x h) s =
-      (s₀ : List ℕ) × ((r : Merged) × (Leaves h s₀ × (RecordCalled t i budget x s₀ r s × (verdictOf r ≡ Verdict.accepted))))
+      (s₀ : List ℕ) × ((r : Merged) × (Leaves h s₀ × (RecordCalled t i budget x s₀ r s × (mergedVerdict r ≡ Verdict.accepted))))
   Leaves (History.many ns h) s =
-      (s₀ : List ℕ) × ((r : Merged) × (Leaves h s₀ × (RecordsCalled t i budget ns s₀ r s × (verdictOf r ≡ Verdict.accepted))))
+      (s₀ : List ℕ) × ((r : Merged) × (Leaves h s₀ × (RecordsCalled t i budget ns s₀ r s × (mergedVerdict r ≡ Verdict.accepted))))
   Leaves (History.join h k) s =
-      (s₀ : List ℕ) × ((u : List ℕ) × ((r : Merged) × (Leaves h s₀ × (Leaves k u × (StoreCalled u s₀ r s × (verdictOf r ≡ Verdict.accepted))))))
+      (s₀ : List ℕ) × ((u : List ℕ) × ((r : Merged) × (Leaves h s₀ × (Leaves k u × (StoreCalled u s₀ r s × (mergedVerdict r ≡ Verdict.accepted))))))
   Leaves (History.refused h) s = (s₀ : List ℕ) × (Leaves h s₀ × Refused s₀ s)
 
   -- "its accepted records": each test that was merged, with its verdict.
@@ -117,7 +117,7 @@ TwiceOfCalls =
     → Leaves t i budget h s
     → Merges x h
     → RecordCalled t i budget x s r s′
-    → (verdictOf r ≡ Verdict.accepted) × (s′ ≡ s)
+    → (mergedVerdict r ≡ Verdict.accepted) × (s′ ≡ s)
 
 -- So for many at once, each merged before; where there are none of them, the limit function has still to be allowed.
 abbrev pub TwiceOfRecords : Type 0
@@ -129,7 +129,7 @@ TwiceOfRecords =
     → length numbers % 4 ≡ 0
     → limitAnswer t i ≡ Verdict.accepted
     → RecordsCalled t i budget numbers s r s′
-    → (verdictOf r ≡ Verdict.accepted) × (s′ ≡ s)
+    → (mergedVerdict r ≡ Verdict.accepted) × (s′ ≡ s)
 
 -- "answers for an appliance the winner of its accepted records, or none"
 abbrev pub LookOfCalls : Type 0
@@ -138,7 +138,7 @@ LookOfCalls =
     → SizedTests h
     → Leaves t i budget h s
     → LookCalled s a r
-    → (f : Found) × (Winner (acceptedIn t i budget h) a f × (r ≡ lookOf (Looked.looked f)))
+    → (f : FoundRecord) × (Winner (acceptedIn t i budget h) a f × (r ≡ lookOf (Looked.looked f)))
 
 -- One after the other, the winners by rising appliance numbers; none past the last.
 abbrev pub NthOfCalls : Type 0
@@ -158,7 +158,7 @@ RoomOfCalls =
     → ((y : Test) → Merges y (History.add x h) → T (member (y .appliance) appliances))
     → length appliances ≤ capacity
     → RecordCalled t i budget x s r s′
-    → verdictOf r ≡ limitAnswer t i
+    → mergedVerdict r ≡ limitAnswer t i
 
 -- So for many at once, four numbers each.
 abbrev pub RoomOfRecords : Type 0
@@ -170,7 +170,7 @@ RoomOfRecords =
     → length appliances ≤ capacity
     → length numbers % 4 ≡ 0
     → RecordsCalled t i budget numbers s r s′
-    → verdictOf r ≡ limitAnswer t i
+    → mergedVerdict r ≡ limitAnswer t i
 
 -- Two stores of so many appliances together: a merge of the one into the other is not refused.
 abbrev pub RoomOfStores : Type 0
@@ -182,7 +182,7 @@ RoomOfStores =
     → ((y : Test) → Merges y (History.join h k) → T (member (y .appliance) appliances))
     → length appliances ≤ capacity
     → StoreCalled u s r s′
-    → verdictOf r ≡ Verdict.accepted
+    → mergedVerdict r ≡ Verdict.accepted
 
 -- "any refusal leaves the store unchanged", whatever its bytes.
 abbrev pub RefusalsLeave : Type 0
@@ -196,5 +196,5 @@ FullExactly =
     → Leaves t i budget h s
     → limitAnswer t i ≡ Verdict.accepted
     → RecordCalled t i budget x s r s′
-    → (verdictOf r ≡ Verdict.refused 60 0)
+    → (mergedVerdict r ≡ Verdict.refused 60 0)
     ↔ ((length (storeOf (acceptedIn t i budget h)) ≡ capacity) × ((y : Test) → Merges y h → y .appliance ≡ x .appliance → ⊥))

@@ -11,11 +11,7 @@ use ial::Ran;
 use ial::has_signature;
 use ial::ial_check;
 use ial::run;
-
-// The types of the limit function: "one `int64` parameter, the reading; result `uint`".
-const INT64: u8 = 3;
-
-const UINT: u8 = 9;
+use ial::types;
 
 // As many registers as any function has.
 pub(crate) const REGISTERS: usize = 256;
@@ -36,12 +32,12 @@ pub(crate) fn failed(value: u64) -> u64
     1
 }
 
-// Whether the function has the limit function's signature.
+// Whether the function has the limit function's signature: "one `int64` parameter, the reading; result `uint`".
 pub(crate) fn is_limit(table: &[u8], function: u64) -> bool
     ensures { λ r. ⌜ r ≡ signatureAnswer (now (table .entry)) function uint (int64 ∷ []) ⌝ }
 {
-    let types = [INT64];
-    has_signature(table, function, UINT, &types)
+    let parameters = [types::INT64];
+    has_signature(table, function, types::UINT, &parameters)
 }
 
 // The refusal of a function that is no limit function: the check's, or 61.

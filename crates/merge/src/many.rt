@@ -12,12 +12,12 @@ ghost use Rattle.records.specs.Limits.{judged};
 ghost use Rattle.records.specs.Answers.{testsOf, Kept};
 ghost use Rattle.merge.specs.Calls.{mergedOf, RecordsCalled};
 ghost use Rattle.merge.specs.Tries.{readingsOf, recordBy, recordsBy, Tried};
-use crate::answers::Merged;
-use crate::answers::STORE;
 use crate::judging::REGISTERS;
 use crate::judging::failed;
 use crate::judging::is_limit;
 use crate::merging::done;
+use crate::results::Merged;
+use crate::results::STORE;
 use ial::ial_check;
 use ial::ial_run_each;
 use numbers::put_bytes;
@@ -56,7 +56,7 @@ fn record_of(appliance: u64, time: u64, fail: u64, tablet: u64, reading: u64) ->
 }
 
 // Test j with the verdict that its run's answer says.
-fn record_at(tests: &[u64], answers: &[u64], j: usize) -> Record
+fn judged_record(tests: &[u64], answers: &[u64], j: usize) -> Record
     requires { ⌜ (4 * j + 4 ≤ length (now tests)) × (4 * j + 4 ≤ length (now answers)) ⌝ }
     ensures { λ r. ⌜ (r ≡ recordBy (now (tests .entry)) (now (answers .entry)) j) × Sized r ⌝ }
 {
@@ -78,7 +78,7 @@ fn insert_all(s: &mut [u8], tests: &[u64], answers: &[u64]) -> bool
     let n = tests.len() / 4;
     let mut j = 0;
     while j < n {
-        if !insert(s, record_at(tests, answers, j)) {
+        if !insert(s, judged_record(tests, answers, j)) {
             return false;
         }
         j += 1;
@@ -148,7 +148,7 @@ fn some_end(k: usize, n: usize) -> usize
 }
 
 // Puts all tests into a copy of the store: whether there was room for all.
-fn fill(
+fn fill_aside(
     store: &[u8],
     aside: &mut [u8],
     table: &[u8],
@@ -177,7 +177,7 @@ fn merge_all(store: &mut [u8], table: &[u8], function: u64, budget: u64, records
     ensures { λ r. ⌜ Kept (now (store .entry)) (inserts (map (judged (now (table .entry)) function budget) (testsOf (now (records .entry))))) (mergedOf r (now (store .exit))) ⌝ }
 {
     let mut aside = [0u8; STORE];
-    if !fill(store, &mut aside, table, function, budget, records) {
+    if !fill_aside(store, &mut aside, table, function, budget, records) {
         return done(false);
     }
     put_bytes(store, 0, &aside);

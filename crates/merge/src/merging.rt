@@ -5,11 +5,11 @@ ghost use lib.Dec.{eqb};
 ghost use lib.ListN.{length};
 ghost use Rattle.records.specs.Stores.{insert as inserted, storeLength};
 ghost use Rattle.records.specs.Answers.{keptAs, Kept, Lent};
-ghost use Rattle.merge.specs.Calls.{test, verdictOf, mergedOf, EmptyCalled, RecordCalled, StoreCalled};
-use crate::answers::Merged;
-use crate::answers::STORE;
+ghost use Rattle.merge.specs.Calls.{test, mergedVerdict, mergedOf, EmptyCalled, RecordCalled, StoreCalled};
 use crate::judging::Ruling;
 use crate::judging::judge;
+use crate::results::Merged;
+use crate::results::STORE;
 use joining::join;
 use numbers::zero;
 use records::Record;
@@ -17,7 +17,7 @@ use store::insert;
 
 // Done, or 60 where there is no room.
 pub(crate) fn done(room: bool) -> Merged
-    ensures { λ r. ⌜ verdictOf r ≡ keptAs room [] .answer ⌝ }
+    ensures { λ r. ⌜ mergedVerdict r ≡ keptAs room [] .answer ⌝ }
 {
     if room {
         return Merged {

@@ -3,7 +3,7 @@ use mathlib.Core.Path.{_≡_, refl}
 use mathlib.Core.List.{[], _∷_, map}
 use Rattle.language.specs.Bytes.{bytesOf}
 use Rattle.language.specs.Listing.{digits}
-use Rattle.language.specs.Reading.{inRange, bitsOf}
+use Rattle.language.specs.Reading.{numberInRange, bitsOf}
 use Rattle.language.specs.Writing.{bytesFor, numberToken}
 use Rattle.language.proofs.Computing.{computing}
 use Rattle.decimal.specs.Meanings.{bitsIn}
@@ -12,7 +12,7 @@ use Rattle.merge_lines.specs.declared.told.Line.the-variants as lines
 use Rattle.merge_lines.specs.Lines.{numberIn, lineOf, readingShown, recordLine}
 
 unfoldable telling : Unit {0}
-unfolding computing inRange bitsOf digits bytesFor numberToken bitsIn isDigit decimalFrom unsigned numberOf numberIn lineOf readingShown recordLine
+unfolding computing numberInRange bitsOf digits bytesFor numberToken bitsIn isDigit decimalFrom unsigned numberOf numberIn lineOf readingShown recordLine
 telling = tt
 
 -- A reading of -12; the least and the greatest numbers, with leading zeros and `-0`.

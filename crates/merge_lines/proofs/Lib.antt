@@ -1,3 +1,3 @@
-pub mod Telling
-pub mod Showing
 pub mod Examples
+pub mod ShownLaws
+pub mod ToldLaws

@@ -5,7 +5,7 @@ use mathlib.Core.List.{List, [], _∷_, _++_}
 use Prim.Native.Nat.{ℕ}
 use lib.Dec.{eqb}
 use Rattle.language.specs.Bytes.{bytesOf}
-use Rattle.language.specs.Instructions.{int64}
+use Rattle.language.specs.Instructions.{int64, uint64}
 use Rattle.language.specs.Listing.{tab, digits}
 use Rattle.language.specs.Writing.{bytesFor, numberToken}
 use Rattle.decimal.specs.Meanings.{bitsIn}
@@ -30,9 +30,6 @@ longer b (w ∷ ws) = (b ∷ w) ∷ ws
 abbrev pub partsOf : List ℕ → List (List ℕ)
 partsOf [] = [] ∷ []
 partsOf (b ∷ bs) = cond (eqb b tab) ([] ∷ partsOf bs) (longer b (partsOf bs))
-
-abbrev pub uint64 : ℕ
-uint64 = 7
 
 -- A number in the range of a type, as a register would hold it.
 abbrev pub bitsFrom : (type : ℕ) → Decimal → Bits

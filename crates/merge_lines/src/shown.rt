@@ -8,6 +8,7 @@ ghost use Rattle.decimal.specs.Writing.{Written};
 ghost use Rattle.merge_lines.specs.Lines.{fieldShown, readingShown, verdictShown, recordLine};
 use decimal::of_bits;
 use decimal::put_digits;
+use decimal::types;
 use numbers::put_bytes;
 use records::Record;
 
@@ -16,9 +17,6 @@ const TAB: u8 = 9;
 const LINE_FEED: u8 = 10;
 
 const MINUS: u8 = 45;
-
-// The type of a reading.
-const INT64: u8 = 3;
 
 // The verdict, and the line's end.
 fn put_verdict(fail: u64, out: &mut [u8], at: usize) -> usize
@@ -34,7 +32,7 @@ fn put_verdict(fail: u64, out: &mut [u8], at: usize) -> usize
 }
 
 // A number and a tab.
-fn put_field(n: u64, out: &mut [u8], at: usize) -> usize
+fn put_column(n: u64, out: &mut [u8], at: usize) -> usize
     requires { ⌜ at + 21 ≤ length (now out) ⌝ }
     ensures { λ r. ⌜ Written (now (out .entry)) at (fieldShown n) (now (out .exit)) r × (r ≤ at + 21) ⌝ }
 {
@@ -48,7 +46,7 @@ fn put_reading(x: u64, out: &mut [u8], at: usize) -> usize
     requires { ⌜ at + 21 ≤ length (now out) ⌝ }
     ensures { λ r. ⌜ Written (now (out .entry)) at (readingShown x) (now (out .exit)) r × (r ≤ at + 21) ⌝ }
 {
-    let m = of_bits(INT64, x);
+    let m = of_bits(types::INT64, x);
     if !m.negative {
         return put_digits(m.magnitude, out, at);
     }
@@ -61,9 +59,9 @@ pub fn put_record(r: Record, out: &mut [u8], at: usize) -> usize
     requires { ⌜ at + 90 ≤ length (now out) ⌝ }
     ensures { λ e. ⌜ Written (now (out .entry)) at (recordLine r) (now (out .exit)) e × (e ≤ at + 90) ⌝ }
 {
-    let e = put_field(r.appliance, out, at);
-    let f = put_field(r.time, out, e);
-    let g = put_field(r.tablet, out, f);
+    let e = put_column(r.appliance, out, at);
+    let f = put_column(r.time, out, e);
+    let g = put_column(r.tablet, out, f);
     let h = put_reading(r.reading, out, g);
     put_verdict(r.fail, out, h)
 }
@@ -85,7 +83,7 @@ pub fn put_refused(number: u64, place: u64, out: &mut [u8]) -> usize
     ensures { λ r. ⌜ Written (now (out .entry)) 0 (refusedLine number place) (now (out .exit)) r × (r ≤ 50) ⌝ }
 {
     put_bytes(out, 0, b"refused\t");
-    let e = put_field(number, out, 8);
+    let e = put_column(number, out, 8);
     let f = put_digits(place, out, e);
     out[f] = LINE_FEED;
     f + 1

@@ -9,13 +9,9 @@ use decimal::Bits;
 use decimal::Decimal;
 use decimal::read_decimal;
 use decimal::to_bits;
+use decimal::types;
 
 const TAB: u8 = 9;
-
-// The types of a line's numbers.
-const INT64: u8 = 3;
-
-const UINT64: u8 = 7;
 
 // The numbers of a line (appliance, time, tablet, reading), or that it does not say four.
 pub enum Line {
@@ -55,7 +51,7 @@ fn with_reading(appliance: u64, time: u64, tablet: u64, rest: &[u8]) -> Line
     if first(rest, TAB) < rest.len() {
         return Line::Bad;
     }
-    let Bits::Fits(reading) = number(INT64, rest) else {
+    let Bits::Fits(reading) = number(types::INT64, rest) else {
         return Line::Bad;
     };
     Line::Numbers(appliance, time, tablet, reading)
@@ -69,7 +65,7 @@ fn with_tablet(appliance: u64, time: u64, rest: &[u8]) -> Line
     if t == rest.len() {
         return Line::Bad;
     }
-    let Bits::Fits(tablet) = number(UINT64, &rest[..t]) else {
+    let Bits::Fits(tablet) = number(types::UINT64, &rest[..t]) else {
         return Line::Bad;
     };
     with_reading(appliance, time, tablet, &rest[t + 1..])
@@ -83,7 +79,7 @@ fn with_time(appliance: u64, rest: &[u8]) -> Line
     if t == rest.len() {
         return Line::Bad;
     }
-    let Bits::Fits(time) = number(UINT64, &rest[..t]) else {
+    let Bits::Fits(time) = number(types::UINT64, &rest[..t]) else {
         return Line::Bad;
     };
     with_tablet(appliance, time, &rest[t + 1..])
@@ -97,7 +93,7 @@ pub fn line_numbers(line: &[u8]) -> Line
     if t == line.len() {
         return Line::Bad;
     }
-    let Bits::Fits(appliance) = number(UINT64, &line[..t]) else {
+    let Bits::Fits(appliance) = number(types::UINT64, &line[..t]) else {
         return Line::Bad;
     };
     with_time(appliance, &line[t + 1..])

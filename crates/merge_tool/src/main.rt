@@ -20,7 +20,9 @@ use files::STORE;
 use files::load_file;
 use files::load_store;
 use files::replace;
+use ial::TABLE_LENGTH;
 use ial::ial_read;
+use ial::types;
 use loading::upto;
 use merge::Look;
 use merge::merge_empty;
@@ -39,9 +41,7 @@ use says::say_budget;
 use says::say_of;
 use says::say_wrong;
 
-// The cells of a table, and one byte more than a text may have.
-const TABLE: usize = 555153;
-
+// One byte more than a text may have.
 const TEXT: usize = 65537;
 
 // The most appliances of a store, and room for their lines.
@@ -51,8 +51,6 @@ const LINES: usize = 92160;
 
 // The longest word that Linux hands to a program, its end included: no word is cut.
 const WORD: usize = 131072;
-
-const UINT64: u8 = 7;
 
 // `new STORE`: an empty store, where no file has that name.
 fn new(path: &[u8]) {
@@ -126,7 +124,7 @@ fn add_within(path: &[u8], budget: u64) {
     }
     let mut file = [0u8; WORD];
     let n = os::arg(3, &mut file);
-    let mut t = [0u8; TABLE];
+    let mut t = [0u8; TABLE_LENGTH];
     if !load_table(&file[..n], &mut t) {
         return;
     }
@@ -247,7 +245,7 @@ fn show_one(path: &[u8], appliance: u64) {
 fn show_word(path: &[u8]) {
     let mut word = [0u8; WORD];
     let n = os::arg(3, &mut word);
-    match number(UINT64, &word[..n]) {
+    match number(types::UINT64, &word[..n]) {
         Bits::Outside => say_appliance(),
         Bits::Fits(appliance) => show_one(path, appliance),
     }

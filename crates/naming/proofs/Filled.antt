@@ -1,19 +1,14 @@
 -- The function with the made names filled in, by number of a register and of a block. Assumes nothing.
-use mathlib.Core.List.{List, [], _∷_, map}
-use mathlib.Core.Path.{_≡_, refl, sym, ap, _∙_}
-use Prim.Native.Nat.{ℕ, suc, _<_}
+use mathlib.Core.List.{List, [], map}
+use mathlib.Core.Path.{_≡_, ap, _∙_}
+use Prim.Native.Nat.{ℕ, _<_}
 use native.Mathlib.Omega.{arith}
 use lib.ListN.{length, getD, length-map}
 use Rattle.laws.specs.Lists.{together, below}
-use Rattle.laws.proofs.Indexing.{getD-together, length-together-from}
-use Rattle.laws.proofs.Sums.{length-together}
+use Rattle.laws.proofs.Indexing.{getD-together, length-together-from, length-together-le}
 use Rattle.language.specs.Programs.{Register, Block, Func, noRegister, noBlock, blockAt}
-use Rattle.language.specs.MadeNames.{Title, given, wanted, nextFree, entitled, registerTitle, blockTitle, registerPrefix, blockPrefix, registerNames, blockNames, namedFunction}
-
-entitled-length : (prefix : List ℕ) (used : List (List ℕ)) (k : ℕ) (ts : List Title) → length (entitled prefix used k ts) ≡ length ts
-entitled-length prefix used k [] = refl
-entitled-length prefix used k (given n ∷ ts) = ap suc (entitled-length prefix used k ts)
-entitled-length prefix used k (wanted ∷ ts) = ap suc (entitled-length prefix used (suc (nextFree prefix used k)) ts)
+use Rattle.language.specs.MadeNames.{registerTitle, blockTitle, registerPrefix, blockPrefix, registerNames, blockNames, namedFunction}
+use Rattle.language.proofs.MadeNamesLaws.{entitled-length}
 
 module _ (f : Func) where
   -- ---- registers
@@ -26,7 +21,7 @@ module _ (f : Func) where
 
   pub filled-registers : length (namedFunction f .registers) ≡ length (f .registers)
   unfolding namedFunction
-  filled-registers = length-together (λ r n. record { type = r .type; name = n }) (f .registers) (registerNames f) (sym register-names) ∙ register-names
+  filled-registers = length-together-le (λ r n. record { type = r .type; name = n }) (f .registers) (registerNames f) (omega (arith, register-names)) ∙ register-names
 
   filled-register : (r : ℕ) → r < length (f .registers)
       → getD (namedFunction f .registers) r noRegister ≡ record { type = getD (f .registers) r noRegister .type; name = getD (registerNames f) r [] }
@@ -52,7 +47,7 @@ module _ (f : Func) where
 
   pub filled-blocks : length (namedFunction f .blocks) ≡ length (f .blocks)
   unfolding namedFunction
-  filled-blocks = length-together (λ b n. record { name = n; rows = b .rows }) (f .blocks) (blockNames f) (sym block-names) ∙ block-names
+  filled-blocks = length-together-le (λ b n. record { name = n; rows = b .rows }) (f .blocks) (blockNames f) (omega (arith, block-names)) ∙ block-names
 
   filled-block : (b : ℕ) → b < length (f .blocks) → blockAt (namedFunction f) b ≡ record { name = getD (blockNames f) b []; rows = blockAt f b .rows }
   unfolding namedFunction

@@ -1,33 +1,25 @@
 -- The names of a function's registers and blocks, where the table has them. Assumes nothing.
 use mathlib.Core.Bool.{Bool, cond, not, _&&_, and-true}
 use mathlib.Core.List.{List, [], map, map-map}
-use mathlib.Core.Path.{_≡_, refl, sym, ap, _∙_, subst}
+use mathlib.Core.Path.{_≡_, sym, ap, _∙_, subst}
 use Prim.Native.Nat.{ℕ, _+_, _≤_, _<_}
-use native.Mathlib.Nat.{zero-add}
 use native.Mathlib.Omega.{arith}
 use lib.Dec.{eqb}
 use lib.ListN.{length, getD}
 use borrow.Author.Tests.{ne-eqb}
 use Rattle.laws.specs.Lists.{empty, below, together}
 use Rattle.laws.proofs.Indexing.{together-from}
-use Rattle.laws.proofs.Ranges.{length-map-from, getD-map-from, map-from-same}
-use Rattle.language.specs.Programs.{Register, Block, noRegister, noBlock, blockAt}
+use Rattle.laws.proofs.Ranges.{length-map-from, map-from-same}
+use Rattle.language.specs.Programs.{Register, Block, blockAt}
 use Rattle.language.specs.Table.{registerCount, blockCount, registerName, blockName, functionEntry, decodeRegister, decodeBlock, decodeFunction}
+use Rattle.language.specs.Table.{blockLength, blockNamesOffset, registerLength, registerNamesOffset}
 use Rattle.language.specs.MadeNames.{Title, given, wanted, madeName, entitled, registerTitle, blockTitle, registerPrefix, blockPrefix, registerNames, blockNames}
+use Rattle.language.proofs.TableView.{register-count, register-is, block-count, block-is, entry-is}
 use Rattle.naming.specs.Numbers.{prefixOf}
 use Rattle.naming.specs.Numbered.{Numbered, RegistersNumbered, BlocksNumbered}
 
 module _ (t : List ℕ) (a : ℕ) where
   -- ---- registers
-
-  registers-count : length (decodeFunction t a .registers) ≡ registerCount t a
-  unfolding decodeFunction
-  registers-count = length-map-from (decodeRegister t a) 0 (registerCount t a)
-
-  register-is : (r : ℕ) → r < registerCount t a → getD (decodeFunction t a .registers) r noRegister .name ≡ registerName t a r
-  unfolding decodeFunction decodeRegister
-  register-is r h =
-      ap (λ (x : Register). x .name) (getD-map-from (decodeRegister t a) noRegister 0 (registerCount t a) r h) ∙ ap (registerName t a) (zero-add r)
 
   module _ (few : registerCount t a ≤ 256) where
     -- no register is number 256, so that none keeps a name of no bytes
@@ -53,31 +45,20 @@ module _ (t : List ℕ) (a : ℕ) where
         (map-map registerTitle (registerName t a) (below n) ∙ map-from-same (λ i. registerTitle (registerName t a i)) (λ i. blockTitle 256 i (registerName t a i)) 0 n title-is)
 
     pub registers-numbered :
-        {n : ℕ} {made : List ℕ} → n ≡ registerCount t a → Numbered (prefixOf 112) t (a + 74) 66 n 256 made → RegistersNumbered (decodeFunction t a) made
+        {n : ℕ} {made : List ℕ} → n ≡ registerCount t a → Numbered (prefixOf 112) t (a + registerNamesOffset) registerLength n 256 made → RegistersNumbered (decodeFunction t a) made
+    unfolding decodeRegister
     registers-numbered {n} {made} c m =
-        let k : Numbered (prefixOf 112) t (a + 74) 66 (registerCount t a) 256 made = subst (λ (n : ℕ). Numbered (prefixOf 112) t (a + 74) 66 n 256 made) c m in
+        let k : Numbered (prefixOf 112) t (a + registerNamesOffset) registerLength (registerCount t a) 256 made = subst (λ (n : ℕ). Numbered (prefixOf 112) t (a + registerNamesOffset) registerLength n 256 made) c m in
         record {
           named =
               λ r h.
-              let l : r < registerCount t a = omega (arith, registers-count) in
+              let l : r < registerCount t a = omega (arith, register-count t a) in
               ap (λ (ns : List (List ℕ)). getD ns r []) registers-titled ∙ k .named r l
               ∙ ap (λ (b : Bool). cond b (madeName registerPrefix (getD made r 0)) (registerName t a r)) (unnamed-is r l (registerName t a r))
-              ∙ ap (λ (n : List ℕ). cond (empty n) (madeName registerPrefix (getD made r 0)) n) (sym (register-is r l));
+              ∙ ap (λ (n : List ℕ). cond (empty n) (madeName registerPrefix (getD made r 0)) n) (sym (ap (λ (x : Register). x .name) (register-is t a r l)));
         }
 
   -- ---- blocks
-
-  blocks-count : length (decodeFunction t a .blocks) ≡ blockCount t a
-  unfolding decodeFunction
-  blocks-count = length-map-from (decodeBlock t a) 0 (blockCount t a)
-
-  block-is : (b : ℕ) → b < blockCount t a → blockAt (decodeFunction t a) b .name ≡ blockName t a b
-  unfolding decodeFunction decodeBlock
-  block-is b h = ap (λ (x : Block). x .name) (getD-map-from (decodeBlock t a) noBlock 0 (blockCount t a) b h) ∙ ap (blockName t a) (zero-add b)
-
-  entry-is : decodeFunction t a .entry ≡ functionEntry t a
-  unfolding decodeFunction
-  entry-is = refl
 
   blocks-titled :
       blockNames (decodeFunction t a)
@@ -94,16 +75,17 @@ module _ (t : List ℕ) (a : ℕ) where
       ∙ ap (entitled blockPrefix ns 0) (together-from title (blockName t a) 0 n)
 
   pub blocks-numbered :
-      {n e : ℕ} {made : List ℕ} → n ≡ blockCount t a → e ≡ functionEntry t a → Numbered (prefixOf 101) t (a + 16973) 69 n e made → BlocksNumbered (decodeFunction t a) made
+      {n e : ℕ} {made : List ℕ} → n ≡ blockCount t a → e ≡ functionEntry t a → Numbered (prefixOf 101) t (a + blockNamesOffset) blockLength n e made → BlocksNumbered (decodeFunction t a) made
+  unfolding decodeBlock
   blocks-numbered {n} {e} {made} c d m =
-      let k : Numbered (prefixOf 101) t (a + 16973) 69 (blockCount t a) (functionEntry t a) made =
-      subst (λ (n : ℕ). Numbered (prefixOf 101) t (a + 16973) 69 n (functionEntry t a) made) c
-      (subst (λ (e : ℕ). Numbered (prefixOf 101) t (a + 16973) 69 n e made) d m) in
+      let k : Numbered (prefixOf 101) t (a + blockNamesOffset) blockLength (blockCount t a) (functionEntry t a) made =
+      subst (λ (n : ℕ). Numbered (prefixOf 101) t (a + blockNamesOffset) blockLength n (functionEntry t a) made) c
+      (subst (λ (e : ℕ). Numbered (prefixOf 101) t (a + blockNamesOffset) blockLength n e made) d m) in
       record {
         named =
             λ b h.
-            let l : b < blockCount t a = omega (arith, blocks-count) in
+            let l : b < blockCount t a = omega (arith, block-count t a) in
             ap (λ (ns : List (List ℕ)). getD ns b []) blocks-titled ∙ k .named b l
-            ∙ ap (λ (n : List ℕ). cond (empty n && not (eqb b (functionEntry t a))) (madeName blockPrefix (getD made b 0)) n) (sym (block-is b l))
-            ∙ ap (λ (e : ℕ). cond (empty (blockAt (decodeFunction t a) b .name) && not (eqb b e)) (madeName blockPrefix (getD made b 0)) (blockAt (decodeFunction t a) b .name)) (sym entry-is);
+            ∙ ap (λ (n : List ℕ). cond (empty n && not (eqb b (functionEntry t a))) (madeName blockPrefix (getD made b 0)) n) (sym (ap (λ (x : Block). x .name) (block-is t a b l)))
+            ∙ ap (λ (e : ℕ). cond (empty (blockAt (decodeFunction t a) b .name) && not (eqb b e)) (madeName blockPrefix (getD made b 0)) (blockAt (decodeFunction t a) b .name)) (sym (entry-is t a));
       }

@@ -1,5 +1,5 @@
-pub mod Entitling
 pub mod Filled
 pub mod InFunction
+pub mod MadeLaws
 pub mod Marks
-pub mod Spelt
+pub mod NumbersLaws

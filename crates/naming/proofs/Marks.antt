@@ -6,7 +6,7 @@ use Prim.Native.Nat.{ℕ, zero, suc, _+_, _-_, _*_, _<_}
 use native.Mathlib.Numerals.{add-one}
 use native.Mathlib.Omega.{arith}
 use lib.Dec.{eqb}
-use lib.ListN.{length, getD, set, replicate, length-set, length-replicate}
+use lib.ListN.{length, getD, set, replicate, length-set, length-replicate, getD-replicate}
 use lib.Seq.{getD-set-same, getD-set-other}
 use borrow.Author.Tests.{eqb-true, eqb-false}
 use Rattle.laws.specs.Lists.{any, from, below, same, sum, position}
@@ -29,15 +29,10 @@ module _ (prefix t : List ℕ) (at stride : ℕ) where
   marked-none e =
       record {
         size = ap length e ∙ length-replicate {A = ℕ} 513 0;
-        cells = λ j h. ap (λ (l : List ℕ). getD l j 0) e ∙ zeros 513 j;
+        cells = λ j h. ap (λ (l : List ℕ). getD l j 0) e ∙ getD-replicate 513 j 0 0 (omega arith);
         few = rw e (rw (no-sum 513) (omega arith));
       }
     where
-      zeros : (n k : ℕ) → getD {A = ℕ} (replicate n 0) k 0 ≡ 0
-      zeros zero k = refl
-      zeros (suc n) zero = refl
-      zeros (suc n) (suc k) = zeros n k
-
       no-sum : (n : ℕ) → sum (replicate n 0) ≡ 0
       no-sum zero = refl
       no-sum (suc n) = omega (arith, no-sum n)

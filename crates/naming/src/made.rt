@@ -6,23 +6,18 @@ ghost use Prim.Native.Nat.{_+_, _*_, _<_, _≤_};
 ghost use lib.Dec.{eqb};
 ghost use lib.ListN.{length, replicate, drop};
 ghost use Rattle.laws.specs.Lists.{empty, sum};
-ghost use Rattle.language.specs.Table.{nameAt, registerCount, blockCount, decodeFunction};
+ghost use Rattle.language.specs.Table.{nameAt, registerCount, blockCount, decodeFunction, InTable};
 ghost use Rattle.naming.specs.Numbers.{prefixOf};
 ghost use Rattle.naming.specs.Numbered.{Marked, Free, Numbered, RegistersNumbered, BlocksNumbered};
 use crate::numbers::number;
+use table::BLOCK_LENGTH;
+use table::BLOCK_NAMES_OFFSET;
+use table::REGISTER_LENGTH;
+use table::REGISTER_NAMES_OFFSET;
 use table::block_count;
 use table::function_entry;
 use table::name_at;
 use table::register_count;
-
-// In a function's cells: the length of its first register's name and of its first block's, and how far the next one is.
-const REGISTER_NAMES: usize = 74;
-
-const REGISTER_CELLS: usize = 66;
-
-const BLOCK_NAMES: usize = 16973;
-
-const BLOCK_CELLS: usize = 69;
 
 // The first byte of `p.` and of `e.`.
 const REGISTER_PREFIX: u8 = 112;
@@ -98,14 +93,14 @@ fn number_names(
 }
 
 pub fn number_registers(t: &[u8], a: usize, made: &mut [u16])
-    requires { ⌜ (a + 34697 ≤ length (now t)) × (registerCount (now t) a ≤ 256) × (256 ≤ length (now made)) ⌝ }
+    requires { ⌜ (InTable (now t) a) × (registerCount (now t) a ≤ 256) × (256 ≤ length (now made)) ⌝ }
     ensures { λ r. ⌜ RegistersNumbered (decodeFunction (now (t .entry)) a) (now (made .exit)) ⌝ }
 {
     let count = register_count(t, a);
     number_names(
         t,
-        a + REGISTER_NAMES,
-        REGISTER_CELLS,
+        a + REGISTER_NAMES_OFFSET,
+        REGISTER_LENGTH,
         count,
         REGISTER_PREFIX,
         NO_REGISTER,
@@ -114,15 +109,15 @@ pub fn number_registers(t: &[u8], a: usize, made: &mut [u16])
 }
 
 pub fn number_blocks(t: &[u8], a: usize, made: &mut [u16])
-    requires { ⌜ (a + 34697 ≤ length (now t)) × (blockCount (now t) a ≤ 64) × (64 ≤ length (now made)) ⌝ }
+    requires { ⌜ (InTable (now t) a) × (blockCount (now t) a ≤ 64) × (64 ≤ length (now made)) ⌝ }
     ensures { λ r. ⌜ BlocksNumbered (decodeFunction (now (t .entry)) a) (now (made .exit)) ⌝ }
 {
     let count = block_count(t, a);
     let entry = function_entry(t, a);
     number_names(
         t,
-        a + BLOCK_NAMES,
-        BLOCK_CELLS,
+        a + BLOCK_NAMES_OFFSET,
+        BLOCK_LENGTH,
         count,
         BLOCK_PREFIX,
         entry,

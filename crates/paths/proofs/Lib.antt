@@ -1,11 +1,11 @@
 pub mod Bits
 pub mod Going
 pub mod Reaching
-pub mod Growing
+pub mod SetsLaws
 pub mod Tabled
 pub mod Assigning
 pub mod Lateness
 pub mod Breaking
-pub mod Testing
+pub mod UsesLaws
 pub mod First
 pub mod Missing

@@ -2,18 +2,18 @@
 -- what it asks for. Assumes nothing.
 use mathlib.Core.Path.{_≡_, refl, sym, ap, subst}
 use mathlib.Core.Bool.{Bool, true, false, cond, not, _&&_}
-use mathlib.Core.List.{List, [], _∷_}
+use mathlib.Core.List.{List, []}
 use mathlib.Core.Logic.{_⊎_, inl, inr}
-use Prim.Native.Nat.{ℕ, zero, suc, _+_, _≤_, min}
+use Prim.Native.Nat.{ℕ, zero, suc, _+_, _≤_}
 use native.Mathlib.Omega.{arith}
 use lib.Dec.{T, eqb, ltb}
-use lib.ListN.{length, take, drop, replicate, length-take, length-replicate}
+use lib.ListN.{length, replicate, length-take, length-replicate}
 use Rattle.language.specs.Instructions.{Operand, formOf, operandOf, hasTarget, sourceCount}
 use Rattle.language.specs.Bytes.{leftParen, rightParen, leftBrace, rightBrace, comma, semicolon, equals}
 use Rattle.language.specs.Words.{isType, typeOf, functionWord, ssaWord, voidWord, registerWord, blockWord, entryWord, isInstruction, instructionOf}
 use Rattle.language.specs.Tokens.{Token}
 use Rattle.language.specs.Grammar.{Stage, Act, Move, gram, to, wrongMove, onName, onWord, onNumber, onBlock, onMarkOr, onMark, onEndOr, isWordOr, isWord, aType, aResult, aBlock, aParameter, anInstruction, wordAlone, wordWithTarget, afterWord, sources, afterSources, afterSource, afterMention, inOperand}
-use Rattle.grammar.specs.Meaning.{Spot, Moves, moveOf, tokenOf, actOf, nameOf, magnitudeOf, actBytes}
+use Rattle.grammar.specs.Meaning.{Spot, Moves, tokenOf, actOf, nameOf, magnitudeOf, actBytes}
 use Rattle.lexer.specs.Lexing.{tokenBytes}
 use Rattle.grammar.specs.Ready.{isTop}
 use Rattle.lexer.specs.declared.Token.{Token as Tokenᶜ}

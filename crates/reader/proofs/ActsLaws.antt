@@ -10,7 +10,8 @@ use lib.ListN.{length, length-append}
 use lib.Seq.{sets}
 use Rattle.table.specs.Named.{firstNamed}
 use Rattle.language.specs.Programs.{noBlock, maxFunctions, maxRegisters, maxBlocks}
-use Rattle.language.specs.Table.{functionAt, twoBytes}
+use Rattle.language.specs.Table.{functionAt, twoBytes, nameOffset}
+use Rattle.language.specs.Table.{blockLength, blockNamesOffset, blocksOffset, functionLength, functionNamesOffset, registerLength, registerNamesOffset, registersOffset}
 use Rattle.language.specs.Reading.{functionNumber, registerNumber, blockNumber}
 use Rattle.language.specs.Reading.{markSsa, setResult, nameFunction, nameRegister, nameBlock, endBlock}
 use Rattle.reader.specs.State.{Bounded, Acts, Always}
@@ -60,7 +61,7 @@ module _ {s : Reader} {t : List ℕ} (n : List ℕ) (p : ℕ) where
   too-many-functions full =
       refusing 5 p (λ d h fit. rw (le-ltb (length (d .functions)) maxFunctions (omega (arith, h .counts .functions))))
 
-  module _ (less : s .functions < 16) {i : ℕ} (found : i ≡ firstNamed t 9 34697 (s .functions) n) where
+  module _ (less : s .functions < 16) {i : ℕ} (found : i ≡ firstNamed t functionNamesOffset functionLength (s .functions) n) where
     pub function-known : i < s .functions → Acts (λ d. d .function .name ≡ []) (nameFunction n p) s t (taken.Refused 6 p) t
     unfolding nameFunction
     function-known known =
@@ -71,10 +72,10 @@ module _ {s : Reader} {t : List ℕ} (n : List ℕ) (p : ℕ) where
         rw (lt-ltb (length (d .functions)) maxFunctions (omega arith), lt-ltb (functionNumber (d .functions) n) (length (d .functions)) (omega arith)))
 
     pub function-put : Bounded s → s .functions ≤ i → length n ≤ 64 → {a : ℕ} → a ≡ functionAt (s .functions) → {t′ : List ℕ}
-        → t′ ≡ sets t (a + 8) (length n ∷ n)
+        → t′ ≡ sets t (a + nameOffset) (length n ∷ n)
         → Acts (λ d. d .function .name ≡ []) (nameFunction n p) s t (taken.Reading s) t′
     function-put b new short {a} e put =
-        storing (a + 8) (length n ∷ n) put b refl
+        storing (a + nameOffset) (length n ∷ n) put b refl
         (λ d h fit.
         let f = d .function in
         let c = h .counts in
@@ -95,7 +96,7 @@ module _ {s : Reader} {t : List ℕ} (n : List ℕ) (p : ℕ) where
         refusing 5 p (λ d h fit. rw (le-ltb (length (d .function .registers)) maxRegisters (omega (arith, h .counts .registers))))
 
     module _ (less : s .functions < 16) {a : ℕ} (e : a ≡ functionAt (s .functions)) (room : s .registers < 256) {i : ℕ}
-        (found : i ≡ firstNamed t (a + 74) 66 (s .registers) n) where
+        (found : i ≡ firstNamed t (a + registerNamesOffset) registerLength (s .registers) n) where
       pub register-known : i < s .registers → Acts Always (nameRegister k kind n p) s t (taken.Refused 6 p) t
       unfolding nameRegister
       register-known known =
@@ -106,10 +107,10 @@ module _ {s : Reader} {t : List ℕ} (n : List ℕ) (p : ℕ) where
           rw (lt-ltb (length (d .function .registers)) maxRegisters (omega arith), lt-ltb (registerNumber (d .function) n) (length (d .function .registers)) (omega arith)))
 
       pub register-put : Bounded s → s .registers ≤ i → length n ≤ 64 → k ≤ 1 → {t′ : List ℕ}
-          → t′ ≡ sets t (a + 73 + 66 * s .registers) (kind ∷ length n ∷ n)
+          → t′ ≡ sets t (a + registersOffset + registerLength * s .registers) (kind ∷ length n ∷ n)
           → Acts Always (nameRegister k kind n p) s t (taken.Reading (headedAt s (s .ssa) (s .result) (s .params + k) (s .registers + 1))) t′
       register-put b new short one put =
-          storing (a + 73 + 66 * s .registers) (kind ∷ length n ∷ n) put (omega arith) refl
+          storing (a + registersOffset + registerLength * s .registers) (kind ∷ length n ∷ n) put (omega arith) refl
           (λ d h fit.
           let f = d .function in
           let c = h .counts in
@@ -133,7 +134,7 @@ module _ {s : Reader} {t : List ℕ} (n : List ℕ) (p : ℕ) where
       refusing 5 p (λ d h fit. rw (le-ltb (length (d .function .blocks)) maxBlocks (omega (arith, h .counts .blocks))))
 
   module _ (less : s .functions < 16) {a : ℕ} (e : a ≡ functionAt (s .functions)) (room : s .blocks < 64) {i : ℕ}
-      (found : i ≡ firstNamed t (a + 16973) 69 (s .blocks) n) where
+      (found : i ≡ firstNamed t (a + blockNamesOffset) blockLength (s .blocks) n) where
     pub block-known : i < s .blocks → Acts (λ d. d .block ≡ noBlock) (nameBlock n p) s t (taken.Refused 6 p) t
     unfolding nameBlock
     block-known known =
@@ -143,10 +144,10 @@ module _ {s : Reader} {t : List ℕ} (n : List ℕ) (p : ℕ) where
         let x = block-found h less n e in
         rw (lt-ltb (length (d .function .blocks)) maxBlocks (omega arith), lt-ltb (blockNumber (d .function) n) (length (d .function .blocks)) (omega arith)))
 
-    pub block-put : Bounded s → s .blocks ≤ i → length n ≤ 64 → {t′ : List ℕ} → t′ ≡ sets t (a + 16973 + 69 * s .blocks) (length n ∷ n)
+    pub block-put : Bounded s → s .blocks ≤ i → length n ≤ 64 → {t′ : List ℕ} → t′ ≡ sets t (a + blockNamesOffset + blockLength * s .blocks) (length n ∷ n)
         → Acts (λ d. d .block ≡ noBlock) (nameBlock n p) s t (taken.Reading s) t′
     block-put b new short put =
-        storing (a + 16973 + 69 * s .blocks) (length n ∷ n) put b refl
+        storing (a + blockNamesOffset + blockLength * s .blocks) (length n ∷ n) put b refl
         (λ d h fit.
         let c = h .counts in
         let m : length (d .functions) < 16 = omega (arith, c .functions) in
@@ -167,11 +168,11 @@ module _ {s : Reader} {t : List ℕ} (p : ℕ) where
       refusing 5 p (λ d h fit. rw (le-ltb (length (d .function .blocks)) maxBlocks (omega (arith, h .counts .blocks))))
 
   pub block-closed : Bounded s → s .functions < 16 → s .blocks < 64 → {a : ℕ} → a ≡ functionAt (s .functions) → {t′ t″ : List ℕ}
-      → t′ ≡ sets t (a + 16969 + 69 * s .blocks) (twoBytes (s .first))
-      → t″ ≡ sets t′ (a + 16969 + 69 * s .blocks + 2) (twoBytes (s .rows - s .first))
+      → t′ ≡ sets t (a + blocksOffset + blockLength * s .blocks) (twoBytes (s .first))
+      → t″ ≡ sets t′ (a + blocksOffset + blockLength * s .blocks + 2) (twoBytes (s .rows - s .first))
       → Acts Always (endBlock p) s t (taken.Reading (endedAt s (s .blocks + 1))) t″
   block-closed b less room {a} e {t′} {t″} first count =
-      let k = a + 16969 + 69 * s .blocks in
+      let k = a + blocksOffset + blockLength * s .blocks in
       let vs = twoBytes (s .first) ++ twoBytes (s .rows - s .first) in
       let put : t″ ≡ sets t k vs = count ∙ rw (first, add-two) in
       storing k vs put (omega arith) refl

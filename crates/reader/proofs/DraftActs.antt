@@ -11,9 +11,9 @@ use Rattle.laws.specs.Sections.{pad}
 use Rattle.laws.proofs.Appending.{gather-append, all-snoc}
 use Rattle.laws.proofs.Storing.{Stored, pad-stored, pad-is}
 use Rattle.language.specs.Programs.{Register, Block, Func, noBlock, entriesOf, rowsOf, entryCount, maxRegisters, maxEntries}
-use Rattle.language.specs.Table.{functionAt, nameCells, registerCells}
+use Rattle.language.specs.Table.{functionAt, nameCells, registerCells, entriesOffset, registerLength, registersLength, registersOffset}
 use Rattle.language.specs.Reading.{Draft, Parts, Mention, partsOf, functionOf, draftOf, noParts, withFunction, withBlock, withParts, openFunction, rowOf, maxMentions}
-use Rattle.reader.specs.Draft.{Within, Stores, shortName, openHead, openRegisters, openBlocks, openRows, openRowCells, openEntries, openCells, openTable}
+use Rattle.reader.specs.Draft.{WithinSizes, Stores, shortName, openHead, openRegisters, openBlocks, openRows, openRowCells, openEntries, openCells, openTable}
 use Rattle.reader.proofs.DraftSections.{entries, length-registers, length-gathered, sections, sized, in-head, in-registers, in-entries}
 
 -- ---- drafts after an act
@@ -62,9 +62,9 @@ written d =
 
 -- ---- no list outgrows its section
 
-module _ (d : Draft) (w : Within d) where
+module _ (d : Draft) (w : WithinSizes d) where
   within-head : (n : List ℕ) (s t k : ℕ) (rs : List Register) → T (shortName n) → length rs ≤ maxRegisters → T (all (λ r. shortName (r .name)) rs)
-      → Within (headed d n s t k rs)
+      → WithinSizes (headed d n s t k rs)
   unfolding rowsOf entryCount
   within-head n s t k rs short few names =
       record {
@@ -86,7 +86,7 @@ module _ (d : Draft) (w : Within d) where
       }
 
   within-parts : (ms : List Mention) (x : Parts) → length ms ≤ maxMentions → entryCount (openFunction d) + length (x .entries) ≤ maxEntries
-      → T (all (λ m. ltb m maxMentions) (x .mentions)) → Within (draftOf (d .functions) (d .function) ms (d .block) x)
+      → T (all (λ m. ltb m maxMentions) (x .mentions)) → WithinSizes (draftOf (d .functions) (d .function) ms (d .block) x)
   within-parts ms x few room small =
       record {
         functions = w .functions;
@@ -108,7 +108,7 @@ module _ (d : Draft) (w : Within d) where
 
 -- ---- acts that store nothing
 
-module _ (d : Draft) (w : Within d) where
+module _ (d : Draft) (w : WithinSizes d) where
   abbrev f : Func
   f = d .function
 
@@ -143,18 +143,18 @@ module _ (d : Draft) (w : Within d) where
 
 -- ---- acts that store
 
-module _ (d : Draft) (w : Within d) (less : length (d .functions) < 16) where
+module _ (d : Draft) (w : WithinSizes d) (less : length (d .functions) < 16) where
   register-stored : (k t : ℕ) (n : List ℕ) → length n ≤ 64 → length (d .function .registers) < 256
-      → Stored (openRegisters d) (66 * length (d .function .registers)) (t ∷ length n ∷ n) (openRegisters (registered d k t n))
+      → Stored (openRegisters d) (registerLength * length (d .function .registers)) (t ∷ length n ∷ n) (openRegisters (registered d k t n))
   unfolding openRegisters registerCells nameCells pad
   register-stored k t n short few =
       let rs = d .function .registers in
       rw (gather-append registerCells rs (record { type = t; name = n } ∷ []))
       (simp append-nil
-      (pad-stored 16896 (gather registerCells rs) 0 (t ∷ length n ∷ n) (64 - length n) (omega (arith, length-registers d w)) (omega (arith, length-registers d w))))
+      (pad-stored registersLength (gather registerCells rs) 0 (t ∷ length n ∷ n) (64 - length n) (omega (arith, length-registers d w)) (omega (arith, length-registers d w))))
 
   pub names-register : (k t : ℕ) (n : List ℕ) → length n ≤ 64 → length (d .function .registers) < 256 → {m : ℕ}
-      → m ≡ functionAt (length (d .functions)) + 73 + 66 * length (d .function .registers) → Stores d (registered d k t n) m (t ∷ length n ∷ n)
+      → m ≡ functionAt (length (d .functions)) + registersOffset + registerLength * length (d .function .registers) → Stores d (registered d k t n) m (t ∷ length n ∷ n)
   unfolding openHead openBlocks openRowCells openEntries rowsOf
   names-register k t n short few {m} e =
       let f = d .function in
@@ -173,8 +173,8 @@ module _ (d : Draft) (w : Within d) (less : length (d .functions) < 16) where
   unfolding openHead nameCells pad
   name-stored n short none =
       let head : List ℕ = replicate 8 0 ++ ((length n ∷ n) ++ replicate (64 - length n) 0) in
-      let full : pad 73 head ≡ head = pad-is 73 head 0 (simp (length-append, length-replicate) (omega arith)) ∙ append-nil head in
-      rw (none, ← full) (pad-stored 73 [] 8 (length n ∷ n) (64 - length n) (omega arith) (omega arith))
+      let full : pad registersOffset head ≡ head = pad-is registersOffset head 0 (simp (length-append, length-replicate) (omega arith)) ∙ append-nil head in
+      rw (none, ← full) (pad-stored registersOffset [] 8 (length n ∷ n) (64 - length n) (omega arith) (omega arith))
 
   pub names-function : (n : List ℕ) → length n ≤ 64 → d .function .name ≡ [] → {m : ℕ} → m ≡ functionAt (length (d .functions)) + 8
       → Stores d (named d n) m (length n ∷ n)
@@ -195,7 +195,7 @@ module _ (d : Draft) (w : Within d) (less : length (d .functions) < 16) where
       rw (← append-assoc) (pad-stored 1024 es 0 (r ∷ []) 0 (omega arith) (omega arith))
 
   pub adds-entry : (r : ℕ) → entryCount (openFunction d) + length (d .parts .entries) < 1024 → {m : ℕ}
-      → m ≡ functionAt (length (d .functions)) + 33673 + (entryCount (openFunction d) + length (d .parts .entries)) → Stores d (entered d r) m (r ∷ [])
+      → m ≡ functionAt (length (d .functions)) + entriesOffset + (entryCount (openFunction d) + length (d .parts .entries)) → Stores d (entered d r) m (r ∷ [])
   unfolding openHead openRegisters openBlocks openRowCells
   adds-entry r few {m} e =
       record {

@@ -11,12 +11,13 @@ use lib.ListN.{length, replicate, length-append}
 use Rattle.laws.specs.Lists.{empty, gather, sum}
 use Rattle.laws.specs.Sections.{pad, gatherFrom}
 use Rattle.laws.proofs.Appending.{gather-append, gatherFrom-append, all-snoc}
-use Rattle.laws.proofs.Sections.{length-gather}
+use Rattle.laws.proofs.Gather.{length-gather}
 use Rattle.laws.proofs.Storing.{Stored, pad-stored, pad-zeros, stored-pad, sets-middle}
 use Rattle.language.specs.Programs.{Block, noBlock, rowsOf, entryCount, maxBlocks}
-use Rattle.language.specs.Table.{functionAt, nameCells, blockCells, twoBytes}
+use Rattle.language.specs.Table.{functionAt, nameCells, blockCells, twoBytes, blockLength, blockNamesOffset, blocksLength, blocksOffset}
 use Rattle.language.specs.Reading.{Draft}
-use Rattle.reader.specs.Draft.{Within, Stores, shortName, openBlock, openHead, openRegisters, openBlocks, openRows, openRowCells, openEntries}
+use Rattle.language.proofs.TableLaws.{name-cells, no-name-cells}
+use Rattle.reader.specs.Draft.{WithinSizes, Stores, shortName, openBlock, openHead, openRegisters, openBlocks, openRows, openRowCells, openEntries}
 use Rattle.reader.proofs.DraftSections.{height, length-blocks, sections, sized, in-blocks}
 use Rattle.reader.proofs.DraftActs.{begun, ended}
 
@@ -24,29 +25,21 @@ pub open-rows : (d : Draft) → openRows d ≡ gather (λ b. b .rows) (d .functi
 unfolding rowsOf
 open-rows d = simp (gather-append, append-nil)
 
-no-name : nameCells [] ≡ replicate 65 0
-unfolding nameCells pad
-no-name = refl
-
-name-cells : (n : List ℕ) → nameCells n ≡ (length n ∷ n) ++ replicate (64 - length n) 0
-unfolding nameCells pad
-name-cells n = refl
-
 pub no-block : openBlock [] ≡ []
 unfolding openBlock
 no-block = refl
 
 -- a block of no name leaves the zeros of its name
-whole-block : (xs n : List ℕ) → length xs + 69 ≤ 4416 → pad 4416 (xs ++ openBlock n) ≡ pad 4416 (xs ++ (replicate 4 0 ++ nameCells n))
+whole-block : (xs n : List ℕ) → length xs + blockLength ≤ blocksLength → pad blocksLength (xs ++ openBlock n) ≡ pad blocksLength (xs ++ (replicate 4 0 ++ nameCells n))
 unfolding openBlock
-whole-block xs [] h = rw (append-nil, no-name) (sym (pad-zeros 4416 xs 69 h))
+whole-block xs [] h = rw (append-nil, no-name-cells) (sym (pad-zeros blocksLength xs blockLength h))
 whole-block xs (x ∷ n) h = refl
 
 room-left : (n : List ℕ) (k : ℕ) → k < maxBlocks → T (cond (empty n) true (ltb k maxBlocks))
 room-left [] k h = tt
 room-left (x ∷ n) k h = lt→ltb k maxBlocks h
 
-module _ (d : Draft) (w : Within d) (room : length (d .function .blocks) < 64) where
+module _ (d : Draft) (w : WithinSizes d) (room : length (d .function .blocks) < 64) where
   abbrev bs : List Block
   bs = d .function .blocks
 
@@ -56,16 +49,16 @@ module _ (d : Draft) (w : Within d) (room : length (d .function .blocks) < 64) w
     same-rows : openRows (begun d n) ≡ openRows d
     same-rows = open-rows (begun d n) ∙ sym (open-rows d ∙ ap (λ (b : Block). gather (λ b. b .rows) bs ++ b .rows) none)
 
-    name-stored : Stored (openBlocks d) (69 * length bs + 4) (length n ∷ n) (openBlocks (begun d n))
+    name-stored : Stored (openBlocks d) (blockLength * length bs + 4) (length n ∷ n) (openBlocks (begun d n))
     unfolding openBlocks
     name-stored =
         let G = gatherFrom height blockCells 0 bs in
-        let now : pad 4416 (G ++ openBlock (d .block .name)) ≡ pad 4416 G =
-        ap (λ (b : Block). pad 4416 (G ++ openBlock (b .name))) none ∙ rw (no-block, append-nil) in
+        let now : pad blocksLength (G ++ openBlock (d .block .name)) ≡ pad blocksLength G =
+        ap (λ (b : Block). pad blocksLength (G ++ openBlock (b .name))) none ∙ rw (no-block, append-nil) in
         rw (now, whole-block G n (omega (arith, length-blocks d w)), name-cells n)
-        (pad-stored 4416 G 4 (length n ∷ n) (64 - length n) (omega (arith, length-blocks d w)) (omega (arith, length-blocks d w)))
+        (pad-stored blocksLength G 4 (length n ∷ n) (64 - length n) (omega (arith, length-blocks d w)) (omega (arith, length-blocks d w)))
 
-    within-begun : Within (begun d n)
+    within-begun : WithinSizes (begun d n)
     unfolding entryCount
     within-begun =
         record {
@@ -86,10 +79,10 @@ module _ (d : Draft) (w : Within d) (room : length (d .function .blocks) < 64) w
           inParts = w .inParts;
         }
 
-    pub names-block : length (d .functions) < 16 → {m : ℕ} → m ≡ functionAt (length (d .functions)) + 16973 + 69 * length bs → Stores d (begun d n) m (length n ∷ n)
+    pub names-block : length (d .functions) < 16 → {m : ℕ} → m ≡ functionAt (length (d .functions)) + blockNamesOffset + blockLength * length bs → Stores d (begun d n) m (length n ∷ n)
     unfolding openHead openRegisters openRowCells openEntries
     names-block less {m} e =
-        let p : m ≡ functionAt (length (d .functions)) + 16969 + (69 * length bs + 4) = omega arith in
+        let p : m ≡ functionAt (length (d .functions)) + blocksOffset + (blockLength * length bs + 4) = omega arith in
         record {
           cells = rw (sections d, sections (begun d n), same-rows) (in-blocks (sized d w less) name-stored (omega arith) p .cells);
           within = within-begun;
@@ -106,23 +99,23 @@ module _ (d : Draft) (w : Within d) (room : length (d .function .blocks) < 64) w
     rows-before : first ≡ sum (map height bs)
     rows-before = omega (arith, simp length-append at (ap length (open-rows d)), length-gather (λ b. b .rows) bs)
 
-    more-blocks : openBlocks (ended d) ≡ pad 4416 (gatherFrom height blockCells 0 bs ++ blockCells first (d .block))
+    more-blocks : openBlocks (ended d) ≡ pad blocksLength (gatherFrom height blockCells 0 bs ++ blockCells first (d .block))
     unfolding openBlocks
     more-blocks = rw (gatherFrom-append height blockCells 0 bs (d .block ∷ []), zero-add, ← rows-before, no-block) (simp append-nil)
 
-    counts-stored : Stored (openBlocks d) (69 * length bs) (twoBytes first ++ twoBytes (length (d .block .rows))) (openBlocks (ended d))
+    counts-stored : Stored (openBlocks d) (blockLength * length bs) (twoBytes first ++ twoBytes (length (d .block .rows))) (openBlocks (ended d))
     unfolding openBlocks blockCells
     counts-stored =
         let b = d .block in
         let G = gatherFrom height blockCells 0 bs in
         let vs = twoBytes first ++ twoBytes (length (b .rows)) in
-        let l : length G ≡ 69 * length bs = length-blocks d w in
-        let put : Stored (G ++ (replicate 4 0 ++ nameCells (b .name))) (69 * length bs) vs (G ++ (vs ++ nameCells (b .name))) =
+        let l : length G ≡ blockLength * length bs = length-blocks d w in
+        let put : Stored (G ++ (replicate 4 0 ++ nameCells (b .name))) (blockLength * length bs) vs (G ++ (vs ++ nameCells (b .name))) =
         record { cells = sym (sets-middle vs G (replicate 4 0) (nameCells (b .name)) refl (omega arith)) } in
         rw (more-blocks, whole-block G (b .name) (omega arith))
-        (stored-pad put 4416 (simp length-append (omega arith)))
+        (stored-pad put blocksLength (simp length-append (omega arith)))
 
-    within-ended : Within (ended d)
+    within-ended : WithinSizes (ended d)
     unfolding entryCount
     within-ended =
         record {
@@ -143,7 +136,7 @@ module _ (d : Draft) (w : Within d) (room : length (d .function .blocks) < 64) w
           inParts = w .inParts;
         }
 
-    pub ends-block : length (d .functions) < 16 → {m : ℕ} → m ≡ functionAt (length (d .functions)) + 16969 + 69 * length bs
+    pub ends-block : length (d .functions) < 16 → {m : ℕ} → m ≡ functionAt (length (d .functions)) + blocksOffset + blockLength * length bs
         → Stores d (ended d) m (twoBytes first ++ twoBytes (length (d .block .rows)))
     unfolding openHead openRegisters openRowCells openEntries
     ends-block less {m} e =

@@ -11,12 +11,13 @@ use lib.ListN.{length, getD, replicate, length-append, length-map, List·getD-ap
 use lib.Seq.{sets, length-sets, take-length, drop-length, getD-append-seam}
 use Rattle.laws.specs.Lists.{gather}
 use Rattle.laws.specs.Sections.{pad, gatherFrom}
-use Rattle.laws.proofs.Appending.{gather-append, gather-map, gather-same, gatherFrom-map}
+use Rattle.laws.proofs.Appending.{gather-append, gather-same, gatherFrom-map, gather-commutes}
 use Rattle.laws.proofs.Storing.{Stored, sets-over}
 use Rattle.language.specs.Programs.{Row, Block, Func, Program, noBlock, noFunction, entriesOf, rowsOf, entryCount}
 use Rattle.language.specs.Table.{functionAt, nameCells, blockCells, rowCells, headCells, registerSection, blockSection, rowSection, entrySection, functionCells, cells}
+use Rattle.language.specs.Table.{blocksLength, functionLength, registersOffset}
 use Rattle.language.specs.Reading.{Draft, fresh, resolve, resolveRow, resolveBlock, blockNumber}
-use Rattle.reader.specs.Draft.{Within, openBlock, openHead, openRegisters, openBlocks, openRows, openEntries, closedTable, patchedRows, patchedTable, mentionedBlocks, headBytes}
+use Rattle.reader.specs.Draft.{WithinSizes, openBlock, openHead, openRegisters, openBlocks, openRows, openEntries, closedTable, patchedRows, patchedTable, mentionedBlocks, headBytes}
 use Rattle.reader.proofs.DraftSections.{height, entries, Whole, Sized, tableOf, in-head}
 use Rattle.reader.proofs.DraftBlocks.{open-rows, no-block}
 use Rattle.reader.proofs.DraftPatch.{patched-sections, patched-sized}
@@ -41,10 +42,10 @@ entries-kept bs (Row.unknown op) = refl
 
 -- ---- one more function
 
-whole-snoc : (fs : List Func) (g : Func) → Whole fs → length (functionCells g) ≡ 34697 → Whole (fs ++ (g ∷ []))
+whole-snoc : (fs : List Func) (g : Func) → Whole fs → length (functionCells g) ≡ functionLength → Whole (fs ++ (g ∷ []))
 whole-snoc fs g h l i b = by (decLt i (length fs))
   where
-    by : Dec (i < length fs) → length (functionCells (getD (fs ++ (g ∷ [])) i noFunction)) ≡ 34697
+    by : Dec (i < length fs) → length (functionCells (getD (fs ++ (g ∷ [])) i noFunction)) ≡ functionLength
     by (yes c) = rw (List·getD-append fs (g ∷ []) noFunction i c) (h i c)
     by (no c) =
         let e : i ≡ length fs = omega (arith, length-append fs (g ∷ [])) in
@@ -60,7 +61,7 @@ abbrev pub closedFunction : Draft → Func
 closedFunction d = resolve (d .function) (d .mentions)
 
 -- between two functions nothing is in hand
-pub within-fresh : (fs : List Func) → length fs ≤ 16 → Whole fs → Within (fresh fs)
+pub within-fresh : (fs : List Func) → length fs ≤ 16 → Whole fs → WithinSizes (fresh fs)
 unfolding rowsOf entryCount
 within-fresh fs h l =
     record {
@@ -81,12 +82,12 @@ within-fresh fs h l =
       inParts = tt;
     }
 
-pub within-start : Within (fresh [])
+pub within-start : WithinSizes (fresh [])
 within-start = within-fresh [] (lit≤ tt) (λ i b. absurd (omega arith))
 
 -- ---- the function in hand, with no block and no phi entries in hand
 
-module _ (d : Draft) (w : Within d) (less : length (d .functions) < 16) (none : d .block ≡ noBlock) (no-entries : d .parts .entries ≡ []) where
+module _ (d : Draft) (w : WithinSizes d) (less : length (d .functions) < 16) (none : d .block ≡ noBlock) (no-entries : d .parts .entries ≡ []) where
   abbrev g : Func
   g = closedFunction d
 
@@ -98,7 +99,7 @@ module _ (d : Draft) (w : Within d) (less : length (d .functions) < 16) (none : 
 
   closed-rows : rowsOf g ≡ map (resolveRow bs) (openRows d)
   unfolding rowsOf resolve
-  closed-rows = gather-map (λ b. b .rows) (resolveBlock bs) (resolveRow bs) (λ b. refl) (d .function .blocks) ∙ ap (λ (rows : List Row). map (resolveRow bs) rows) (sym all-rows)
+  closed-rows = gather-commutes (λ b. b .rows) (resolveBlock bs) (resolveRow bs) (λ b. refl) (d .function .blocks) ∙ ap (λ (rows : List Row). map (resolveRow bs) rows) (sym all-rows)
 
   closed-registers : openRegisters d ≡ registerSection g
   unfolding openRegisters registerSection resolve
@@ -112,7 +113,7 @@ module _ (d : Draft) (w : Within d) (less : length (d .functions) < 16) (none : 
   unfolding openBlocks blockSection resolve
   closed-blocks =
       let G = gatherFrom height blockCells 0 (d .function .blocks) in
-      ap (λ (b : Block). pad 4416 (G ++ openBlock (b .name))) none
+      ap (λ (b : Block). pad blocksLength (G ++ openBlock (b .name))) none
       ∙ rw (no-block, gatherFrom-map height blockCells blockCells (resolveBlock bs) (λ b. length-map (b .rows) (resolveRow bs)) block-kept 0 (d .function .blocks))
       (simp append-nil)
 
@@ -147,10 +148,10 @@ module _ (d : Draft) (w : Within d) (less : length (d .functions) < 16) (none : 
   closed-sized =
       rw (closed-registers, closed-blocks, closed-row-cells, closed-entries) at (patched-sized d w less bs (length (openRows d)) (le-refl (length (openRows d))))
 
-  length-closed-function : length (functionCells g) ≡ 34697
+  length-closed-function : length (functionCells g) ≡ functionLength
   unfolding functionCells
   length-closed-function =
-      let head : length (headCells g) ≡ 73 = rw (head-stored .cells) (length-sets (openHead d) 0 (headBytes (d .function) (blockNumber (d .function) [])) ∙ closed-sized .head) in
+      let head : length (headCells g) ≡ registersOffset = rw (head-stored .cells) (length-sets (openHead d) 0 (headBytes (d .function) (blockNumber (d .function) [])) ∙ closed-sized .head) in
       simp length-append (omega (arith, closed-sized))
 
   -- with its first eight cells stored, the function in hand is the last one closed
@@ -161,5 +162,5 @@ module _ (d : Draft) (w : Within d) (less : length (d .functions) < 16) (none : 
       let p : m ≡ functionAt (length (d .functions)) + 0 = omega arith in
       rw (closed-sections, ← closed-snoc (d .functions) g) (in-head closed-sized head-stored (omega arith) p .cells)
 
-  pub within-closed : Within (fresh (d .functions ++ (closedFunction d ∷ [])))
+  pub within-closed : WithinSizes (fresh (d .functions ++ (closedFunction d ∷ [])))
   within-closed = within-fresh (d .functions ++ (g ∷ [])) (simp length-append (omega arith)) (whole-snoc (d .functions) g (w .whole) length-closed-function)

@@ -12,15 +12,16 @@ use lib.ListN.{length, getD, take, drop, length-append, length-drop}
 use lib.Seq.{sets, length-sets, take-suc, drop-cons, length-take-le}
 use Rattle.laws.specs.Lists.{all, sum}
 use Rattle.laws.specs.Sections.{At, pad, gatherFrom}
-use Rattle.laws.proofs.Appending.{gatherFrom-append, sum-append, all-at}
+use Rattle.laws.proofs.Appending.{gatherFrom-append, sum-append}
+use Rattle.laws.proofs.Indexing.{all-at}
 use Rattle.laws.proofs.Sections.{at-move, at-left, at-right, at-cell, at-pad, length-pad, length-gatherFrom}
 use Rattle.laws.proofs.Storing.{Stored, stored-left, stored-right, stored-pad}
-use Rattle.language.specs.Instructions.{formOf, formNumber}
+use Rattle.language.specs.Instructions.{formOf, formNumber, jumpCondOp, jumpOp}
 use Rattle.language.specs.Programs.{Row, opOf, formIn}
-use Rattle.language.specs.Table.{functionAt, two, twoBytes, eightBytes, rowCells, rowOp}
+use Rattle.language.specs.Table.{functionAt, two, twoBytes, eightBytes, rowCells, rowOp, operandsOffset, rowLength, rowsLength, rowsOffset}
 use Rattle.language.specs.Reading.{Draft, resolveRow, maxMentions}
-use Rattle.reader.specs.Draft.{Within, smallMentions, inForm, pendingCells, openHead, openRegisters, openBlocks, openRows, openRowCells, openEntries, openCells, openTable, patchedRows, patchedTable}
-use Rattle.reader.proofs.DraftSections.{entries, length-pending, length-rows, Sized, tableOf, length-tableOf, sized, in-rows}
+use Rattle.reader.specs.Draft.{WithinSizes, smallMentions, inForm, pendingCells, openHead, openRegisters, openBlocks, openRows, openRowCells, openEntries, openCells, openTable, patchedRows, patchedTable}
+use Rattle.reader.proofs.DraftSections.{entries, length-pending, length-rows, Sized, tableOf, sized, in-rows}
 use Rattle.reader.proofs.DraftNames.{at-rows}
 
 both-yes : (a b : Bool) → T (cond a b false) → T a × T b
@@ -143,12 +144,12 @@ module _ {t : List ℕ} where
 
   jump-back : {k : ℕ} (n x : ℕ) → x < 2048 → At t k (pendingCells n (Row.jump x)) → {m : ℕ} → m ≡ k + 4 → two t m ≡ x
   unfolding pendingCells
-  jump-back n x b h e = two-back x (omega arith) (at-right (32 ∷ 0 ∷ 0 ∷ 0 ∷ []) (twoBytes x) (at-pad 12 (32 ∷ 0 ∷ 0 ∷ 0 ∷ twoBytes x) h)) e
+  jump-back n x b h e = two-back x (omega arith) (at-right (jumpOp ∷ 0 ∷ 0 ∷ 0 ∷ []) (twoBytes x) (at-pad rowLength (jumpOp ∷ 0 ∷ 0 ∷ 0 ∷ twoBytes x) h)) e
 
   module _ {k : ℕ} (n s x y : ℕ) (h : At t k (pendingCells n (Row.branch s x y))) where
     both : At t (k + 4) (twoBytes x ++ twoBytes y)
     unfolding pendingCells
-    both = at-right (33 ∷ 0 ∷ s ∷ 0 ∷ []) (twoBytes x ++ twoBytes y) (at-pad 12 (33 ∷ 0 ∷ s ∷ 0 ∷ (twoBytes x ++ twoBytes y)) h)
+    both = at-right (jumpCondOp ∷ 0 ∷ s ∷ 0 ∷ []) (twoBytes x ++ twoBytes y) (at-pad rowLength (jumpCondOp ∷ 0 ∷ s ∷ 0 ∷ (twoBytes x ++ twoBytes y)) h)
 
     first-back : x < 2048 → {m : ℕ} → m ≡ k + 4 → two t m ≡ x
     first-back b e = two-back x (omega arith) (at-left (twoBytes x) (twoBytes y) both) e
@@ -171,18 +172,18 @@ module _ (bs : List ℕ) (rows : List Row) where
   abbrev left : ℕ → List ℕ
   left r = gatherFrom entries pendingCells (place r) (drop r rows)
 
-  length-finished : (n : ℕ) (row : Row) → length (finished n row) ≡ 12
+  length-finished : (n : ℕ) (row : Row) → length (finished n row) ≡ rowLength
   length-finished n row = rw (row-patched bs n row .cells) (length-sets (pendingCells n row) 4 (patch bs row) ∙ length-pending n row)
 
-  length-done : (r : ℕ) → r ≤ length rows → length (done r) ≡ 12 * r
+  length-done : (r : ℕ) → r ≤ length rows → length (done r) ≡ rowLength * r
   length-done r h =
-      length-gatherFrom entries finished 12 Row.nop 0 (take r rows) (λ m i b. length-finished m (getD (take r rows) i Row.nop))
-      ∙ ap (λ (k : ℕ). 12 * k) (length-take-le r rows h)
+      length-gatherFrom entries finished rowLength Row.nop 0 (take r rows) (λ m i b. length-finished m (getD (take r rows) i Row.nop))
+      ∙ ap (λ (k : ℕ). rowLength * k) (length-take-le r rows h)
 
-  length-patched : (r : ℕ) → r ≤ length rows → length rows ≤ 1024 → length (patchedRows bs r rows) ≡ 12288
+  length-patched : (r : ℕ) → r ≤ length rows → length rows ≤ 1024 → length (patchedRows bs r rows) ≡ rowsLength
   unfolding patchedRows
   length-patched r h k =
-      length-pad 12288 (done r ++ left r)
+      length-pad rowsLength (done r ++ left r)
       (simp length-append (omega (arith, length-done r h, length-rows (place r) (drop r rows), length-drop r rows)))
 
   module _ (r : ℕ) (b : r < length rows) where
@@ -199,24 +200,24 @@ module _ (bs : List ℕ) (rows : List Row) where
     done-snoc : done (suc r) ≡ done r ++ finished (place r) row
     done-snoc = rw (take-suc rows r Row.nop b, gatherFrom-append entries finished 0 (take r rows) (row ∷ []), zero-add) (simp append-nil)
 
-    row-stored : Stored (patchedRows bs r rows) (12 * r + 4) (patch bs row) (patchedRows bs (suc r) rows)
+    row-stored : Stored (patchedRows bs r rows) (rowLength * r + 4) (patch bs row) (patchedRows bs (suc r) rows)
     unfolding patchedRows
     row-stored =
         let n = place r in
-        let l : length (done r) ≡ 12 * r = length-done r (le-of-lt b) in
+        let l : length (done r) ≡ rowLength * r = length-done r (le-of-lt b) in
         let one : Stored (pendingCells n row ++ left (suc r)) 4 (patch bs row) (finished n row ++ left (suc r)) =
         stored-left (row-patched bs n row) (left (suc r)) (omega (arith, length-patch bs row, length-pending n row)) in
-        let all : Stored (done r ++ (pendingCells n row ++ left (suc r))) (12 * r + 4) (patch bs row) (done r ++ (finished n row ++ left (suc r))) =
+        let all : Stored (done r ++ (pendingCells n row ++ left (suc r))) (rowLength * r + 4) (patch bs row) (done r ++ (finished n row ++ left (suc r))) =
         stored-right one (done r) (omega arith) in
         rw (left-cons, done-snoc, append-assoc)
-        (stored-pad all 12288 (simp length-append (omega (arith, length-patch bs row, length-pending n row))))
+        (stored-pad all rowsLength (simp length-append (omega (arith, length-patch bs row, length-pending n row))))
 
-    pending-at : {t : List ℕ} {k : ℕ} → At t k (patchedRows bs r rows) → {m : ℕ} → m ≡ k + 12 * r → At t m (pendingCells (place r) row)
+    pending-at : {t : List ℕ} {k : ℕ} → At t k (patchedRows bs r rows) → {m : ℕ} → m ≡ k + rowLength * r → At t m (pendingCells (place r) row)
     unfolding patchedRows
     pending-at {t} {k} h {m} e =
         at-left (pendingCells (place r) row) (left (suc r))
         (rw left-cons at
-        (at-move {l = m} (omega (arith, length-done r (le-of-lt b))) (at-right (done r) (left r) (at-pad 12288 (done r ++ left r) h))))
+        (at-move {l = m} (omega (arith, length-done r (le-of-lt b))) (at-right (done r) (left r) (at-pad rowsLength (done r ++ left r) h))))
 
 -- ---- the table
 
@@ -230,7 +231,7 @@ pub patched-sections : (d : Draft) (bs : List ℕ) (r : ℕ)
 unfolding patchedTable tableOf
 patched-sections d bs r = refl
 
-module _ (d : Draft) (w : Within d) (less : length (d .functions) < 16) (bs : List ℕ) where
+module _ (d : Draft) (w : WithinSizes d) (less : length (d .functions) < 16) (bs : List ℕ) where
   pub patched-sized : (r : ℕ) → r ≤ length (openRows d)
       → Sized (d .functions) (openHead d) (openRegisters d) (openBlocks d) (patchedRows bs r (openRows d)) (openEntries d)
   patched-sized r h =
@@ -245,9 +246,6 @@ module _ (d : Draft) (w : Within d) (less : length (d .functions) < 16) (bs : Li
         entries = z .entries;
       }
 
-  pub length-patching : (r : ℕ) → r ≤ length (openRows d) → length (patchedTable d bs r) ≡ 555153
-  length-patching r h = rw (patched-sections d bs r) (length-tableOf (patched-sized r h))
-
   module _ (r : ℕ) (b : r < length (openRows d)) {a : ℕ} (e : a ≡ functionAt (length (d .functions))) where
     abbrev here : Row
     here = getD (openRows d) r Row.nop
@@ -255,13 +253,13 @@ module _ (d : Draft) (w : Within d) (less : length (d .functions) < 16) (bs : Li
     abbrev t : List ℕ
     t = patchedTable d bs r
 
-    patches : {m : ℕ} → m ≡ a + 21389 + 12 * r → patchedTable d bs (suc r) ≡ sets t m (patch bs here)
+    patches : {m : ℕ} → m ≡ a + operandsOffset + rowLength * r → patchedTable d bs (suc r) ≡ sets t m (patch bs here)
     patches {m} p =
-        let q : m ≡ functionAt (length (d .functions)) + 21385 + (12 * r + 4) = omega arith in
+        let q : m ≡ functionAt (length (d .functions)) + rowsOffset + (rowLength * r + 4) = omega arith in
         rw (patched-sections d bs r, patched-sections d bs (suc r))
         (in-rows (patched-sized r (le-of-lt b)) (row-stored bs (openRows d) r b) (omega (arith, length-patch bs here, w .rows)) q .cells)
 
-    row-at : At t (a + 21385 + 12 * r) (pendingCells (place bs (openRows d) r) here)
+    row-at : At t (a + rowsOffset + rowLength * r) (pendingCells (place bs (openRows d) r) here)
     row-at =
         rw (patched-sections d bs r) (pending-at bs (openRows d) r b (at-rows (patched-sized r (le-of-lt b))) (omega arith))
 
@@ -271,57 +269,36 @@ module _ (d : Draft) (w : Within d) (less : length (d .functions) < 16) (bs : Li
         at-cell 0 row-at 0 (rw (length-pending n here) (lit< tt)) (omega arith) ∙ first-cell n here
 
     in-form : T (inForm here)
-    in-form = all-at inForm Row.nop (openRows d) (w .formed) r b
+    in-form = all-at inForm (openRows d) r Row.nop (w .formed) b
 
     small : T (smallMentions here)
-    small = all-at smallMentions Row.nop (openRows d) (w .inRows) r b
+    small = all-at smallMentions (openRows d) r Row.nop (w .inRows) b
 
     pub patches-other : rowOp t a r ≢ 32 → rowOp t a r ≢ 33 → patchedTable d bs (suc r) ≡ t
     patches-other h k =
         let none : patch bs here ≡ [] = other-patch bs here (λ p. h (op-back ∙ p)) (λ p. k (op-back ∙ p)) in
-        patches {m = a + 21389 + 12 * r} refl ∙ rw none
+        patches {m = a + operandsOffset + rowLength * r} refl ∙ rw none
 
-    -- the numbers of mentions in a jump or branch are below their limit
-    pub jump-small : rowOp t a r ≡ 32 → {m : ℕ} → m ≡ a + 21389 + 12 * r → two t m < 2048
-    unfolding formOf
-    jump-small h {m} p =
-        let n = place bs (openRows d) r in
-        jump-only (λ row. T (smallMentions row) → At t (a + 21385 + 12 * r) (pendingCells n row) → two t m < 2048)
-        (λ x s k. omega (arith, ltb→lt x maxMentions s, jump-back n x (ltb→lt x maxMentions s) k {m = m} (omega arith)))
-        here (form-at here in-form 32 (sym op-back ∙ h)) small row-at
-
-    pub branch-small : rowOp t a r ≡ 33 → {m : ℕ} → m ≡ a + 21389 + 12 * r → (two t m < 2048) × (two t (m + 2) < 2048)
-    unfolding formOf
-    branch-small h {m} p =
-        let n = place bs (openRows d) r in
-        branch-only (λ row. T (smallMentions row) → At t (a + 21385 + 12 * r) (pendingCells n row) → (two t m < 2048) × (two t (m + 2) < 2048))
-        (λ v x y s k.
-        let c = both-yes (ltb x maxMentions) (ltb y maxMentions) s in
-        let i : x < 2048 = ltb→lt x maxMentions (c .0) in
-        let j : y < 2048 = ltb→lt y maxMentions (c .1) in
-        (omega (arith, first-back n v x y k i {m = m} (omega arith)), omega (arith, second-back n v x y k j {m = m + 2} (omega arith))))
-        here (form-at here in-form 33 (sym op-back ∙ h)) small row-at
-
-    pub patches-jump : rowOp t a r ≡ 32 → {m : ℕ} → m ≡ a + 21389 + 12 * r
+    pub patches-jump : rowOp t a r ≡ jumpOp → {m : ℕ} → m ≡ a + operandsOffset + rowLength * r
         → patchedTable d bs (suc r) ≡ sets t m (getD bs (two t m) 0 ∷ 0 ∷ 0 ∷ 0 ∷ 0 ∷ 0 ∷ 0 ∷ 0 ∷ [])
     unfolding formOf
     patches-jump h {m} p =
         let n = place bs (openRows d) r in
         jump-only
         (λ row.
-        T (smallMentions row) → At t (a + 21385 + 12 * r) (pendingCells n row) → patchedTable d bs (suc r) ≡ sets t m (patch bs row)
+        T (smallMentions row) → At t (a + rowsOffset + rowLength * r) (pendingCells n row) → patchedTable d bs (suc r) ≡ sets t m (patch bs row)
         → patchedTable d bs (suc r) ≡ sets t m (getD bs (two t m) 0 ∷ 0 ∷ 0 ∷ 0 ∷ 0 ∷ 0 ∷ 0 ∷ 0 ∷ []))
         (λ x s k q. rw (jump-back n x (ltb→lt _ _ s) k {m = m} (omega arith)) q)
         here (form-at here in-form 32 (sym op-back ∙ h)) small row-at (patches p)
 
-    pub patches-branch : rowOp t a r ≡ 33 → {m : ℕ} → m ≡ a + 21389 + 12 * r
+    pub patches-branch : rowOp t a r ≡ jumpCondOp → {m : ℕ} → m ≡ a + operandsOffset + rowLength * r
         → patchedTable d bs (suc r) ≡ sets t m (getD bs (two t m) 0 ∷ getD bs (two t (m + 2)) 0 ∷ 0 ∷ 0 ∷ 0 ∷ 0 ∷ 0 ∷ 0 ∷ [])
     unfolding formOf
     patches-branch h {m} p =
         let n = place bs (openRows d) r in
         branch-only
         (λ row.
-        T (smallMentions row) → At t (a + 21385 + 12 * r) (pendingCells n row) → patchedTable d bs (suc r) ≡ sets t m (patch bs row)
+        T (smallMentions row) → At t (a + rowsOffset + rowLength * r) (pendingCells n row) → patchedTable d bs (suc r) ≡ sets t m (patch bs row)
         → patchedTable d bs (suc r) ≡ sets t m (getD bs (two t m) 0 ∷ getD bs (two t (m + 2)) 0 ∷ 0 ∷ 0 ∷ 0 ∷ 0 ∷ 0 ∷ 0 ∷ []))
         (λ v x y s k q.
         let c = both-yes (ltb x maxMentions) (ltb y maxMentions) s in

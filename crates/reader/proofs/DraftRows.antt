@@ -7,18 +7,18 @@ use mathlib.Core.List.{[], _∷_, _++_, map, append-nil, append-assoc}
 use Prim.Native.Nat.{ℕ, _+_, _*_, _/_, _%_, _≤_, _<_}
 use native.Mathlib.Nat.{zero-add}
 use native.Mathlib.Omega.{arith}
-use lib.Dec.{T, eqb, ltb, eqb→eq, eqb-refl, ltb→lt, lt→ltb}
+use lib.Dec.{T, eqb, ltb, eqb-refl, ltb→lt, lt→ltb}
 use lib.ListN.{length, getD, replicate, length-append}
 use Rattle.laws.specs.Lists.{all, sum}
 use Rattle.laws.specs.Sections.{pad, gatherFrom}
-use Rattle.laws.proofs.Branches.{choose}
 use Rattle.laws.proofs.Appending.{gather-append, gatherFrom-append, sum-append, all-snoc, all-getD}
 use Rattle.laws.proofs.Storing.{Stored, pad-stored}
 use Rattle.language.specs.Instructions.{Form, formOf, formNumber}
 use Rattle.language.specs.Programs.{entriesOf, rowsOf, entryCount, opOf, formIn}
-use Rattle.language.specs.Table.{functionAt, rowCells, twoBytes, eightBytes}
+use Rattle.language.specs.Table.{functionAt, rowCells, twoBytes, eightBytes, rowLength, rowsLength, rowsOffset}
 use Rattle.language.specs.Reading.{Draft, Parts, openFunction, rowAs, rowOf, maxMentions}
-use Rattle.reader.specs.Draft.{Within, Stores, smallMentions, inForm, pendingCells, cellsAs, instructionCells, openHead, openRegisters, openBlocks, openRows, openRowCells, openEntries}
+use Rattle.language.proofs.FormLaws.{by-form}
+use Rattle.reader.specs.Draft.{WithinSizes, Stores, smallMentions, inForm, pendingCells, cellsAs, instructionCells, openHead, openRegisters, openBlocks, openRows, openRowCells, openEntries}
 use Rattle.reader.proofs.DraftSections.{entries, length-rows, length-pending, sections, sized, in-rows}
 use Rattle.reader.proofs.DraftActs.{written}
 
@@ -46,21 +46,11 @@ eight-of-two x h =
 
 -- a row has the number of its instruction
 op-of-row : (x : Parts) → opOf (rowOf x) ≡ x .op
-unfolding rowOf formOf
+unfolding rowOf
 op-of-row x =
     let n = x .op in
     let P : Form → Type 0 = λ g. opOf (rowAs g x) ≡ n in
-    choose P (eqb n 0) (λ t. sym (eqb→eq n 0 t))
-    (choose P (eqb n 14) (λ t. refl)
-    (choose P (eqb n 18) (λ t. refl)
-    (choose P (eqb n 31) (λ t. sym (eqb→eq n 31 t))
-    (choose P (eqb n 32) (λ t. sym (eqb→eq n 32 t))
-    (choose P (eqb n 33) (λ t. sym (eqb→eq n 33 t))
-    (choose P (eqb n 34) (λ t. sym (eqb→eq n 34 t))
-    (choose P (eqb n 35) (λ t. sym (eqb→eq n 35 t))
-    (choose P (ltb n 9) (λ t. refl)
-    (choose P (ltb n 29) (λ t. refl)
-    (choose P (ltb n 31) (λ t. refl) refl))))))))))
+    by-form P n sym (λ a b. refl) (λ a b. refl) (λ a b. refl) sym sym sym sym sym (λ e. refl)
 
 form-as : (g : Form) (x : Parts) → formIn (rowAs g x) ≡ g
 form-as Form.nop x = refl
@@ -119,7 +109,7 @@ module _ (n : ℕ) (x : Parts) (small : T (all (λ m. ltb m maxMentions) (x .men
   unfolding rowOf
   small-row = small-as (formOf (x .op))
 
-length-instruction : (n : ℕ) (x : Parts) → length (instructionCells n x) ≡ 12
+length-instruction : (n : ℕ) (x : Parts) → length (instructionCells n x) ≡ rowLength
 unfolding instructionCells
 length-instruction n x = refl
 
@@ -147,7 +137,7 @@ pub more-rows : (d : Draft) → openRows (written d) ≡ openRows d ++ (rowOf (d
 unfolding rowsOf
 more-rows d = simp (gather-append, append-assoc, append-nil)
 
-module _ (d : Draft) (w : Within d) (own : entriesOf (rowOf (d .parts)) ≡ d .parts .entries) where
+module _ (d : Draft) (w : WithinSizes d) (own : entriesOf (rowOf (d .parts)) ≡ d .parts .entries) where
   pub more-entries : entryCount (openFunction (written d)) ≡ entryCount (openFunction d) + length (d .parts .entries)
   unfolding entryCount
   more-entries = rw (more-rows d, sum-append entries (openRows d) (rowOf (d .parts) ∷ []), own) (omega arith)
@@ -157,15 +147,15 @@ module _ (d : Draft) (w : Within d) (own : entriesOf (rowOf (d .parts)) ≡ d .p
   same-entries = rw (more-rows d, gather-append entriesOf (openRows d) (rowOf (d .parts) ∷ []), own) (simp append-nil)
 
   row-stored : length (openRows d) < 1024
-      → Stored (openRowCells d) (12 * length (openRows d)) (instructionCells (entryCount (openFunction d)) (d .parts)) (openRowCells (written d))
+      → Stored (openRowCells d) (rowLength * length (openRows d)) (instructionCells (entryCount (openFunction d)) (d .parts)) (openRowCells (written d))
   unfolding openRowCells entryCount
   row-stored few =
       let n = sum (map entries (openRows d)) in
       rw (more-rows d, gatherFrom-append entries pendingCells 0 (openRows d) (rowOf (d .parts) ∷ []), ← row-cells n (d .parts) (w .inParts) (w .entries), zero-add n)
-      (pad-stored 12288 (gatherFrom entries pendingCells 0 (openRows d)) 0 (pendingCells n (rowOf (d .parts))) 0
+      (pad-stored rowsLength (gatherFrom entries pendingCells 0 (openRows d)) 0 (pendingCells n (rowOf (d .parts))) 0
       (omega (arith, length-rows 0 (openRows d), length-pending n (rowOf (d .parts)))) (omega (arith, length-rows 0 (openRows d))))
 
-  within-written : length (openRows d) < 1024 → Within (written d)
+  within-written : length (openRows d) < 1024 → WithinSizes (written d)
   within-written few =
       record {
         functions = w .functions;
@@ -186,7 +176,7 @@ module _ (d : Draft) (w : Within d) (own : entriesOf (rowOf (d .parts)) ≡ d .p
       }
 
   pub ends-instruction : length (d .functions) < 16 → length (openRows d) < 1024 → {m : ℕ}
-      → m ≡ functionAt (length (d .functions)) + 21385 + 12 * length (openRows d)
+      → m ≡ functionAt (length (d .functions)) + rowsOffset + rowLength * length (openRows d)
       → Stores d (written d) m (instructionCells (entryCount (openFunction d)) (d .parts))
   unfolding openHead openRegisters openBlocks
   ends-instruction less few {m} e =

@@ -13,7 +13,7 @@ use Rattle.language.specs.Words.{functionWord, ssaWord, voidWord, registerWord,
 use Rattle.language.specs.Bytes.{leftParen, rightParen, leftBrace, rightBrace, comma, semicolon, equals}
 use Rattle.language.specs.Tokens.{Token}
 use Rattle.language.specs.Grammar.{Stage, Act, Move, to, wrongMove, onWord, onName, onNumber, onBlock, onMarkOr, onMark, onEndOr, isWord, aType, aResult, aParameter, aBlock, anInstruction, wordWithTarget, wordAlone, afterWord, afterSource, afterSources, afterMention, sources, inOperand, gram}
-use Rattle.language.specs.Reading.{Draft, Mention, Outcome, refuse, proceed, ifRoom, ifResolved, perform, fresh, partsOf, withParts, functionNumber, registerNumber, blockNumber, rowCount, phiEntries, maxMentions, inRange, bitsOf, undeclared}
+use Rattle.language.specs.Reading.{Draft, Mention, ActOutcome, refuse, proceed, ifRoom, ifResolved, performAct, fresh, partsOf, withParts, functionNumber, registerNumber, blockNumber, draftRows, phiEntries, maxMentions, numberInRange, bitsOf, undeclared}
 use Rattle.language.specs.Reading.{beginFunction, markSsa, setResult, nameFunction, beginRegister, nameRegister, beginBlock, nameBlock, endBlock, beginInstruction, setTarget, setInstruction, addSource, addEntry, addMention, setNumber, endInstruction, endFunction}
 use Rattle.reader.specs.Draft.{depth, InHand, After}
 use Rattle.reader.proofs.DraftActs.{named, registered, begun, ended, entered, mentioned, written}
@@ -24,7 +24,7 @@ after (After.proceeds h) = h
 
 -- ---- tests that an act makes first
 
-module _ {P : Draft → Type 0} {o : Outcome} (h : After P o) where
+module _ {P : Draft → Type 0} {o : ActOutcome} (h : After P o) where
   pub after-test : (b : Bool) (n p : ℕ) → After P (cond b o (refuse n p))
   after-test true n p = h
   after-test false n p = After.refused
@@ -102,15 +102,15 @@ later {k} h j l =
 
 -- What a move comes to has in hand what its stage says.
 pub record Moved (d : Draft) (p : ℕ) (m : Move) : Type 0 where
-  pub holds : After (InHand (depth (m .stage))) (perform (m .act) p d)
+  pub holds : After (InHand (depth (m .stage))) (performAct (m .act) p d)
 
 module _ (d : Draft) (p : ℕ) where
   wrong-moved : Moved d p wrongMove
-  unfolding perform
+  unfolding performAct
   wrong-moved = record { holds = After.refused }
 
   passed : {k : ℕ} → InHand k d → (s : Stage) → k ≤ depth s → Moved d p (to s Act.pass)
-  unfolding perform
+  unfolding performAct
   passed h s l = record { holds = After.proceeds (later h (depth s) l) }
 
   -- x is what d becomes, behind a test for room
@@ -118,25 +118,25 @@ module _ (d : Draft) (p : ℕ) where
   roomy x k m h = after-test (After.proceeds h) (ltb k m) 5 p
 
   began-function : InHand 0 d → Moved d p (to Stage.header Act.beginFunction)
-  unfolding perform beginFunction
+  unfolding performAct beginFunction
   began-function h = record { holds = roomy d (length (d .functions)) maxFunctions h }
 
   ssa-marked : InHand 0 d → Moved d p (to Stage.result Act.markSsa)
-  unfolding perform markSsa
+  unfolding performAct markSsa
   ssa-marked h = record { holds = After.proceeds (record { name = h .name; block = h .block; entries = h .entries }) }
 
   result-set : InHand 0 d → (t : ℕ) → Moved d p (to Stage.functionName (Act.setResult t))
-  unfolding perform setResult
+  unfolding performAct setResult
   result-set h t = record { holds = After.proceeds (record { name = h .name; block = h .block; entries = h .entries }) }
 
   function-named : InHand 0 d → (n : List ℕ) → Moved d p (to Stage.parameters (Act.nameFunction n))
-  unfolding perform nameFunction
+  unfolding performAct nameFunction
   function-named h n =
       let now : InHand 1 (named d n) = record { name = λ t. absurd t; block = h .block; entries = h .entries } in
       record { holds = after-test (after-fail (After.proceeds now) (ltb (functionNumber (d .functions) n) (length (d .functions))) 6 p) (ltb (length (d .functions)) maxFunctions) 5 p }
 
   began-register : InHand 1 d → (s : Stage) → 1 ≤ depth s → Moved d p (to s Act.beginRegister)
-  unfolding perform beginRegister
+  unfolding performAct beginRegister
   began-register h s l = record { holds = roomy d (length (d .function .registers)) maxRegisters (later h (depth s) l) }
 
   register-named : InHand 1 d → (k t : ℕ) (n : List ℕ) → After (InHand 1) (nameRegister k t n p d)
@@ -147,32 +147,32 @@ module _ (d : Draft) (p : ℕ) where
       after-test (after-fail (After.proceeds now) (ltb (registerNumber (d .function) n) (length rs)) 6 p) (ltb (length rs) maxRegisters) 5 p
 
   parameter-named : InHand 1 d → (t : ℕ) (n : List ℕ) → Moved d p (to Stage.parameterEnd (Act.nameParameter t n))
-  unfolding perform
+  unfolding performAct
   parameter-named h t n = record { holds = register-named h 1 t n }
 
   declared : InHand 1 d → (t : ℕ) (n : List ℕ) → Moved d p (to Stage.registerEnd (Act.nameRegister t n))
-  unfolding perform
+  unfolding performAct
   declared h t n = record { holds = register-named h 0 t n }
 
   began-block : InHand 1 d → Moved d p (to Stage.blockName Act.beginBlock)
-  unfolding perform beginBlock
+  unfolding performAct beginBlock
   began-block h = record { holds = roomy d (length (d .function .blocks)) maxBlocks h }
 
   block-named : InHand 1 d → (n : List ℕ) → Moved d p (to Stage.blockBody (Act.nameBlock n))
-  unfolding perform nameBlock
+  unfolding performAct nameBlock
   block-named h n =
       let bs = d .function .blocks in
       let now : InHand 2 (begun d n) = record { name = λ t. absurd t; block = λ t. absurd t; entries = h .entries } in
       record { holds = after-test (after-fail (After.proceeds now) (ltb (blockNumber (d .function) n) (length bs)) 6 p) (ltb (length bs) maxBlocks) 5 p }
 
   block-ended : InHand 2 d → Moved d p (to Stage.blocks Act.endBlock)
-  unfolding perform endBlock
+  unfolding performAct endBlock
   block-ended h =
       let now : InHand 1 (ended d) = record { name = λ t. absurd t; block = λ t. refl; entries = h .entries } in
       record { holds = roomy (ended d) (length (d .function .blocks)) maxBlocks now }
 
   function-ended : Moved d p (to Stage.top Act.endFunction)
-  unfolding perform endFunction
+  unfolding performAct endFunction
   function-ended =
       let f = d .function in
       let x : Draft = fresh (d .functions ++ (closedFunction d ∷ [])) in
@@ -189,26 +189,26 @@ module _ (d : Draft) (p : ℕ) where
       }
 
   instruction-begun : (op : ℕ) (s : Stage) → 2 ≤ depth s → Moved d p (to s (Act.beginInstruction op))
-  unfolding perform beginInstruction
+  unfolding performAct beginInstruction
   instruction-begun op s l =
       let x = withParts d (partsOf op 0 [] 0 [] []) in
-      record { holds = roomy x (rowCount d) maxRows (empty-handed x refl (depth s) l) }
+      record { holds = roomy x (draftRows d) maxRows (empty-handed x refl (depth s) l) }
 
   instruction-set : (op : ℕ) (s : Stage) → 2 ≤ depth s → Moved d p (to s (Act.setInstruction op))
-  unfolding perform setInstruction
+  unfolding performAct setInstruction
   instruction-set op s l =
       let x = withParts d (partsOf op (d .parts .target) [] 0 [] []) in
       record { holds = After.proceeds (empty-handed x refl (depth s) l) }
 
   target-set : (n : List ℕ) → Moved d p (to Stage.assignment (Act.setTarget n))
-  unfolding perform setTarget
+  unfolding performAct setTarget
   target-set n =
       let r = registerNumber (d .function) n in
       let x = withParts d (partsOf 0 r [] 0 [] []) in
-      record { holds = after-test (after-test (After.proceeds (empty-handed x refl 2 (lit≤ tt))) (ltb r (length (d .function .registers))) 7 p) (ltb (rowCount d) maxRows) 5 p }
+      record { holds = after-test (after-test (After.proceeds (empty-handed x refl 2 (lit≤ tt))) (ltb r (length (d .function .registers))) 7 p) (ltb (draftRows d) maxRows) 5 p }
 
   source-added : InHand 2 d → (n : List ℕ) (s : Stage) → 2 ≤ depth s → Moved d p (to s (Act.addSource n))
-  unfolding perform addSource
+  unfolding performAct addSource
   source-added h n s l =
       let r = registerNumber (d .function) n in
       let y = d .parts in
@@ -216,27 +216,27 @@ module _ (d : Draft) (p : ℕ) where
       record { holds = after-test (After.proceeds (empty-handed x (h .entries tt) (depth s) l)) (ltb r (length (d .function .registers))) 7 p }
 
   entry-added : (n : List ℕ) → Moved d p (to Stage.entryEnd (Act.addEntry n))
-  unfolding perform addEntry
+  unfolding performAct addEntry
   entry-added n =
       let r = registerNumber (d .function) n in
       let now : InHand 3 (entered d r) = record { name = λ t. absurd t; block = λ t. absurd t; entries = λ t. absurd t } in
       record { holds = after-test (after-test (After.proceeds now) (ltb r (length (d .function .registers))) 7 p) (ltb (phiEntries d) maxEntries) 5 p }
 
   mention-added : InHand 2 d → (n : List ℕ) (s : Stage) → 2 ≤ depth s → Moved d p (to s (Act.addMention n))
-  unfolding perform addMention
+  unfolding performAct addMention
   mention-added h n s l = record { holds = roomy (mentioned d n p) (length (d .mentions)) maxMentions (empty-handed (mentioned d n p) (h .entries tt) (depth s) l) }
 
   number-set : InHand 2 d → (s : Bool) (v : ℕ) → Moved d p (to Stage.operandEnd (Act.setNumber s v))
-  unfolding perform setNumber
+  unfolding performAct setNumber
   number-set h s v =
       let y = d .parts in
       let t = loadType (y .op) in
       let x = withParts d (partsOf (y .op) (y .target) (y .sources) (bitsOf t s v) (y .entries) (y .mentions)) in
-      record { holds = after-test (After.proceeds (empty-handed x (h .entries tt) 2 (lit≤ tt))) (inRange t s v) 4 p }
+      record { holds = after-test (After.proceeds (empty-handed x (h .entries tt) 2 (lit≤ tt))) (numberInRange t s v) 4 p }
 
   instruction-ended : Moved d p (to Stage.nextInstruction Act.endInstruction)
-  unfolding perform endInstruction
-  instruction-ended = record { holds = roomy (written d) (rowCount d) maxRows (empty-handed (written d) refl 2 (lit≤ tt)) }
+  unfolding performAct endInstruction
+  instruction-ended = record { holds = roomy (written d) (draftRows d) maxRows (empty-handed (written d) refl 2 (lit≤ tt)) }
 
 -- ---- the stages
 
@@ -358,7 +358,7 @@ settled (Stage.mentionComma k) d p h = mark d p comma (pass d p h (Stage.mention
 settled Stage.operandEnd d p h = mark d p rightParen (pass d p h Stage.instructionEnd (lit≤ tt))
 settled Stage.instructionEnd d p h = mark d p semicolon (instruction-ended d p)
 
-pub settled-after : (s : Stage) (d : Draft) (p : ℕ) (t : Token) → InHand (depth s) d → (d′ : Draft) → perform (gram s t .act) p d ≡ proceed d′
+pub settled-after : (s : Stage) (d : Draft) (p : ℕ) (t : Token) → InHand (depth s) d → (d′ : Draft) → performAct (gram s t .act) p d ≡ proceed d′
     → InHand (depth (gram s t .stage)) d′
 settled-after s d p t h d′ e = after (rw e at (settled s d p h t .holds))
 

@@ -6,7 +6,7 @@ use Prim.Native.Nat.{ℕ, _+_, _≤_, _<_}
 use lib.ListN.{length}
 use borrow.Author.Tests.{lt-ltb, le-ltb}
 use Rattle.language.specs.Programs.{entryCount, maxFunctions, maxRegisters, maxBlocks, maxRows, maxEntries}
-use Rattle.language.specs.Reading.{Draft, proceed, openFunction, fresh, rowCount, phiEntries, functionNumber, registerNumber, blockNumber, maxMentions, undeclared}
+use Rattle.language.specs.Reading.{Draft, proceed, openFunction, fresh, draftRows, phiEntries, functionNumber, registerNumber, blockNumber, maxMentions, undeclared}
 use Rattle.language.specs.Reading.{markSsa, setResult, nameFunction, nameRegister, nameBlock, endBlock, addEntry, addMention, endInstruction, endFunction}
 use Rattle.reader.specs.Draft.{openRows}
 use Rattle.reader.proofs.DraftActs.{marked, returning, named, registered, begun, ended, entered, mentioned, written}
@@ -52,7 +52,7 @@ module _ (d : Draft) (p : ℕ) where
   mention-added n h = rw (lt-ltb (length (d .mentions)) maxMentions h)
 
   pub instruction-ended : length (openRows d) < maxRows → endInstruction p d ≡ proceed (written d)
-  unfolding endInstruction rowCount
+  unfolding endInstruction draftRows
   instruction-ended h = rw (lt-ltb (length (openRows d)) maxRows h)
 
   pub function-ended : blockNumber (d .function) [] < length (d .function .blocks) → undeclared (d .function) (d .mentions) ≡ [] → length (d .functions) < maxFunctions

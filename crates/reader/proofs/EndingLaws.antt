@@ -15,14 +15,16 @@ use lib.Seq.{sets, take-all, getD-take, getD-set-same, getD-set-other, ext-getD,
 use borrow.Author.Tests.{lt-ltb, le-ltb, eq-eqb, ne-eqb}
 use borrow.Author.Count.{below-more}
 use Rattle.laws.specs.Lists.{same}
-use Rattle.laws.proofs.Indexing.{getD-map, getD-map-lt, position-le}
+use Rattle.laws.proofs.Indexing.{getD-map, getD-map-lt}
+use Rattle.laws.proofs.Positions.{position-le}
 use Rattle.laws.proofs.Keep.{keep-none, keep-first}
 use Rattle.table.specs.Named.{firstNamed}
 use Rattle.language.specs.Programs.{Func, noBlock, rowsOf, entryCount}
-use Rattle.language.specs.Table.{functionAt, nameAt, two, four, twoBytes, eightBytes, rowOp}
-use Rattle.language.specs.Reading.{Draft, Mention, Outcome, blockNumber, undeclared, fresh, endFunction}
-use Rattle.reader.specs.Draft.{Within, openRows, closedTable, patchedTable, mentionedBlocks, headBytes}
-use Rattle.reader.specs.State.{Bounded, Counts, Holds, Pending}
+use Rattle.language.specs.Table.{functionAt, nameAt, two, four, twoBytes, eightBytes, rowOp, blockLength, blockNamesOffset, operandsOffset, rowLength, nameLength}
+use Rattle.language.specs.Reading.{Draft, Mention, ActOutcome, blockNumber, undeclared, fresh, endFunction}
+use Rattle.language.specs.Instructions.{jumpCondOp, jumpOp}
+use Rattle.reader.specs.Draft.{WithinSizes, openRows, closedTable, patchedTable, mentionedBlocks, headBytes}
+use Rattle.reader.specs.State.{Bounded, Counts, Holds, Pending, mentionLength}
 use Rattle.reader.specs.Ending.{blockNamed, Resolved, patchRow, patchRows, headAt, closedAt, Closes, Ends}
 use Rattle.reader.specs.declared.state.Reader.{Reader}
 use Rattle.reader.specs.declared.state.Taken.the-variants as taken
@@ -50,22 +52,22 @@ found-more g n found k {b} l h e s =
 
 module _ (t : List ℕ) (a : ℕ) (bs : List ℕ) (r : ℕ) where
   module _ {op : ℕ} (o : op ≡ rowOp t a r) where
-    pub patch-jump : op ≡ 32 → {m b : ℕ} {t′ : List ℕ} → m ≡ two t (a + 21389 + 12 * r) → b ≡ getD bs m 0 → t′ ≡ sets t (a + 21389 + 12 * r) (eightBytes b)
+    pub patch-jump : op ≡ jumpOp → {m b : ℕ} {t′ : List ℕ} → m ≡ two t (a + operandsOffset + rowLength * r) → b ≡ getD bs m 0 → t′ ≡ sets t (a + operandsOffset + rowLength * r) (eightBytes b)
         → t′ ≡ patchRow t a bs r
     unfolding patchRow
-    patch-jump h p q s = rw (eq-eqb (rowOp t a r) 32 (sym o ∙ h), ← p, ← q) s
+    patch-jump h p q s = rw (eq-eqb (rowOp t a r) jumpOp (sym o ∙ h), ← p, ← q) s
 
-    pub patch-branch : op ≡ 33 → {m b n c : ℕ} {t′ : List ℕ} → m ≡ two t (a + 21389 + 12 * r) → b ≡ getD bs m 0
-        → n ≡ two t (a + 21389 + 12 * r + 2) → c ≡ getD bs n 0 → t′ ≡ sets t (a + 21389 + 12 * r) (eightBytes (b + 256 * c))
+    pub patch-branch : op ≡ jumpCondOp → {m b n c : ℕ} {t′ : List ℕ} → m ≡ two t (a + operandsOffset + rowLength * r) → b ≡ getD bs m 0
+        → n ≡ two t (a + operandsOffset + rowLength * r + 2) → c ≡ getD bs n 0 → t′ ≡ sets t (a + operandsOffset + rowLength * r) (eightBytes (b + 256 * c))
         → t′ ≡ patchRow t a bs r
     unfolding patchRow
     patch-branch h p q u v s =
-        let e : rowOp t a r ≡ 33 = sym o ∙ h in
-        rw (ne-eqb (rowOp t a r) 32 (λ z. omega arith), eq-eqb (rowOp t a r) 33 e, ← p, ← q, ← u, ← v) s
+        let e : rowOp t a r ≡ jumpCondOp = sym o ∙ h in
+        rw (ne-eqb (rowOp t a r) jumpOp (λ z. omega arith), eq-eqb (rowOp t a r) jumpCondOp e, ← p, ← q, ← u, ← v) s
 
     pub patch-other : op ≢ 32 → op ≢ 33 → t ≡ patchRow t a bs r
     unfolding patchRow
-    patch-other h l = rw (ne-eqb (rowOp t a r) 32 (λ z. h (o ∙ z)), ne-eqb (rowOp t a r) 33 (λ z. l (o ∙ z)))
+    patch-other h l = rw (ne-eqb (rowOp t a r) jumpOp (λ z. h (o ∙ z)), ne-eqb (rowOp t a r) jumpCondOp (λ z. l (o ∙ z)))
 
 -- the eight cells of a head, stored in six steps
 pub head-put : (t : List ℕ) (a x y p q n e : ℕ) {t₁ t₂ : List ℕ} → t₁ ≡ sets (set (set t a x) (a + 1) y) (a + 2) (twoBytes p) → t₂ ≡ sets t₁ (a + 4) (twoBytes q)
@@ -73,9 +75,9 @@ pub head-put : (t : List ℕ) (a x y p q n e : ℕ) {t₁ t₂ : List ℕ} → t
 head-put t a x y p q n e h k = rw (k, h, add-one a, add-two a, add-four a, add-six a, add-seven a)
 
 -- the name that was looked for is the mention's
-pub named-by : (t : List ℕ) (a n : ℕ) (pend : List ℕ) (k : ℕ) {part : List ℕ} {b : ℕ} → part ≡ nameAt pend (69 * k) → b ≡ firstNamed t (a + 16973) 69 n part
+pub named-by : (t : List ℕ) (a n : ℕ) (pend : List ℕ) (k : ℕ) {part : List ℕ} {b : ℕ} → part ≡ nameAt pend (mentionLength * k) → b ≡ firstNamed t (a + blockNamesOffset) blockLength n part
     → b ≡ blockNamed t a n pend k
-named-by t a n pend k p q = q ∙ ap (λ (name : List ℕ). firstNamed t (a + 16973) 69 n name) p
+named-by t a n pend k p q = q ∙ ap (λ (name : List ℕ). firstNamed t (a + blockNamesOffset) blockLength n name) p
 
 -- ---- the state behind the brace
 
@@ -137,7 +139,7 @@ module _ {s : Reader} {t : List ℕ} (less : s .functions < 16) {a : ℕ} (at : 
   abbrev f : Func
   f = d .function
 
-  abbrev w : Within d
+  abbrev w : WithinSizes d
   w = h .within
 
   fewer : length (d .functions) < 16
@@ -146,11 +148,11 @@ module _ {s : Reader} {t : List ℕ} (less : s .functions < 16) {a : ℕ} (at : 
   begins : a ≡ functionAt (length (d .functions))
   begins = omega (arith, h .counts .functions)
 
-  block-of-name : (n : List ℕ) → firstNamed t (a + 16973) 69 (s .blocks) n ≡ blockNumber f n
+  block-of-name : (n : List ℕ) → firstNamed t (a + blockNamesOffset) blockLength (s .blocks) n ≡ blockNumber f n
   unfolding firstNamed
   block-of-name n = rw (h .table, h .counts .blocks) (block-search d w fewer n begins)
 
-  no-entry : (p : ℕ) → length (f .blocks) ≤ blockNumber f [] → endFunction p d ≡ Outcome.refuse 8 p
+  no-entry : (p : ℕ) → length (f .blocks) ≤ blockNumber f [] → endFunction p d ≡ ActOutcome.refuse 8 p
   unfolding endFunction
   no-entry p l = rw (le-ltb (blockNumber f []) (length (f .blocks)) l)
 
@@ -162,7 +164,7 @@ module _ {s : Reader} {t : List ℕ} (less : s .functions < 16) {a : ℕ} (at : 
 
   module _ (pend : List ℕ) (m : Pending (d .mentions) pend) where
     block-of-mention : (k : ℕ) → k < length (d .mentions) → blockNamed t a (s .blocks) pend k ≡ blockNumber f (getD (d .mentions) k noMention .name)
-    block-of-mention k b = block-of-name (nameAt pend (69 * k)) ∙ ap (λ (n : List ℕ). blockNumber f n) (m k b .0)
+    block-of-mention k b = block-of-name (nameAt pend (mentionLength * k)) ∙ ap (λ (n : List ℕ). blockNumber f n) (m k b .0)
 
     module _ {r : ℕ} {found : List ℕ} (z : Resolved t a (s .blocks) pend (s .mentions) r found) where
       declared : (k : ℕ) → k < r → blockNumber f (getD (d .mentions) k noMention .name) < length (f .blocks)
@@ -179,7 +181,7 @@ module _ {s : Reader} {t : List ℕ} (less : s .functions < 16) {a : ℕ} (at : 
       none-undeclared l =
           keep-none tested (d .mentions) noMention (λ k b. passes k (omega (arith, h .counts .mentions)))
 
-      first-undeclared : r < s .mentions → (p : ℕ) → blockNumber f [] < length (f .blocks) → endFunction p d ≡ Outcome.refuse 7 (four pend (69 * r + 65))
+      first-undeclared : r < s .mentions → (p : ℕ) → blockNumber f [] < length (f .blocks) → endFunction p d ≡ ActOutcome.refuse 7 (four pend (mentionLength * r + nameLength))
       unfolding endFunction undeclared
       first-undeclared l p i =
           let b : r < length (d .mentions) = omega (arith, h .counts .mentions) in
@@ -206,15 +208,15 @@ module _ {s : Reader} {t : List ℕ} (less : s .functions < 16) {a : ℕ} (at : 
 
   module _ (bs : List ℕ) (small : (m : ℕ) → getD bs m 0 < 256) where
     row-patched : (r : ℕ) → r < length (openRows d) → patchedTable d bs (suc r) ≡ patchRow (patchedTable d bs r) a bs r
-    row-patched r b = by (ℕ-discrete (rowOp u a r) 32) (ℕ-discrete (rowOp u a r) 33)
+    row-patched r b = by (ℕ-discrete (rowOp u a r) jumpOp) (ℕ-discrete (rowOp u a r) jumpCondOp)
       where
         u : List ℕ
         u = patchedTable d bs r
 
         k : ℕ
-        k = a + 21389 + 12 * r
+        k = a + operandsOffset + rowLength * r
 
-        by : Dec (rowOp u a r ≡ 32) → Dec (rowOp u a r ≡ 33) → patchedTable d bs (suc r) ≡ patchRow u a bs r
+        by : Dec (rowOp u a r ≡ jumpOp) → Dec (rowOp u a r ≡ jumpCondOp) → patchedTable d bs (suc r) ≡ patchRow u a bs r
         by (yes o) c =
             patch-jump u a bs r refl o refl refl
             (patches-jump d w fewer bs r b begins o {m = k} refl ∙ ap (λ (vs : List ℕ). sets u k vs) (sym (eight-of-block (getD bs (two u k) 0) (small (two u k)))))
@@ -250,7 +252,7 @@ module _ {s : Reader} {t : List ℕ} (less : s .functions < 16) {a : ℕ} (at : 
 -- ---- the three ends
 
 module _ (s : Reader) (t pend : List ℕ) (p : ℕ) (less : s .functions < 16) {a : ℕ} (at : a ≡ functionAt (s .functions))
-    {entry : ℕ} (found-entry : entry ≡ firstNamed t (a + 16973) 69 (s .blocks) []) where
+    {entry : ℕ} (found-entry : entry ≡ firstNamed t (a + blockNamesOffset) blockLength (s .blocks) []) where
   -- no block has the empty name
   pub ends-without-entry : s .blocks ≤ entry → Ends s t pend p (taken.Refused 8 p) t
   ends-without-entry b =
@@ -265,12 +267,12 @@ module _ (s : Reader) (t pend : List ℕ) (p : ℕ) (less : s .functions < 16) {
     has-entry : (d : Draft) → Holds d s t → blockNumber (d .function) [] < length (d .function .blocks)
     has-entry d h = omega (arith, found-entry, block-of-name less at d h [], h .counts .blocks)
 
-    pub ends-undeclared : {q : ℕ} → r < s .mentions → q ≡ four pend (69 * r + 65) → Ends s t pend p (taken.Refused 7 q) t
+    pub ends-undeclared : {q : ℕ} → r < s .mentions → q ≡ four pend (mentionLength * r + nameLength) → Ends s t pend p (taken.Refused 7 q) t
     ends-undeclared {q} l e =
         record {
           kept = tt;
           size = refl;
-          meaning = λ d h m none empty. rw (first-undeclared less at d h pend m z l p (has-entry d h), e) (Closes.refuses 7 (four pend (69 * r + 65)));
+          meaning = λ d h m none empty. rw (first-undeclared less at d h pend m z l p (has-entry d h), e) (Closes.refuses 7 (four pend (mentionLength * r + nameLength)));
         }
 
     pub ends-closed : {s′ : Reader} {t₁ t′ : List ℕ} → s′ ≡ closedAt s → s .mentions ≤ r → s .mentions ≤ length found → t₁ ≡ patchRows t a (take (s .mentions) found) (s .rows)

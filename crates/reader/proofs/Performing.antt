@@ -1,9 +1,8 @@
 -- An act done in code brings the reader where the definition's brings it, and so does a token. Assumes nothing.
 use mathlib.Core.Path.{_≡_, refl, sym, ap, subst, subst⁻¹, _∙_}
 use mathlib.Core.Bool.{Bool, true, false, cond, not, true≢false}
-use mathlib.Core.List.{List, [], _∷_}
-use mathlib.Core.Logic.{inl, inr}
-use Prim.Native.Nat.{ℕ, _+_, _≤_, _<_}
+use mathlib.Core.List.{List, []}
+use Prim.Native.Nat.{ℕ, _<_}
 use native.Mathlib.Omega.{arith}
 use lib.Dec.{T, ltb, ltb→lt, lt→ltb}
 use lib.ListN.{length}
@@ -12,21 +11,21 @@ use Rattle.language.specs.Instructions.{loadType}
 use Rattle.language.specs.Programs.{maxFunctions, maxRegisters, maxBlocks, maxRows, maxEntries}
 use Rattle.language.specs.Tokens.{Token, Found}
 use Rattle.language.specs.Grammar.{Stage, Act, gram}
-use Rattle.language.specs.Reading.{Draft, Mention, Outcome, Parse, refuse, proceed, perform, onward, rowCount, phiEntries, functionNumber, registerNumber, blockNumber, maxMentions, inRange, fresh}
+use Rattle.language.specs.Reading.{Draft, Mention, ActOutcome, Parse, refuse, proceed, performAct, afterAct, draftRows, phiEntries, functionNumber, registerNumber, blockNumber, maxMentions, numberInRange, fresh}
 use Rattle.language.specs.Reading as meaning
 use Rattle.grammar.specs.Meaning.{Spot, Moves, moveOf, tokenOf, actOf, magnitudeOf, stageIs}
-use Rattle.grammar.specs.Ready.{isTop, Ready}
+use Rattle.grammar.specs.Ready.{isTop, StageReady}
 use Rattle.grammar.proofs.Ready.{ready-reading}
 use Rattle.grammar.specs.declared.Stage.{Stage as Stageᶜ}
 use Rattle.lexer.specs.declared.Token.{Token as Tokenᶜ}
 use Rattle.lexer.specs.declared.Token.the-variants as tokens
 use Rattle.grammar.specs.declared.Act.{Act as Actᶜ}
 use Rattle.grammar.specs.declared.Move.{Move as Moveᶜ}
-use Rattle.reader.specs.Draft.{Within, depth, InHand, After, openTable}
-use Rattle.reader.specs.State.{Bounded, Counts, Holds, Pending, Comes, Kept, Acts, MentionKept, ifRoomAt}
+use Rattle.reader.specs.Draft.{WithinSizes, depth, InHand, After, openTable}
+use Rattle.reader.specs.State.{Bounded, Counts, Holds, Pending, Comes, KeepsBounds, Acts, MentionKept, ifRoomAt}
 use Rattle.lexer.specs.Numbers.{amountFrom, amountOf}
 use Rattle.lexer.specs.Lexing.{Means}
-use Rattle.reader.specs.Ending.{Closed, Closes, Ends}
+use Rattle.reader.specs.Ending.{Closes}
 use Rattle.reader.specs.Parse.{standing, Follows, Reads, Reached, Lent, Placed, Takes, inFunction, spotAt, wantsFunction, Enabled, Performs}
 use Rattle.reader.specs.declared.state.Reader.{Reader}
 use Rattle.reader.specs.declared.state.Taken.{Taken}
@@ -111,11 +110,11 @@ staged-counts d c x k =
 
 -- ---- the mentions after an act
 
-after-known : {P : Draft → Type 0} {o : Outcome} (b : Bool) (n p : ℕ) → (b ≡ true → After P o) → After P (cond b o (refuse n p))
+after-known : {P : Draft → Type 0} {o : ActOutcome} (b : Bool) (n p : ℕ) → (b ≡ true → After P o) → After P (cond b o (refuse n p))
 after-known true n p h = h refl
 after-known false n p h = After.refused
 
-after-more : {P Q : Draft → Type 0} {o : Outcome} → ((d : Draft) → P d → Q d) → After P o → After Q o
+after-more : {P Q : Draft → Type 0} {o : ActOutcome} → ((d : Draft) → P d → Q d) → After P o → After Q o
 after-more f After.refused = After.refused
 after-more f (After.proceeds {d = d} h) = After.proceeds (f d h)
 
@@ -150,8 +149,8 @@ module _ (d : Draft) (p : ℕ) where
   abbrev registers : ℕ
   registers = length (d .function .registers)
 
-  same-mentions : (a : Act) → T (keepsMentions a) → After Same (perform a p d)
-  unfolding perform meaning.beginFunction meaning.markSsa meaning.setResult meaning.nameFunction meaning.beginRegister meaning.nameRegister meaning.beginBlock meaning.nameBlock meaning.endBlock meaning.beginInstruction meaning.setTarget meaning.setInstruction meaning.addSource meaning.addEntry meaning.setNumber meaning.endInstruction
+  same-mentions : (a : Act) → T (keepsMentions a) → After Same (performAct a p d)
+  unfolding performAct meaning.beginFunction meaning.markSsa meaning.setResult meaning.nameFunction meaning.beginRegister meaning.nameRegister meaning.beginBlock meaning.nameBlock meaning.endBlock meaning.beginInstruction meaning.setTarget meaning.setInstruction meaning.addSource meaning.addEntry meaning.setNumber meaning.endInstruction
   same-mentions Act.wrong k = After.refused
   same-mentions Act.pass k = After.proceeds refl
   same-mentions Act.beginFunction k = after-test (After.proceeds refl) (ltb (length (d .functions)) maxFunctions) 5 p
@@ -165,27 +164,27 @@ module _ (d : Draft) (p : ℕ) where
       after-test (after-fail (After.proceeds refl) (ltb (blockNumber (d .function) n) (length (d .function .blocks))) 6 p) (ltb (length (d .function .blocks)) maxBlocks) 5 p
   same-mentions (Act.nameParameter t n) k = after-test (after-fail (After.proceeds refl) (ltb (registerNumber (d .function) n) registers) 6 p) (ltb registers maxRegisters) 5 p
   same-mentions (Act.nameRegister t n) k = after-test (after-fail (After.proceeds refl) (ltb (registerNumber (d .function) n) registers) 6 p) (ltb registers maxRegisters) 5 p
-  same-mentions (Act.beginInstruction op) k = after-test (After.proceeds refl) (ltb (rowCount d) maxRows) 5 p
+  same-mentions (Act.beginInstruction op) k = after-test (After.proceeds refl) (ltb (draftRows d) maxRows) 5 p
   same-mentions (Act.setInstruction op) k = After.proceeds refl
-  same-mentions (Act.setTarget n) k = after-test (after-test (After.proceeds refl) (ltb (registerNumber (d .function) n) registers) 7 p) (ltb (rowCount d) maxRows) 5 p
+  same-mentions (Act.setTarget n) k = after-test (after-test (After.proceeds refl) (ltb (registerNumber (d .function) n) registers) 7 p) (ltb (draftRows d) maxRows) 5 p
   same-mentions (Act.addSource n) k = after-test (After.proceeds refl) (ltb (registerNumber (d .function) n) registers) 7 p
   same-mentions (Act.addEntry n) k = after-test (after-test (After.proceeds refl) (ltb (registerNumber (d .function) n) registers) 7 p) (ltb (phiEntries d) maxEntries) 5 p
   same-mentions (Act.addMention n) k = absurd k
-  same-mentions (Act.setNumber neg v) k = after-test (After.proceeds refl) (inRange (loadType (d .parts .op)) neg v) 4 p
-  same-mentions Act.endInstruction k = after-test (After.proceeds refl) (ltb (rowCount d) maxRows) 5 p
+  same-mentions (Act.setNumber neg v) k = after-test (After.proceeds refl) (numberInRange (loadType (d .parts .op)) neg v) 4 p
+  same-mentions Act.endInstruction k = after-test (After.proceeds refl) (ltb (draftRows d) maxRows) 5 p
   same-mentions Act.endBlock k = after-test (After.proceeds refl) (ltb (length (d .function .blocks)) maxBlocks) 5 p
   same-mentions Act.endFunction k = absurd k
 
 -- ---- what an act comes to
 
 -- The definition's answer, or a state that stands for its draft, at a stage between two functions or in one.
-data Lands (top : Bool) (c : Reader) (t pend : List ℕ) : Outcome → Taken → Type 0 where
+data Lands (top : Bool) (c : Reader) (t pend : List ℕ) : ActOutcome → Taken → Type 0 where
   refuses : (n p : ℕ) → Lands top c t pend (refuse n p) (taken.Refused n p)
-  proceeds : (d : Draft) (c′ : Reader) → Kept c (taken.Reading c′) → Counts d c′ → Within d → Pending (d .mentions) pend → t ≡ standing top d
+  proceeds : (d : Draft) (c′ : Reader) → KeepsBounds c (taken.Reading c′) → Counts d c′ → WithinSizes d → Pending (d .mentions) pend → t ≡ standing top d
       → Lands top c t pend (proceed d) (taken.Reading c′)
 
 -- between two functions the next one may be in hand, if there is room for it
-opened : (s : Stage) (d : Draft) → Ready s d → Within d → length (d .functions) < 16 → standing (isTop s) d ≡ openTable d
+opened : (s : Stage) (d : Draft) → StageReady s d → WithinSizes d → length (d .functions) < 16 → standing (isTop s) d ≡ openTable d
 opened s d r w h = by (isTop s) (r .between)
   where
     by : (b : Bool) → (T b → d ≡ fresh (d .functions)) → standing b d ≡ openTable d
@@ -194,22 +193,22 @@ opened s d r w h = by (isTop s) (r .between)
 
 module _ {c : Reader} {t′ pend′ : List ℕ} where
   -- an act of the state, as its contract says
-  comes : {o : Outcome} {r : Taken} → Comes t′ o r → Kept c r → After (λ d. Pending (d .mentions) pend′) o → Lands false c t′ pend′ o r
+  comes : {o : ActOutcome} {r : Taken} → Comes t′ o r → KeepsBounds c r → After (λ d. Pending (d .mentions) pend′) o → Lands false c t′ pend′ o r
   comes (Comes.refuses n p) k q = Lands.refuses n p
   comes (Comes.proceeds d s h) k (After.proceeds q) = Lands.proceeds d s k (h .counts) (h .within) q (h .table)
 
-  closes : {o : Outcome} {r : Taken} → Closes t′ o r → Kept c r → Lands true c t′ pend′ o r
+  closes : {o : ActOutcome} {r : Taken} → Closes t′ o r → KeepsBounds c r → Lands true c t′ pend′ o r
   closes (Closes.refuses n p) k = Lands.refuses n p
   closes (Closes.proceeds fs s h) k = Lands.proceeds (fresh fs) s k (h .counts) (h .within) (λ i b. absurd (omega arith)) (h .table)
 
-  room : {top : Bool} {o : Outcome} {r : Taken} (b : Bool) (p : ℕ) → (b ≡ true → Lands top c t′ pend′ o r) → Lands top c t′ pend′ (cond b o (refuse 5 p)) (cond b r (taken.Refused 5 p))
+  room : {top : Bool} {o : ActOutcome} {r : Taken} (b : Bool) (p : ℕ) → (b ≡ true → Lands top c t′ pend′ o r) → Lands top c t′ pend′ (cond b o (refuse 5 p)) (cond b r (taken.Refused 5 p))
   room true p h = h refl
   room false p h = Lands.refuses 5 p
 
 -- ---- each act
 
-module _ (s : Stage) (d : Draft) (c : Reader) (t pend : List ℕ) (bounded : Bounded c) (counts : Counts d c) (within : Within d)
-    (pending : Pending (d .mentions) pend) (ready : Ready s d) (hand : InHand (depth s) d) (table : t ≡ standing (isTop s) d) where
+module _ (s : Stage) (d : Draft) (c : Reader) (t pend : List ℕ) (bounded : Bounded c) (counts : Counts d c) (within : WithinSizes d)
+    (pending : Pending (d .mentions) pend) (ready : StageReady s d) (hand : InHand (depth s) d) (table : t ≡ standing (isTop s) d) where
   -- a function is in hand, or may be
   holds : length (d .functions) < 16 → Holds d c t
   holds h = record { counts = counts; within = within; table = table ∙ opened s d ready within h }
@@ -222,7 +221,7 @@ module _ (s : Stage) (d : Draft) (c : Reader) (t pend : List ℕ) (bounded : Bou
 
   module _ (r : Taken) (t′ pend′ : List ℕ) where
     -- nothing lent is changed
-    still : {top : Bool} {o : Outcome} {x : Taken} → (r ≡ x) × (t′ ≡ t) × (pend′ ≡ pend) → Lands top c t pend o x → Lands top c t′ pend′ o r
+    still : {top : Bool} {o : ActOutcome} {x : Taken} → (r ≡ x) × (t′ ≡ t) × (pend′ ≡ pend) → Lands top c t pend o x → Lands top c t′ pend′ o r
     still e h = rw (e .0, e .1, e .2) h
 
     -- so many are there, and one more has room
@@ -231,8 +230,8 @@ module _ (s : Stage) (d : Draft) (c : Reader) (t pend : List ℕ) (bounded : Bou
     tests k n m p e x h = still x (rw e (room (ltb k m) p (λ b. h (ltb-true k m b))))
 
     -- in the function in hand, with the mentions as they were
-    acts : {Fit : Draft → Type 0} (a : Act) (p : ℕ) → T (not (isTop s)) → T (keepsMentions a) → Acts Fit (perform a p) c t r t′ × (pend′ ≡ pend) → Fit d
-        → Lands false c t′ pend′ (perform a p d) r
+    acts : {Fit : Draft → Type 0} (a : Act) (p : ℕ) → T (not (isTop s)) → T (keepsMentions a) → Acts Fit (performAct a p) c t r t′ × (pend′ ≡ pend) → Fit d
+        → Lands false c t′ pend′ (performAct a p d) r
     acts a p i m x f =
         comes (x .0 .meaning d (holds (ready .inside i)) f) (x .0 .kept)
         (after-more (λ d′ e. subst⁻¹ (λ (ms : List Mention). Pending ms pend′) e (subst⁻¹ (λ (q : List ℕ). Pending (d .mentions) q) (x .1) pending)) (same-mentions d p a m))
@@ -249,8 +248,8 @@ module _ (s : Stage) (d : Draft) (c : Reader) (t pend : List ℕ) (bounded : Bou
     performs : (z : Spot) (a : Actᶜ) → Performs (z .text) (z .place) c t pend r t′ pend′ a
         → ((neg : Bool) (v : ℕ) (over : Bool) → a ≡ Actᶜ.SetNumber neg v over → amountFrom v over ≡ amountOf (magnitudeOf z v over))
         → T (upTo (actOf z a) (depth s)) → T (cond (inFunction (actOf z a)) (not (isTop s)) true)
-        → Lands (after (actOf z a) (isTop s)) c t′ pend′ (perform (actOf z a) (z .place) d) r
-    unfolding perform meaning.beginFunction meaning.beginRegister meaning.beginBlock
+        → Lands (after (actOf z a) (isTop s)) c t′ pend′ (performAct (actOf z a) (z .place) d) r
+    unfolding performAct meaning.beginFunction meaning.beginRegister meaning.beginBlock
     performs z Actᶜ.Wrong x m h i = still x (Lands.refuses 3 (z .place))
     performs z Actᶜ.Pass x m h i = still x stays
     performs z Actᶜ.BeginFunction x m h i = tests (length (d .functions)) (c .functions) 16 (z .place) (counts .functions) x opens
@@ -322,15 +321,15 @@ module _ (text : List ℕ) (p : ℕ) where
   amount-is (Means.mark b) g v o e = absurd (let z : _≡_ {A = ℕ} 0 1 = cc in omega arith)
   amount-is Means.end g v o e = absurd (let z : _≡_ {A = ℕ} 0 1 = cc in omega arith)
 
-went : (s : Stage) (d : Draft) (p : ℕ) (m : Token) {d′ : Draft} → proceed d′ ≡ perform (gram s m .act) p d
-    → meaning.take (Parse.reading s d) (Found.token p m) ≡ Parse.reading (gram s m .stage) d′
-unfolding meaning.take
+went : (s : Stage) (d : Draft) (p : ℕ) (m : Token) {d′ : Draft} → proceed d′ ≡ performAct (gram s m .act) p d
+    → meaning.takeToken (Parse.reading s d) (Found.token p m) ≡ Parse.reading (gram s m .stage) d′
+unfolding meaning.takeToken
 went s d p m e = rw (← e)
 
 -- where an act lands at the next stage
-module _ (s : Stage) (d : Draft) (p : ℕ) (m : Token) (ready : Ready s d) (hand : InHand (depth s) d) {c : Reader} {t pend : List ℕ}
+module _ (s : Stage) (d : Draft) (p : ℕ) (m : Token) (ready : StageReady s d) (hand : InHand (depth s) d) {c : Reader} {t pend : List ℕ}
     (next : stageIs (c .stage) ≡ gram s m .stage) where
-  lands : {o : Outcome} {r : Taken} → Lands (isTop (gram s m .stage)) c t pend o r → o ≡ perform (gram s m .act) p d → Reads t pend (onward (gram s m .stage) o) r
+  lands : {o : ActOutcome} {r : Taken} → Lands (isTop (gram s m .stage)) c t pend o r → o ≡ performAct (gram s m .act) p d → Reads t pend (afterAct (gram s m .stage) o) r
   lands (Lands.refuses n q) e = Reads.refused n q
   lands (Lands.proceeds d′ c′ k counts within pending table) e =
       Reads.reading (gram s m .stage) d′ c′
@@ -347,22 +346,22 @@ module _ (s : Stage) (d : Draft) (p : ℕ) (m : Token) (ready : Ready s d) (hand
 
 module _ (text : List ℕ) (p : ℕ) (x : Tokenᶜ) (c : Reader) (t pend : List ℕ) (r : Taken) (t′ pend′ : List ℕ) (n : Moveᶜ)
     (moves : Moves (gram (stageIs (c .stage))) x n) (does : Performs text p (staged c (n .stage)) t pend r t′ pend′ (n .act)) where
-  by-act : (s : Stage) (d : Draft) → Follows s d c t pend → (m : Token) → Means text p x m → Reads t′ pend′ (onward (gram s m .stage) (perform (gram s m .act) p d)) r
+  by-act : (s : Stage) (d : Draft) → Follows s d c t pend → (m : Token) → Means text p x m → Reads t′ pend′ (afterAct (gram s m .stage) (performAct (gram s m .act) p d)) r
   by-act s d f m means =
       let z = spotOf text p m in
       let moved : moveOf z n ≡ gram s m = moves z ∙ ap (λ (y : Token). gram (stageIs (c .stage)) y) (token-is text p means) ∙ ap (λ (y : Stage). gram y m) (f .stage) in
       let fit : Fits s m (moveOf z n) = rw moved (fits s m) in
-      let landed : Lands (isTop (moveOf z n .stage)) (staged c (n .stage)) t′ pend′ (perform (moveOf z n .act) p d) r =
+      let landed : Lands (isTop (moveOf z n .stage)) (staged c (n .stage)) t′ pend′ (performAct (moveOf z n .act) p d) r =
       rw (fit .next)
       (performs s d (staged c (n .stage)) t pend (staged-bounded c (n .stage) (f .bounded)) (staged-counts d c (n .stage) (f .counts)) (f .within) (f .pending) (f .ready) (f .hand) (f .table)
       r t′ pend′ z (n .act) does
       (λ neg v over e. amount-is text p means neg v over (act-number (stageIs (c .stage)) x n moves neg v over e))
       (fit .hand) (fit .inside)) in
       lands s d p m (f .ready) (f .hand) (ap (λ y. y .stage) moved)
-      (subst (λ y. Lands (isTop (y .stage)) (staged c (n .stage)) t′ pend′ (perform (y .act) p d) r) moved landed) refl
+      (subst (λ y. Lands (isTop (y .stage)) (staged c (n .stage)) t′ pend′ (performAct (y .act) p d) r) moved landed) refl
 
   pub takes : Takes text p x c t pend r t′ pend′
-  unfolding meaning.take
+  unfolding meaning.takeToken
   takes parse (Reads.reading s d c f) m means = by-act s d f m means
 
 -- ---- what a state that is reached meets

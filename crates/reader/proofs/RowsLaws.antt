@@ -1,39 +1,37 @@
 -- What the acts on the instruction in hand come to: the numbers of the draft after each, and its cells.
 -- Assumes nothing.
-use mathlib.Core.Bool.{Bool, true, false, cond}
-use mathlib.Core.Path.{_≡_, refl, sym, ap, _∙_, subst}
+use mathlib.Core.Bool.{Bool, true, false, cond, true≢false, false≢true}
+use mathlib.Core.Path.{_≡_, refl, sym, ap, _∙_}
 use mathlib.Core.List.{List, [], _∷_, _++_}
-use Prim.Native.Nat.{ℕ, _+_, _-_, _*_, _/_, _%_, _^_, _≤_, _<_, min}
-use native.Mathlib.Nat.{zero-lt-suc, mod-self, mod-eq-of-lt}
-use native.Mathlib.Numerals.{add-one}
+use Prim.Native.Nat.{ℕ, _+_, _*_, _/_, _%_, _≤_, _<_, min}
+use native.Mathlib.Nat.{zero-lt-suc}
 use native.Mathlib.Decide.{decLt}
 use native.Mathlib.Omega.{arith}
-use lib.Dec.{T, eqb, leb, ltb, eqb→eq, leb→le, leb·suc-suc, lit<}
+use lib.Dec.{ltb, lit<}
 use lib.ListN.{length, getD, length-append, List·getD-append, List·getD-eq-default}
 use lib.Seq.{sets, length-sets, getD-append-seam}
-use borrow.Author.Tests.{lt-ltb, le-ltb, lt-leb, ne-eqb}
+use borrow.Author.Tests.{lt-ltb, le-ltb}
 use Rattle.laws.specs.Sections.{At}
 use Rattle.laws.proofs.Sections.{at-right, at-cell, at-part}
 use Rattle.laws.proofs.Cells.{getD-sets-before, part-sets-before, at-sets, at-sets-before}
-use Rattle.language.specs.Instructions.{Operand, formOf, operandOf, width, signed, loadType}
+use Rattle.language.specs.Instructions.{Operand, formOf, operandOf, loadType}
 use Rattle.language.specs.Programs.{Block, entriesOf, entryCount}
-use Rattle.language.specs.Table.{functionAt, nameAt, four, fourBytes, eightBytes}
-use Rattle.language.specs.Reading.{Draft, Parts, Mention, Outcome, partsOf, draftOf, noParts, withParts, openFunction, rowCount, phiEntries, registerNumber, rowOf}
-use Rattle.language.specs.Reading.{beginInstruction, setTarget, setInstruction, addSource, addEntry, addMention, inRange, bitsOf, setNumber, endInstruction}
-use Rattle.language.proofs.Widths.{Powers, widths, powers}
+use Rattle.language.specs.Table.{functionAt, nameAt, four, fourBytes, eightBytes, entriesOffset, rowLength, rowsOffset, nameLength}
+use Rattle.language.specs.Reading.{Draft, Parts, Mention, partsOf, draftOf, noParts, withParts, openFunction, draftRows, phiEntries, registerNumber, rowOf}
+use Rattle.language.specs.Reading.{beginInstruction, setTarget, setInstruction, addSource, addEntry, addMention, numberInRange, bitsOf, setNumber, endInstruction}
 use Rattle.grammar.specs.Meaning.{operandFrom}
+use Rattle.instructions.proofs.RangesLaws.{range-large}
 use Rattle.instructions.specs.Shapes.{shapeOf, operandNumber as shapeOperand}
 use Rattle.instructions.specs.declared.Shape.{Shape}
-use Rattle.table.specs.Named.{firstNamed}
-use Rattle.reader.specs.Draft.{Within, Stores, operandNumber, instructionCells, openRows}
-use Rattle.reader.specs.State.{Bounded, Counts, Holds, Pending, Comes, Acts, Always, MentionKept, partsAt, operandAt, rowAt}
+use Rattle.reader.specs.Draft.{WithinSizes, operandNumber, instructionCells, openRows}
+use Rattle.reader.specs.State.{Bounded, Counts, Holds, Pending, Acts, Always, MentionKept, partsAt, operandAt, rowAt, mentionLength, scratchLength}
 use Rattle.lexer.specs.Numbers.{amountFrom, amountOf}
 use Rattle.lexer.specs.declared.numbers.Amount.{Amount}
 use Rattle.reader.specs.declared.state.Reader.{Reader}
 use Rattle.reader.specs.declared.state.Taken.the-variants as taken
 use Rattle.reader.proofs.DraftActs.{keeps-entries, adds-mention, adds-entry, entered, mentioned, written}
-use Rattle.reader.proofs.DraftNames.{register-search}
 use Rattle.reader.proofs.DraftRows.{more-rows, more-entries, ends-instruction}
+use Rattle.reader.proofs.StateLaws.{stored, proceeding, refusing}
 use Rattle.reader.proofs.DraftSteps.{entry-added, mention-added, instruction-ended}
 
 -- ---- the first two of a list, as a state holds them, and how many they are
@@ -168,29 +166,6 @@ module _ {d : Draft} {s : Reader} (h : Counts d s) where
         named = cj .count;
       }
 
--- ---- what an act comes to
-
--- by the definition's answer, or by the draft it proceeds to
-refusing : {t : List ℕ} {o : Outcome} (n p : ℕ) → o ≡ Outcome.refuse n p → Comes t o (taken.Refused n p)
-refusing n p e = rw e (Comes.refuses n p)
-
-proceeding : {t : List ℕ} {o : Outcome} {d : Draft} {s : Reader} → o ≡ Outcome.proceed d → Holds d s t → Comes t o (taken.Reading s)
-proceeding {d = d} {s} e h = rw e (Comes.proceeds d s h)
-
--- what the table stands for after the store of an act
-stored : {d d′ : Draft} {s s′ : Reader} {t t′ : List ℕ} {k : ℕ} {vs : List ℕ} → Holds d s t → Stores d d′ k vs → t′ ≡ sets t k vs → Counts d′ s′ → Holds d′ s′ t′
-stored {k = k} {vs} h st e c =
-    record {
-      counts = c;
-      within = st .within;
-      table = e ∙ ap (λ (l : List ℕ). sets l k vs) (h .table) ∙ sym (st .cells);
-    }
-
--- an act that is refused, whatever the draft
-refused : {Fit : Draft → Type 0} {act : Draft → Outcome} {s : Reader} {t : List ℕ} (n p : ℕ)
-    → ((d : Draft) → Holds d s t → act d ≡ Outcome.refuse n p) → Acts Fit act s t (taken.Refused n p) t
-refused n p f = record { kept = tt; size = refl; meaning = λ d h fit. refusing n p (f d h) }
-
 -- ---- an instruction begins
 
 abbrev pub NoEntries : Draft → Type 0
@@ -210,11 +185,11 @@ holds-parts {d} {s} h free op target =
 
 module _ {s : Reader} (b : Bounded s) (p : ℕ) (t : List ℕ) where
   pub begin-refused : (op : ℕ) → 1024 ≤ s .rows → Acts NoEntries (beginInstruction op p) s t (taken.Refused 5 p) t
-  unfolding beginInstruction rowCount
-  begin-refused op full = refused 5 p (λ d h. rw (le-ltb (length (openRows d)) 1024 (omega (arith, h .counts .rows))))
+  unfolding beginInstruction draftRows
+  begin-refused op full = refusing 5 p (λ d h fit. rw (le-ltb (length (openRows d)) 1024 (omega (arith, h .counts .rows))))
 
   pub begin-proceeds : (op : ℕ) → s .rows < 1024 → Acts NoEntries (beginInstruction op p) s t (taken.Reading (partsAt s op 0)) t
-  unfolding beginInstruction rowCount
+  unfolding beginInstruction draftRows
   begin-proceeds op room =
       record {
         kept = (bounded-parts b op 0 (lit< tt), refl);
@@ -233,26 +208,18 @@ module _ {s : Reader} (b : Bounded s) (p : ℕ) (t : List ℕ) where
 
 -- ---- a name among the registers of the function in hand
 
--- a search among the cells finds the number of the name
-pub register-found : {d : Draft} {s : Reader} {t : List ℕ} → Holds d s t → s .functions < 16 → (n : List ℕ) {a : ℕ} → a ≡ functionAt (s .functions)
-    → firstNamed t (a + 74) 66 (s .registers) n ≡ registerNumber (d .function) n
-unfolding firstNamed
-register-found {d} {s} h less n e =
-    rw (h .table, h .counts .registers)
-    (register-search d (h .within) (omega (arith, h .counts .functions)) n (e ∙ ap functionAt (h .counts .functions)))
-
 -- r is the number of the name n, whatever the draft
 abbrev pub Numbers : Reader → List ℕ → List ℕ → ℕ → Type 0
 Numbers s t n r = (d : Draft) → Holds d s t → r ≡ registerNumber (d .function) n
 
 module _ {s : Reader} (b : Bounded s) (n : List ℕ) (p : ℕ) (t : List ℕ) where
   pub target-refused : 1024 ≤ s .rows → Acts NoEntries (setTarget n p) s t (taken.Refused 5 p) t
-  unfolding setTarget rowCount
-  target-refused full = refused 5 p (λ d h. rw (le-ltb (length (openRows d)) 1024 (omega (arith, h .counts .rows))))
+  unfolding setTarget draftRows
+  target-refused full = refusing 5 p (λ d h fit. rw (le-ltb (length (openRows d)) 1024 (omega (arith, h .counts .rows))))
 
   pub entry-refused : 1024 ≤ s .entries → Acts Always (addEntry n p) s t (taken.Refused 5 p) t
   unfolding addEntry phiEntries
-  entry-refused full = refused 5 p (λ d h. rw (le-ltb (entryCount (openFunction d) + length (d .parts .entries)) 1024 (omega (arith, h .counts .entries))))
+  entry-refused full = refusing 5 p (λ d h fit. rw (le-ltb (entryCount (openFunction d) + length (d .parts .entries)) 1024 (omega (arith, h .counts .entries))))
 
   module _ {r : ℕ} (f : Numbers s t n r) where
     unknown : s .registers ≤ r → (d : Draft) → Holds d s t → ltb (registerNumber (d .function) n) (length (d .function .registers)) ≡ false
@@ -262,11 +229,11 @@ module _ {s : Reader} (b : Bounded s) (n : List ℕ) (p : ℕ) (t : List ℕ) wh
     known less d h = omega (arith, h .counts .registers, f d h)
 
     pub target-unknown : s .rows < 1024 → s .registers ≤ r → Acts NoEntries (setTarget n p) s t (taken.Refused 7 p) t
-    unfolding setTarget rowCount
-    target-unknown room out = refused 7 p (λ d h. rw (lt-ltb (length (openRows d)) 1024 (omega (arith, h .counts .rows)), unknown out d h))
+    unfolding setTarget draftRows
+    target-unknown room out = refusing 7 p (λ d h fit. rw (lt-ltb (length (openRows d)) 1024 (omega (arith, h .counts .rows)), unknown out d h))
 
     pub target-proceeds : s .rows < 1024 → r < s .registers → Acts NoEntries (setTarget n p) s t (taken.Reading (partsAt s 0 r)) t
-    unfolding setTarget rowCount
+    unfolding setTarget draftRows
     target-proceeds room less =
         record {
           kept = (bounded-parts b 0 r (omega (arith, b .registers)), refl);
@@ -280,7 +247,7 @@ module _ {s : Reader} (b : Bounded s) (n : List ℕ) (p : ℕ) (t : List ℕ) wh
 
     pub source-unknown : s .registers ≤ r → Acts Always (addSource n p) s t (taken.Refused 7 p) t
     unfolding addSource
-    source-unknown out = refused 7 p (λ d h. rw (unknown out d h))
+    source-unknown out = refusing 7 p (λ d h fit. rw (unknown out d h))
 
     pub source-proceeds : r < s .registers → {l m k : ℕ} → Pushed r (s .left) (s .right) (s .sources) l m k → l < 256 → m < 256
         → Acts Always (addSource n p) s t (taken.Reading (sourced s l m k)) t
@@ -303,10 +270,10 @@ module _ {s : Reader} (b : Bounded s) (n : List ℕ) (p : ℕ) (t : List ℕ) wh
     pub entry-unknown : s .entries < 1024 → s .registers ≤ r → Acts Always (addEntry n p) s t (taken.Refused 7 p) t
     unfolding addEntry phiEntries
     entry-unknown room out =
-        refused 7 p
-        (λ d h. rw (lt-ltb (entryCount (openFunction d) + length (d .parts .entries)) 1024 (omega (arith, h .counts .entries)), unknown out d h))
+        refusing 7 p
+        (λ d h fit. rw (lt-ltb (entryCount (openFunction d) + length (d .parts .entries)) 1024 (omega (arith, h .counts .entries)), unknown out d h))
 
-    pub entry-proceeds : s .entries < 1024 → r < s .registers → s .functions < 16 → {t′ : List ℕ} {k : ℕ} → k ≡ functionAt (s .functions) + 33673 + s .entries → t′ ≡ sets t k (r ∷ [])
+    pub entry-proceeds : s .entries < 1024 → r < s .registers → s .functions < 16 → {t′ : List ℕ} {k : ℕ} → k ≡ functionAt (s .functions) + entriesOffset + s .entries → t′ ≡ sets t k (r ∷ [])
         → Acts Always (addEntry n p) s t (taken.Reading (enteredAt s)) t′
     entry-proceeds room less few {t′} {k} place e =
         record {
@@ -328,7 +295,7 @@ module _ {s : Reader} (b : Bounded s) (n : List ℕ) (p : ℕ) (t : List ℕ) wh
 module _ {s : Reader} (b : Bounded s) (n : List ℕ) (p : ℕ) (t : List ℕ) where
   pub mention-refused : 2048 ≤ s .mentions → Acts Always (addMention n p) s t (taken.Refused 5 p) t
   unfolding addMention
-  mention-refused full = refused 5 p (λ d h. rw (le-ltb (length (d .mentions)) 2048 (omega (arith, h .counts .mentions))))
+  mention-refused full = refusing 5 p (λ d h fit. rw (le-ltb (length (d .mentions)) 2048 (omega (arith, h .counts .mentions))))
 
   mention-proceeds : s .mentions < 2048 → {h g j : ℕ} → Pushed (s .mentions) (s .here) (s .there) (s .named) h g j → h < 2048 → g < 2048
       → Acts Always (addMention n p) s t (taken.Reading (mentionedAt s h g j)) t
@@ -354,15 +321,15 @@ module _ (s : Reader) (name : List ℕ) (p : ℕ) (pend : List ℕ) where
   pub scratch-full : 2048 ≤ s .mentions → MentionKept s name p pend pend
   scratch-full full = record { size = refl; all = λ ms e less kept. absurd (omega arith) }
 
-  module _ (whole : length pend ≡ 141312) (less : s .mentions < 2048) (short : length name ≤ 64) (low : p < 4294967296) where
+  module _ (whole : length pend ≡ scratchLength) (less : s .mentions < 2048) (short : length name ≤ 64) (low : p < 4294967296) where
     abbrev here : ℕ
-    here = 69 * s .mentions
+    here = mentionLength * s .mentions
 
     abbrev once : List ℕ
     once = sets pend here (length name ∷ name)
 
     abbrev twice : List ℕ
-    twice = sets once (here + 65) (fourBytes p)
+    twice = sets once (here + nameLength) (fourBytes p)
 
     at-name : At twice here (length name ∷ name)
     at-name =
@@ -375,33 +342,33 @@ module _ (s : Reader) (name : List ℕ) (p : ℕ) (pend : List ℕ) where
     new-name : nameAt twice here ≡ name
     new-name = at-part (at-right (length name ∷ []) name at-name) {m = here + 1} (omega arith) new-count
 
-    new-place : four twice (here + 65) ≡ p
+    new-place : four twice (here + nameLength) ≡ p
     new-place =
-        let h : At twice (here + 65) (fourBytes p) = at-sets (fourBytes p) once (here + 65) (rw (length-sets pend here (length name ∷ name)) (omega arith)) in
-        let c₀ : getD twice (here + 65) 0 ≡ p % 256 = at-cell 0 h 0 (lit< tt) (omega arith) in
-        let c₁ : getD twice (here + 65 + 1) 0 ≡ p / 256 % 256 = at-cell 0 h 1 (lit< tt) (omega arith) in
-        let c₂ : getD twice (here + 65 + 2) 0 ≡ p / 65536 % 256 = at-cell 0 h 2 (lit< tt) (omega arith) in
-        let c₃ : getD twice (here + 65 + 2 + 1) 0 ≡ p / 65536 / 256 % 256 = at-cell 0 h 3 (lit< tt) (omega arith) in
+        let h : At twice (here + nameLength) (fourBytes p) = at-sets (fourBytes p) once (here + nameLength) (rw (length-sets pend here (length name ∷ name)) (omega arith)) in
+        let c₀ : getD twice (here + nameLength) 0 ≡ p % 256 = at-cell 0 h 0 (lit< tt) (omega arith) in
+        let c₁ : getD twice (here + nameLength + 1) 0 ≡ p / 256 % 256 = at-cell 0 h 1 (lit< tt) (omega arith) in
+        let c₂ : getD twice (here + nameLength + 2) 0 ≡ p / 65536 % 256 = at-cell 0 h 2 (lit< tt) (omega arith) in
+        let c₃ : getD twice (here + nameLength + 2 + 1) 0 ≡ p / 65536 / 256 % 256 = at-cell 0 h 3 (lit< tt) (omega arith) in
         rw (c₀, c₁, c₂, c₃) (omega arith)
 
     module _ (i : ℕ) (before : i < s .mentions) where
       old-cell : (j : ℕ) → j < here → getD twice j 0 ≡ getD pend j 0
-      old-cell j h = getD-sets-before 0 (fourBytes p) once (here + 65) j (omega arith) ∙ getD-sets-before 0 (length name ∷ name) pend here j h
+      old-cell j h = getD-sets-before 0 (fourBytes p) once (here + nameLength) j (omega arith) ∙ getD-sets-before 0 (length name ∷ name) pend here j h
 
-      old-name : getD pend (69 * i) 0 ≤ 64 → nameAt twice (69 * i) ≡ nameAt pend (69 * i)
+      old-name : getD pend (mentionLength * i) 0 ≤ 64 → nameAt twice (mentionLength * i) ≡ nameAt pend (mentionLength * i)
       old-name small =
-          rw (old-cell (69 * i) (omega arith))
-          (part-sets-before (69 * i + 1) (getD pend (69 * i) 0) (fourBytes p) once (here + 65) (omega arith)
-          ∙ part-sets-before (69 * i + 1) (getD pend (69 * i) 0) (length name ∷ name) pend here (omega arith))
+          rw (old-cell (mentionLength * i) (omega arith))
+          (part-sets-before (mentionLength * i + 1) (getD pend (mentionLength * i) 0) (fourBytes p) once (here + nameLength) (omega arith)
+          ∙ part-sets-before (mentionLength * i + 1) (getD pend (mentionLength * i) 0) (length name ∷ name) pend here (omega arith))
 
-      old-place : four twice (69 * i + 65) ≡ four pend (69 * i + 65)
+      old-place : four twice (mentionLength * i + nameLength) ≡ four pend (mentionLength * i + nameLength)
       old-place =
-          rw (old-cell (69 * i + 65) (omega arith), old-cell (69 * i + 65 + 1) (omega arith), old-cell (69 * i + 65 + 2) (omega arith), old-cell (69 * i + 65 + 2 + 1) (omega arith))
+          rw (old-cell (mentionLength * i + nameLength) (omega arith), old-cell (mentionLength * i + nameLength + 1) (omega arith), old-cell (mentionLength * i + nameLength + 2) (omega arith), old-cell (mentionLength * i + nameLength + 2 + 1) (omega arith))
 
     scratch-kept : MentionKept s name p pend twice
     scratch-kept =
         record {
-          size = length-sets once (here + 65) (fourBytes p) ∙ length-sets pend here (length name ∷ name);
+          size = length-sets once (here + nameLength) (fourBytes p) ∙ length-sets pend here (length name ∷ name);
           all = λ ms e room held i b. by ms e held i b (decLt i (length ms));
         }
       where
@@ -412,16 +379,16 @@ module _ (s : Reader) (name : List ℕ) (p : ℕ) (pend : List ℕ) where
         new = record { name = name; place = p }
 
         by : (ms : List Mention) → s .mentions ≡ length ms → Pending ms pend → (i : ℕ) → i < length (ms ++ (new ∷ [])) → Dec (i < length ms)
-            → (nameAt twice (69 * i) ≡ getD (ms ++ (new ∷ [])) i absent .name)
-            × (four twice (69 * i + 65) ≡ getD (ms ++ (new ∷ [])) i absent .place)
-            × (getD twice (69 * i) 0 ≤ 64)
+            → (nameAt twice (mentionLength * i) ≡ getD (ms ++ (new ∷ [])) i absent .name)
+            × (four twice (mentionLength * i + nameLength) ≡ getD (ms ++ (new ∷ [])) i absent .place)
+            × (getD twice (mentionLength * i) 0 ≤ 64)
         by ms e held i b (yes q) =
             let h = held i q in
             let r : i < s .mentions = rw e q in
             let g : getD (ms ++ (new ∷ [])) i absent ≡ getD ms i absent = List·getD-append ms (new ∷ []) absent i q in (
               old-name i r (h .2) ∙ h .0 ∙ ap (λ (m : Mention). m .name) (sym g),
               old-place i r ∙ h .1 ∙ ap (λ (m : Mention). m .place) (sym g),
-              rw (old-cell i r (69 * i) (omega arith)) (h .2),
+              rw (old-cell i r (mentionLength * i) (omega arith)) (h .2),
             )
         by ms e held i b (no q) =
             let r : i ≡ s .mentions = omega (arith, length-append ms (new ∷ [])) in
@@ -432,87 +399,18 @@ module _ (s : Reader) (name : List ℕ) (p : ℕ) (pend : List ℕ) where
               rw new-count short,
             )
 
-    scratch-stored : {m r : List ℕ} → m ≡ once → r ≡ sets m (here + 65) (fourBytes p) → MentionKept s name p pend r
+    scratch-stored : {m r : List ℕ} → m ≡ once → r ≡ sets m (here + nameLength) (fourBytes p) → MentionKept s name p pend r
     scratch-stored f g = rw (g, f) scratch-kept
 
 -- both at once
-pub mention-put : {s : Reader} → Bounded s → (n : List ℕ) (p : ℕ) (pend : List ℕ) → (length pend ≡ 141312) × (length n ≤ 64) × (p < 4294967296) → s .mentions < 2048
+pub mention-put : {s : Reader} → Bounded s → (n : List ℕ) (p : ℕ) (pend : List ℕ) → (length pend ≡ scratchLength) × (length n ≤ 64) × (p < 4294967296) → s .mentions < 2048
     → {h g j : ℕ} → Pushed (s .mentions) (s .here) (s .there) (s .named) h g j → h < 2048 → g < 2048
-    → {m r : List ℕ} → m ≡ sets pend (69 * s .mentions) (length n ∷ n) → r ≡ sets m (69 * s .mentions + 65) (fourBytes p)
+    → {m r : List ℕ} → m ≡ sets pend (mentionLength * s .mentions) (length n ∷ n) → r ≡ sets m (mentionLength * s .mentions + nameLength) (fourBytes p)
     → ((t : List ℕ) → Acts Always (addMention n p) s t (taken.Reading (mentionedAt s h g j)) t) × MentionKept s n p pend r
 mention-put {s} b n p pend fit less push bh bg f g =
     (λ t. mention-proceeds b n p t less push bh bg, scratch-stored s n p pend (fit .0) less (fit .1) (fit .2) f g)
 
 -- ---- a load's number
-
--- a width that is none of the smaller three
-pub width-last : (t : ℕ) → (width t ≡ 8 → ⊥) → (width t ≡ 16 → ⊥) → (width t ≡ 32 → ⊥) → width t ≡ 64
-width-last t =
-    widths (λ w. (w ≡ 8 → ⊥) → (w ≡ 16 → ⊥) → (w ≡ 32 → ⊥) → w ≡ 64)
-    (λ a b c. absurd (a refl))
-    (λ a b c. absurd (b refl))
-    (λ a b c. absurd (c refl))
-    (λ a b c. refl)
-    t
-
-module _ (t v most : ℕ) (e : most + 1 ≡ 2 ^ width t) where
-  pub signed-negative : signed t ≡ true → leb v (most / 2 + 1) ≡ inRange t true v
-  unfolding inRange
-  signed-negative g =
-      let h : 2 ^ (width t - 1) ≡ most / 2 + 1 = omega (arith, powers t) in
-      rw (g, h)
-
-  pub signed-positive : signed t ≡ true → leb v (most / 2) ≡ inRange t false v
-  unfolding inRange
-  signed-positive g =
-      let h : 2 ^ (width t - 1) ≡ most / 2 + 1 = omega (arith, powers t) in
-      rw (g, h, add-one) (sym (leb·suc-suc v (most / 2)))
-
-  pub unsigned-negative : signed t ≡ false → eqb v 0 ≡ inRange t true v
-  unfolding inRange
-  unsigned-negative g = rw g
-
-  pub unsigned-positive : signed t ≡ false → leb v most ≡ inRange t false v
-  unfolding inRange
-  unsigned-positive g = rw (g, ← e, add-one) (sym (leb·suc-suc v most))
-
--- no number from 2^64 on is in range
-range-large : (t : ℕ) (neg : Bool) (n : ℕ) → 18446744073709551616 ≤ n → inRange t neg n ≡ false
-unfolding inRange
-range-large t neg n h = by (signed t) neg
-  where
-    p : Powers t
-    p = powers t
-
-    by : (g neg : Bool) → cond g (cond neg (leb n (2 ^ (width t - 1))) (ltb n (2 ^ (width t - 1)))) (cond neg (eqb n 0) (ltb n (2 ^ width t))) ≡ false
-    by true true = lt-leb n (2 ^ (width t - 1)) (omega (arith, p))
-    by true false = le-ltb n (2 ^ (width t - 1)) (omega (arith, p))
-    by false true = ne-eqb n 0 (λ e. omega arith)
-    by false false = le-ltb n (2 ^ width t) (omega (arith, p))
-
--- a negative number in range is at most 2^w
-pub range-most : (t v : ℕ) → T (inRange t true v) → v ≤ 2 ^ width t
-unfolding inRange
-range-most t v h = by (signed t) h
-  where
-    p : Powers t
-    p = powers t
-
-    by : (g : Bool) → T (cond g (leb v (2 ^ (width t - 1))) (eqb v 0)) → v ≤ 2 ^ width t
-    by true k = omega (arith, p, leb→le v (2 ^ (width t - 1)) k)
-    by false k = omega (arith, eqb→eq v 0 k)
-
--- what a register holds of -v
-pub bits-zero : (t : ℕ) → 0 ≡ bitsOf t true 0
-unfolding bitsOf
-bits-zero t = let e : 2 ^ width t - 0 ≡ 2 ^ width t = omega arith in rw e (sym (mod-self (2 ^ width t)))
-
-pub bits-negative : (t v most : ℕ) → most + 1 ≡ 2 ^ width t → (v ≡ 0 → ⊥) → v ≤ 2 ^ width t → most - (v - 1) ≡ bitsOf t true v
-unfolding bitsOf
-bits-negative t v most e some h =
-    let small : 2 ^ width t - v < 2 ^ width t = omega arith in
-    let same : most - (v - 1) ≡ 2 ^ width t - v = omega arith in
-    same ∙ sym (mod-eq-of-lt small)
 
 -- the number n, as the code holds it: its value, or that it is 2^64 or more
 data Amounts (n : ℕ) : (v : ℕ) (o : Bool) → Type 0 where
@@ -531,30 +429,30 @@ amounts n v o e = by (decLt n 18446744073709551616)
         let f : amountFrom v o ≡ amountFrom 0 true = e ∙ ap (λ (c : Bool). cond c (amountFrom n false) (amountFrom 0 true)) (le-ltb n 18446744073709551616 (omega arith)) in
         rw (ap (λ (a : Amount). a .over) f) (over (omega arith))
 
-range-is : {n v : ℕ} {o : Bool} (k : ℕ) (neg : Bool) → Amounts n v o → cond o false (inRange k neg v) ≡ inRange k neg n
-range-is k neg exact = refl
-range-is {n} k neg (over h) = sym (range-large k neg n h)
+value-exact : {n v : ℕ} {o : Bool} → Amounts n v o → o ≡ false → v ≡ n
+value-exact exact e = refl
+value-exact (over h) e = absurd (true≢false e)
 
-bits-is : {n v : ℕ} {o : Bool} (k : ℕ) (neg : Bool) → Amounts n v o → T (cond o false (inRange k neg v)) → bitsOf k neg v ≡ bitsOf k neg n
-bits-is k neg exact q = refl
-bits-is k neg (over h) q = absurd q
-
-pub range-exact : (k : ℕ) (neg : Bool) (v : ℕ) (o : Bool) → cond o false (inRange k neg v) ≡ true → T (inRange k neg v)
-range-exact k neg v true e = absurd (subst (λ (c : Bool). T c) (sym e) tt)
-range-exact k neg v false e = rw e tt
+value-over : {n v : ℕ} {o : Bool} → Amounts n v o → o ≡ true → 18446744073709551616 ≤ n
+value-over exact e = absurd (false≢true e)
+value-over (over h) e = h
 
 module _ {s : Reader} (b : Bounded s) (neg : Bool) (v : ℕ) (o : Bool) (p : ℕ) {k : ℕ} (kind : k ≡ loadType (s .op)) (t : List ℕ) (n : ℕ) (a : amountFrom v o ≡ amountOf n) where
   kind-is : (d : Draft) → Holds d s t → k ≡ loadType (d .parts .op)
   kind-is d h = kind ∙ ap loadType (h .counts .op)
 
-  pub number-refused : cond o false (inRange k neg v) ≡ false → Acts Always (setNumber neg n p) s t (taken.Refused 4 p) t
+  pub number-over : o ≡ true → Acts Always (setNumber neg n p) s t (taken.Refused 4 p) t
   unfolding setNumber
-  number-refused q = refused 4 p (λ d h. rw (← kind-is d h, ← range-is k neg (amounts n v o a), q))
+  number-over q = refusing 4 p (λ d h fit. rw (range-large (loadType (d .parts .op)) neg n (value-over (amounts n v o a) q)))
 
-  pub number-proceeds : cond o false (inRange k neg v) ≡ true → {r : ℕ} → r ≡ bitsOf k neg v
+  pub number-refused : o ≡ false → numberInRange k neg v ≡ false → Acts Always (setNumber neg n p) s t (taken.Refused 4 p) t
+  unfolding setNumber
+  number-refused f q = refusing 4 p (λ d h fit. rw (← kind-is d h, ← value-exact (amounts n v o a) f, q))
+
+  pub number-proceeds : o ≡ false → numberInRange k neg v ≡ true → {r : ℕ} → r ≡ bitsOf k neg v
       → Acts Always (setNumber neg n p) s t (taken.Reading (numbered s r)) t
   unfolding setNumber
-  number-proceeds q {r} e =
+  number-proceeds f q {r} e =
       record {
         kept = (bounded b (omega arith) (b .rows) (b .entries) (b .mentions) (b .target) (b .left) (b .right) (b .own) (b .here) (b .there), refl);
         size = refl;
@@ -563,9 +461,9 @@ module _ {s : Reader} (b : Bounded s) (neg : Bool) (v : ℕ) (o : Bool) (p : ℕ
             let x = d .parts in
             let y = partsOf (x .op) (x .target) (x .sources) (bitsOf (loadType (x .op)) neg n) (x .entries) (x .mentions) in
             let c = h .counts in
-            let m : r ≡ bitsOf (loadType (x .op)) neg n = e ∙ bits-is k neg (amounts n v o a) (rw q tt) ∙ ap (λ (j : ℕ). bitsOf j neg n) (kind-is d h) in
+            let m : r ≡ bitsOf (loadType (x .op)) neg n = e ∙ ap (λ (i : ℕ). bitsOf k neg i) (value-exact (amounts n v o a) f) ∙ ap (λ (j : ℕ). bitsOf j neg n) (kind-is d h) in
             proceeding
-            (rw (← kind-is d h, ← range-is k neg (amounts n v o a), q))
+            (rw (← kind-is d h, ← value-exact (amounts n v o a) f, q))
             (stored h (keeps-entries d (h .within) y refl (h .within .inParts)) refl
             (counted c (d .mentions) (d .block) y (c .rows) (c .entries) (c .mentions) (c .op) (c .target) (sources-in c) m (c .own) (mentions-in c)));
       }
@@ -609,17 +507,17 @@ module _ {d : Draft} {s : Reader} (c : Counts d s) where
 abbrev pub OwnEntries : Draft → Type 0
 OwnEntries d = entriesOf (rowOf (d .parts)) ≡ d .parts .entries
 
-counts-written : {d : Draft} {s : Reader} → Counts d s → Within d → OwnEntries d → Counts (written d) (writtenAt s)
+counts-written : {d : Draft} {s : Reader} → Counts d s → WithinSizes d → OwnEntries d → Counts (written d) (writtenAt s)
 counts-written {d} {s} c w own =
     counted c (d .mentions) (written d .block) noParts (rw (more-rows d) (simp length-append (omega (arith, c .rows)))) (omega (arith, more-entries d w own, c .entries)) (c .mentions)
     refl refl none refl refl none
 
 module _ {s : Reader} (b : Bounded s) (p : ℕ) (t : List ℕ) where
   pub row-refused : 1024 ≤ s .rows → Acts OwnEntries (endInstruction p) s t (taken.Refused 5 p) t
-  unfolding endInstruction rowCount
-  row-refused full = refused 5 p (λ d h. rw (le-ltb (length (openRows d)) 1024 (omega (arith, h .counts .rows))))
+  unfolding endInstruction draftRows
+  row-refused full = refusing 5 p (λ d h fit. rw (le-ltb (length (openRows d)) 1024 (omega (arith, h .counts .rows))))
 
-  pub row-proceeds : s .rows < 1024 → s .functions < 16 → {t′ : List ℕ} {k : ℕ} → k ≡ functionAt (s .functions) + 21385 + 12 * s .rows → t′ ≡ sets t k (rowAt s)
+  pub row-proceeds : s .rows < 1024 → s .functions < 16 → {t′ : List ℕ} {k : ℕ} → k ≡ functionAt (s .functions) + rowsOffset + rowLength * s .rows → t′ ≡ sets t k (rowAt s)
       → Acts OwnEntries (endInstruction p) s t (taken.Reading (writtenAt s)) t′
   row-proceeds room few {t′} {k} place e =
       record {

@@ -9,8 +9,8 @@ use lib.ListN.{length, length-append}
 use lib.Seq.{sets, length-sets}
 use Rattle.table.specs.Named.{firstNamed}
 use Rattle.language.specs.Programs.{Register, noBlock, rowsOf, entryCount}
-use Rattle.language.specs.Table.{functionAt}
-use Rattle.language.specs.Reading.{Draft, Outcome, functionNumber, registerNumber, blockNumber}
+use Rattle.language.specs.Table.{functionAt, blockLength, blockNamesOffset, functionLength, functionNamesOffset, registerLength, registerNamesOffset}
+use Rattle.language.specs.Reading.{Draft, ActOutcome, functionNumber, registerNumber, blockNumber}
 use Rattle.reader.specs.Draft.{Stores, openRows}
 use Rattle.reader.specs.State.{Bounded, Counts, Holds, Comes, Acts}
 use Rattle.reader.specs.declared.state.Reader.{Reader}
@@ -22,32 +22,35 @@ use Rattle.reader.proofs.DraftNames.{function-search, register-search, 
 -- ---- acts
 
 -- The definition's act takes d to a draft that has the numbers of s, with vs stored from cell k on.
-pub record Step (act : Draft → Outcome) (d : Draft) (s : Reader) (k : ℕ) (vs : List ℕ) : Type 0 where
+pub record Step (act : Draft → ActOutcome) (d : Draft) (s : Reader) (k : ℕ) (vs : List ℕ) : Type 0 where
   pub draft : Draft
-  pub steps : act d ≡ Outcome.proceed draft
+  pub steps : act d ≡ ActOutcome.proceed draft
   pub counts : Counts draft s
   pub stores : Stores d draft k vs
 
-module _ {Fit : Draft → Type 0} {act : Draft → Outcome} {s : Reader} {t : List ℕ} where
-  pub refusing : (n p : ℕ) → ((d : Draft) → Holds d s t → Fit d → act d ≡ Outcome.refuse n p) → Acts Fit act s t (taken.Refused n p) t
+-- what the table stands for after the store of an act
+pub stored : {d d′ : Draft} {s s′ : Reader} {t t′ : List ℕ} {k : ℕ} {vs : List ℕ} → Holds d s t → Stores d d′ k vs → t′ ≡ sets t k vs → Counts d′ s′ → Holds d′ s′ t′
+stored {k = k} {vs} h st e c =
+    record {
+      counts = c;
+      within = st .within;
+      table = e ∙ ap (λ (l : List ℕ). sets l k vs) (h .table) ∙ sym (st .cells);
+    }
+
+pub proceeding : {t : List ℕ} {o : ActOutcome} {d : Draft} {s : Reader} → o ≡ ActOutcome.proceed d → Holds d s t → Comes t o (taken.Reading s)
+proceeding {d = d} {s} e h = rw e (Comes.proceeds d s h)
+
+module _ {Fit : Draft → Type 0} {act : Draft → ActOutcome} {s : Reader} {t : List ℕ} where
+  pub refusing : (n p : ℕ) → ((d : Draft) → Holds d s t → Fit d → act d ≡ ActOutcome.refuse n p) → Acts Fit act s t (taken.Refused n p) t
   refusing n p same = record { kept = tt; size = refl; meaning = λ d h fit. rw (same d h fit) (Comes.refuses n p) }
 
   pub storing : {s′ : Reader} {t′ : List ℕ} (k : ℕ) (vs : List ℕ) → t′ ≡ sets t k vs → Bounded s′ → s′ .stage ≡ s .stage
       → ((d : Draft) → Holds d s t → Fit d → Step act d s′ k vs) → Acts Fit act s t (taken.Reading s′) t′
-  storing {s′} {t′} k vs e b stage step =
+  storing k vs e b stage step =
       record {
         kept = (b, stage);
         size = rw e (length-sets t k vs);
-        meaning =
-            λ d h fit.
-            let x = step d h fit in
-            let after : Holds (x .draft) s′ t′ =
-            record {
-              counts = x .counts;
-              within = x .stores .within;
-              table = e ∙ ap (λ (u : List ℕ). sets u k vs) (h .table) ∙ sym (x .stores .cells);
-            } in
-            rw (x .steps) (Comes.proceeds (x .draft) s′ after);
+        meaning = λ d h fit. let x = step d h fit in proceeding (x .steps) (stored h (x .stores) e (x .counts));
       }
 
 -- ---- names looked for in the table
@@ -56,16 +59,16 @@ module _ {d : Draft} {s : Reader} {t : List ℕ} (h : Holds d s t) (less : s .fu
   few : length (d .functions) < 16
   few = omega (arith, h .counts .functions)
 
-  pub function-found : firstNamed t 9 34697 (s .functions) n ≡ functionNumber (d .functions) n
+  pub function-found : firstNamed t functionNamesOffset functionLength (s .functions) n ≡ functionNumber (d .functions) n
   unfolding firstNamed
   function-found = rw (h .table, h .counts .functions) (function-search d (h .within) few n)
 
   module _ {a : ℕ} (e : a ≡ functionAt (s .functions)) where
-    pub register-found : firstNamed t (a + 74) 66 (s .registers) n ≡ registerNumber (d .function) n
+    pub register-found : firstNamed t (a + registerNamesOffset) registerLength (s .registers) n ≡ registerNumber (d .function) n
     unfolding firstNamed
     register-found = rw (h .table, h .counts .registers) (register-search d (h .within) few n (omega (arith, h .counts .functions)))
 
-    pub block-found : firstNamed t (a + 16973) 69 (s .blocks) n ≡ blockNumber (d .function) n
+    pub block-found : firstNamed t (a + blockNamesOffset) blockLength (s .blocks) n ≡ blockNumber (d .function) n
     unfolding firstNamed
     block-found = rw (h .table, h .counts .blocks) (block-search d (h .within) few n (omega (arith, h .counts .functions)))
 

@@ -1,32 +1,30 @@
 -- A text is read by what the lexer finds in it: the loop over it keeps the definition's reading. Assumes nothing.
-use mathlib.Core.Path.{_≡_, refl, sym, ap, subst, subst⁻¹, _∙_}
-use mathlib.Core.Bool.{Bool, true, false, cond, _&&_}
+use mathlib.Core.Path.{_≡_, refl, sym, ap, subst, _∙_}
+use mathlib.Core.Bool.{Bool, true, false, _&&_}
 use mathlib.Core.List.{List, [], _∷_, _++_, foldl, foldl-append}
 use Prim.Native.Nat.{ℕ, zero, suc, _+_, _-_, _≤_, _<_}
 use native.Mathlib.Omega.{arith}
-use native.Mathlib.Nat.{le-refl}
 use lib.Dec.{T, eqb, leb, leb→le, lit≤}
-use lib.ListN.{length, take, drop, getD, set, replicate, length-take, length-drop, take-append-drop}
+use lib.ListN.{length, take, drop, getD, set, length-take, length-drop, take-append-drop}
 use lib.Seq.{take-length}
-use mir.Facts.{and-yes, yes-and}
+use mir.Facts.{and-yes}
 use borrow.Author.Tests.{le-ltb}
 use Rattle.laws.specs.Lists.{all}
 use Rattle.laws.specs.Sections.{pad, Bytes}
+use Rattle.laws.proofs.Indexing.{all-append-left, all-append-right}
 use Rattle.laws.proofs.Storing.{pad-is}
 use Rattle.language.specs.Programs.{maxText, maxName, rowsOf, entryCount}
 use Rattle.language.specs.Names.{spelled, whole, spell, Spelling}
 use Rattle.language.specs.Words.{wordOf, wordCount}
 use Rattle.language.specs.Answers.{zeros}
-use Rattle.language.specs.Table.{cells}
+use Rattle.language.specs.Table.{functionsLength, tableLength}
 use Rattle.language.specs.Tokens.{Token, Found as Foundᴸ, Lexed as Lexedᴸ, lexer₀, quiet, lexMore, lexEnd, tokensOf}
-use Rattle.language.specs.Tokens as lexing
 use Rattle.language.specs.Grammar.{Stage, gram}
-use Rattle.language.specs.Reading.{Draft, Outcome, Parse, Reading, refuse, proceed, perform, onward, finish, fresh, parse₀, reader₀, readByte, readEnd, read}
+use Rattle.language.specs.Reading.{Draft, ActOutcome, Parse, Reading, refuse, proceed, performAct, afterAct, finish, fresh, parse₀, reader₀, readByte, readEnd, read}
 use Rattle.language.specs.Reading as meaning
 use Rattle.language.proofs.NameLaws.{isSpelled, names-spelled}
 use Rattle.language.proofs.ReadingLaws.{refusal-stands}
 use Rattle.grammar.specs.Ready.{isTop}
-use Rattle.grammar.specs.Meaning.{stageFrom}
 use Rattle.grammar.proofs.Ready.{ready-start}
 use Rattle.lexer.specs.Lexing.{part, Stands, Means, Finds, tokenBytes, Gives, Scanned, GivesLast, Finished, lexerFrom}
 use Rattle.lexer.specs.declared.Lexer.{Lexer}
@@ -56,9 +54,9 @@ pad-none : (n : ℕ) → pad n [] ≡ zeros n
 unfolding zeros
 pad-none n = pad-is n [] n (omega arith)
 
-closed-none : closedTable [] ≡ zeros 555153
+closed-none : closedTable [] ≡ zeros tableLength
 unfolding closedTable
-closed-none = ap (λ (r : List ℕ). 0 ∷ r) (pad-none 555152) ∙ sym (zeros-more 555152)
+closed-none = ap (λ (r : List ℕ). 0 ∷ r) (pad-none functionsLength) ∙ sym (zeros-more functionsLength)
 
 start-bounded : Bounded (betweenAt 0)
 start-bounded =
@@ -106,7 +104,7 @@ start-counts =
     }
 
 -- a table that is all zero has no function yet
-pub reads-start : (t pend : List ℕ) → t ≡ zeros 555153 → Reads t pend parse₀ (taken.Reading (betweenAt 0))
+pub reads-start : (t pend : List ℕ) → t ≡ zeros tableLength → Reads t pend parse₀ (taken.Reading (betweenAt 0))
 reads-start t pend e =
     Reads.reading Stage.top (fresh []) (betweenAt 0)
     (record {
@@ -121,16 +119,6 @@ reads-start t pend e =
     })
 
 -- ---- what the lexer finds
-
-all-after : {A : Type 0} (p : A → Bool) (xs ys : List A) → T (all p (xs ++ ys)) → T (all p ys)
-all-after p [] ys h = h
-all-after p (x ∷ xs) ys h = all-after p xs ys (and-yes (p x) (all p (xs ++ ys)) h .1)
-
-all-before : {A : Type 0} (p : A → Bool) (xs ys : List A) → T (all p (xs ++ ys)) → T (all p xs)
-all-before p [] ys h = tt
-all-before p (x ∷ xs) ys h =
-    let k = and-yes (p x) (all p (xs ++ ys)) h in
-    yes-and (p x) (all p xs) (k .0) (all-before p xs ys (k .1))
 
 pub bytes-each : (xs : List ℕ) → ((k : ℕ) → getD xs k 0 < 256) → Bytes xs
 bytes-each [] h = tt
@@ -177,8 +165,8 @@ module _ (text : List ℕ) where
     spelled-part m n h =
         let part-is : lexed n .found ≡ lexed m .found ++ foldl lexMore (quiet (lexed m .lexer)) (part text m n) .found =
         rw (take-part text m n h, foldl-append lexMore (quiet lexer₀) (take m text) (part text m n), lex-onward (lexed m) (part text m n)) in
-        all-after isSpelled (lexed m .found) (foldl lexMore (quiet (lexed m .lexer)) (part text m n) .found)
-        (subst (λ (fs : List Foundᴸ). T (all isSpelled fs)) part-is (all-before isSpelled (lexed n .found) (lexEnd (lexed n .lexer)) (spelled-found n)))
+        all-append-right isSpelled (lexed m .found) (foldl lexMore (quiet (lexed m .lexer)) (part text m n) .found)
+        (subst (λ (fs : List Foundᴸ). T (all isSpelled fs)) part-is (all-append-left isSpelled (lexed n .found) (lexEnd (lexed n .lexer)) (spelled-found n)))
 
 -- ---- refused, or reading
 
@@ -193,7 +181,7 @@ module _ {t pend : List ℕ} where
   reads-reading (Reads.reading s d c f) = (s, d, refl, f)
 
 -- once refused, whatever comes
-still-refused : {t pend : List ℕ} {x : Parse} {r : Taken} → Reads t pend x r → Refusal r → (fs : List Foundᴸ) → Reads t pend (foldl meaning.take x fs) r
+still-refused : {t pend : List ℕ} {x : Parse} {r : Taken} → Reads t pend x r → Refusal r → (fs : List Foundᴸ) → Reads t pend (foldl meaning.takeToken x fs) r
 still-refused (Reads.refused n p) k fs = rw (refusal-stands n p fs) (Reads.refused n p)
 still-refused (Reads.reading s d c f) k fs = absurd (no-refusal c k)
 
@@ -216,7 +204,7 @@ module _ (text : List ℕ) (c : Reader) (t pend : List ℕ) where
   found-nothing parse h [] Finds.nothing = h
 
   pub found-stray : (p : ℕ) → TakesFound text (founds.Stray p) c t pend (taken.Refused 2 p) t pend
-  unfolding meaning.take
+  unfolding meaning.takeToken
   found-stray p parse h fs (Finds.stray q) = let (s, d, e, f) = reads-reading h in rw e (Reads.refused 2 q)
 
   pub found-token : (p : ℕ) (x : Tokenᶜ) {r : Taken} {t′ pend′ : List ℕ} → Takes text p x c t pend r t′ pend′ → TakesFound text (founds.Token p x) c t pend r t′ pend′
@@ -226,18 +214,18 @@ module _ (text : List ℕ) (c : Reader) (t pend : List ℕ) where
     pub found-reached : FoundIn text f → Reached c t pend → (q : Reader) → r ≡ taken.Reading q → Reached q t₁ pend₁
     found-reached i h q e =
         record {
-          parse = foldl meaning.take (h .parse) (i .one);
-          reads = subst (λ (y : Taken). Reads t₁ pend₁ (foldl meaning.take (h .parse) (i .one)) y) e (first (h .parse) (h .reads) (i .one) (i .finds));
+          parse = foldl meaning.takeToken (h .parse) (i .one);
+          reads = subst (λ (y : Taken). Reads t₁ pend₁ (foldl meaning.takeToken (h .parse) (i .one)) y) e (first (h .parse) (h .reads) (i .one) (i .finds));
         }
 
     pub both-refused : (g : Found) → Refusal r → TakesBoth text f g c t pend r t₁ pend₁
-    both-refused g k parse h fs gs i j = rw (foldl-append meaning.take parse fs gs) (still-refused (first parse h fs i) k gs)
+    both-refused g k parse h fs gs i j = rw (foldl-append meaning.takeToken parse fs gs) (still-refused (first parse h fs i) k gs)
 
     pub both-read : (g : Found) (q : Reader) → r ≡ taken.Reading q → {r′ : Taken} {t′ pend′ : List ℕ} → TakesFound text g q t₁ pend₁ r′ t′ pend′
         → TakesBoth text f g c t pend r′ t′ pend′
     both-read g q e second parse h fs gs i j =
-        rw (foldl-append meaning.take parse fs gs)
-        (second (foldl meaning.take parse fs) (subst (λ (y : Taken). Reads t₁ pend₁ (foldl meaning.take parse fs) y) e (first parse h fs i)) gs j)
+        rw (foldl-append meaning.takeToken parse fs gs)
+        (second (foldl meaning.takeToken parse fs) (subst (λ (y : Taken). Reads t₁ pend₁ (foldl meaning.takeToken parse fs) y) e (first parse h fs i)) gs j)
 
 -- ---- the end of a text
 
@@ -283,7 +271,7 @@ program-told {t} s d c f e =
     Told.program (d .functions) c (rw (closed, f .counts .functions) (sym (counted (d .functions))))
 
 module _ {t pend : List ℕ} (c : Reader) where
-  end-told : (s : Stage) → isTop s ≡ true → (o : Outcome) → Reads t pend (onward s o) (taken.Reading c) → Told (set t 0 (c .functions)) (finish (onward s o)) (taken.Reading c)
+  end-told : (s : Stage) → isTop s ≡ true → (o : ActOutcome) → Reads t pend (afterAct s o) (taken.Reading c) → Told (set t 0 (c .functions)) (finish (afterAct s o)) (taken.Reading c)
   end-told s e (refuse n p) h =
       let (s′, d′, q, f) = reads-reading h in
       absurd (let z : _≡_ {A = ℕ} 0 1 = cc in omega arith)
@@ -293,10 +281,10 @@ module _ {t pend : List ℕ} (c : Reader) where
       let draft : d ≡ d′ = cc in
       rw draft (program-told s′ d′ c f (sym (ap isTop stage) ∙ e))
 
-  end-taken : (x : Parse) (n : ℕ) → Reads t pend (meaning.take x (Foundᴸ.token n Token.end)) (taken.Reading c)
-      → Told (set t 0 (c .functions)) (finish (meaning.take x (Foundᴸ.token n Token.end))) (taken.Reading c)
-  unfolding meaning.take
-  end-taken (Parse.reading s d) n h = end-told (gram s Token.end .stage) (end-top s) (perform (gram s Token.end .act) n d) h
+  end-taken : (x : Parse) (n : ℕ) → Reads t pend (meaning.takeToken x (Foundᴸ.token n Token.end)) (taken.Reading c)
+      → Told (set t 0 (c .functions)) (finish (meaning.takeToken x (Foundᴸ.token n Token.end))) (taken.Reading c)
+  unfolding meaning.takeToken
+  end-taken (Parse.reading s d) n h = end-told (gram s Token.end .stage) (end-top s) (performAct (gram s Token.end .act) n d) h
   end-taken (Parse.refused m p) n h =
       let (s, d, q, f) = reads-reading h in
       absurd (let z : _≡_ {A = ℕ} 0 1 = cc in omega arith)
@@ -313,7 +301,7 @@ module _ (text : List ℕ) (f g : Found) (c : Reader) (t pend : List ℕ) where
   pub both-reached : FoundIn text f → FoundIn text g → Reached c t pend → {q : Reader} {t₁ pend₁ : List ℕ}
       → TakesBoth text f g c t pend (taken.Reading q) t₁ pend₁ → Reached q t₁ pend₁
   both-reached i j h takes =
-      record { parse = foldl meaning.take (h .parse) (i .one ++ j .one); reads = takes (h .parse) (h .reads) (i .one) (j .one) (i .finds) (j .finds) }
+      record { parse = foldl meaning.takeToken (h .parse) (i .one ++ j .one); reads = takes (h .parse) (h .reads) (i .one) (j .one) (i .finds) (j .finds) }
 
   module _ {k : ℕ} {h : Found} {q : Reader} {t₁ pend₁ : List ℕ} where
     pub half-found : FoundIn text f → FoundIn text g → Halfway k h q t₁ pend₁ → k < 2 → FoundIn text h
@@ -360,7 +348,7 @@ pub record Midway (text t pend : List ℕ) (l : Lexer) (c : Reader) : Type 0 whe
   pub lexer : Stands text (readTo text (l .next) .lexer) l
   pub parse : Reads t pend (readTo text (l .next) .parse) (taken.Reading c)
 
-pub midway-start : (text t pend : List ℕ) → Bytes text → t ≡ zeros 555153 → Midway text t pend (lexerFrom 0 0 0 false 0 false) (betweenAt 0)
+pub midway-start : (text t pend : List ℕ) → Bytes text → t ≡ zeros tableLength → Midway text t pend (lexerFrom 0 0 0 false 0 false) (betweenAt 0)
 midway-start text t pend b e = record { bytes = b; order = lit≤ tt; within = omega arith; lexer = stands-first text; parse = reads-start t pend e }
 
 pub midway-reached : {text t pend : List ℕ} {l : Lexer} {c : Reader} → Midway text t pend l c → Reached c t pend
@@ -379,11 +367,11 @@ module _ {text t pend : List ℕ} {l : Lexer} {c : Reader} (h : Midway text t pe
 
     pub first-found : FoundIn text (x .first)
     first-found =
-        record { one = given .one; finds = given .first; placed = placed text (given .first) (all-before isSpelled (given .one) (given .two) spelled-given) }
+        record { one = given .one; finds = given .first; placed = placed text (given .first) (all-append-left isSpelled (given .one) (given .two) spelled-given) }
 
     pub second-found : FoundIn text (x .second)
     second-found =
-        record { one = given .two; finds = given .second; placed = placed text (given .second) (all-after isSpelled (given .one) (given .two) spelled-given) }
+        record { one = given .two; finds = given .second; placed = placed text (given .second) (all-append-right isSpelled (given .one) (given .two) spelled-given) }
 
     module _ (r : Taken) (t′ pend′ : List ℕ) (takes : TakesBoth text (x .first) (x .second) c t pend r t′ pend′) where
       -- the reading up to the scan's end
@@ -408,7 +396,7 @@ module _ {text t pend : List ℕ} {l : Lexer} {c : Reader} (h : Midway text t pe
       told-early size k t₂ =
           let n = x .lexer .next in
           let rest = foldl lexMore (quiet (readTo text n .lexer)) (drop n text) in
-          let all : foldl readByte reader₀ text ≡ record { lexer = rest .lexer; parse = foldl meaning.take (readTo text n .parse) (rest .found) } =
+          let all : foldl readByte reader₀ text ≡ record { lexer = rest .lexer; parse = foldl meaning.takeToken (readTo text n .parse) (rest .found) } =
           ap (λ (bs : List ℕ). foldl readByte reader₀ bs) (sym (take-append-drop n text)) ∙ foldl-append readByte reader₀ (take n text) (drop n text)
           ∙ read-bytes (readTo text n) (drop n text) in
           rw (le-ltb maxText (length text) size, all)
@@ -427,22 +415,22 @@ module _ {text t pend : List ℕ} {l : Lexer} {c : Reader} (h : Midway text t pe
 
     spelled-last : T (all isSpelled (last .one))
     spelled-last =
-        all-before isSpelled (last .one) (Foundᴸ.token (readTo text (l .next) .lexer .next) Token.end ∷ [])
+        all-append-left isSpelled (last .one) (Foundᴸ.token (readTo text (l .next) .lexer .next) Token.end ∷ [])
         (subst (λ (fs : List Foundᴸ). T (all isSpelled fs)) (last .found)
         (rw (lexer-to text (l .next))
-        (all-after isSpelled (lexed text (l .next) .found) (lexEnd (lexed text (l .next) .lexer)) (spelled-found text (h .bytes) (l .next)))))
+        (all-append-right isSpelled (lexed text (l .next) .found) (lexEnd (lexed text (l .next) .lexer)) (spelled-found text (h .bytes) (l .next)))))
 
     pub last-found : FoundIn text f
     last-found = record { one = last .one; finds = last .first; placed = placed text (last .first) spelled-last }
 
     -- the whole text is read
-    read-whole : length text ≤ 65536 → read text ≡ finish (foldl meaning.take (readTo text (l .next) .parse) (last .one ++ (Foundᴸ.token (length text) Token.end ∷ [])))
+    read-whole : length text ≤ 65536 → read text ≡ finish (foldl meaning.takeToken (readTo text (l .next) .parse) (last .one ++ (Foundᴸ.token (length text) Token.end ∷ [])))
     unfolding read readEnd
     read-whole size =
         rw (le-ltb maxText (length text) size, ← end-place, ← last .found, all-read)
 
     module _ (size : length text ≤ 65536) (r : Taken) (t′ pend′ : List ℕ) (takes : TakesBoth text f (founds.Token (length text) tokens.End) c t pend r t′ pend′) where
-      reads-whole : Reads t′ pend′ (foldl meaning.take (readTo text (l .next) .parse) (last .one ++ (Foundᴸ.token (length text) Token.end ∷ []))) r
+      reads-whole : Reads t′ pend′ (foldl meaning.takeToken (readTo text (l .next) .parse) (last .one ++ (Foundᴸ.token (length text) Token.end ∷ []))) r
       reads-whole =
           takes (readTo text (l .next) .parse) (h .parse) (last .one) _ (last .first) (Finds.token (length text) tokens.End Token.end Means.end (omega arith))
 
@@ -451,9 +439,9 @@ module _ {text t pend : List ℕ} {l : Lexer} {c : Reader} (h : Midway text t pe
 
       pub told-right : (q : Reader) → r ≡ taken.Reading q → Told (set t′ 0 (q .functions)) (read text) (taken.Reading q)
       told-right q e =
-          let one = foldl-append meaning.take (readTo text (l .next) .parse) (last .one) (Foundᴸ.token (length text) Token.end ∷ []) in
+          let one = foldl-append meaning.takeToken (readTo text (l .next) .parse) (last .one) (Foundᴸ.token (length text) Token.end ∷ []) in
           rw (read-whole size, one)
-          (end-taken q (foldl meaning.take (readTo text (l .next) .parse) (last .one)) (length text) (rw (one, e) at reads-whole))
+          (end-taken q (foldl meaning.takeToken (readTo text (l .next) .parse) (last .one)) (length text) (rw (one, e) at reads-whole))
 
   -- what comes next, a scan's or the end's
   module _ {x : Lexed} where

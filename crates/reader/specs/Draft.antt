@@ -10,10 +10,11 @@ use mathlib.Core.Path.{_≡_}
 use Rattle.laws.specs.Lists.{all, empty, gather, sum}
 use Rattle.laws.specs.Sections.{pad, gatherFrom}
 use Rattle.language.specs.Programs.{Row, Func, noBlock, noFunction, entriesOf, opOf, formIn, rowsOf, entryCount, maxFunctions, maxRegisters, maxBlocks, maxRows, maxEntries, maxName}
-use Rattle.language.specs.Instructions.{Form, Operand, formOf, formNumber, hasTarget, sourceCount, operandOf}
-use Rattle.language.specs.Table.{twoBytes, eightBytes, nameCells, registerCells, blockCells, rowCells, functionCells}
+use Rattle.language.specs.Instructions.{Form, Operand, formOf, formNumber, hasTarget, sourceCount, operandOf, jumpCondOp, jumpOp}
+use Rattle.language.specs.Table.{twoBytes, eightBytes, nameCells, registerCells, blockCells, rowCells, functionCells, rowLength}
+use Rattle.language.specs.Table.{blocksLength, functionLength, functionsLength, registersLength, rowsLength}
 use Rattle.language.specs.Grammar.{Stage}
-use Rattle.language.specs.Reading.{Draft, Parts, Outcome, openFunction, resolveRow, blockNumber, maxMentions}
+use Rattle.language.specs.Reading.{Draft, Parts, ActOutcome, openFunction, resolveRow, blockNumber, maxMentions}
 
 -- A row while its function is open: where a block's number will stand, that of its mention stands in two bytes.
 unfoldable pub pendingCells : ℕ → Row → List ℕ
@@ -22,8 +23,8 @@ pendingCells n (Row.load op t x) = rowCells n (Row.load op t x)
 pendingCells n (Row.unary op t s) = rowCells n (Row.unary op t s)
 pendingCells n (Row.binary op t l r) = rowCells n (Row.binary op t l r)
 pendingCells n (Row.phi t es) = rowCells n (Row.phi t es)
-pendingCells n (Row.jump m) = pad 12 (32 ∷ 0 ∷ 0 ∷ 0 ∷ twoBytes m)
-pendingCells n (Row.branch s x y) = pad 12 (33 ∷ 0 ∷ s ∷ 0 ∷ (twoBytes x ++ twoBytes y))
+pendingCells n (Row.jump m) = pad rowLength (jumpOp ∷ 0 ∷ 0 ∷ 0 ∷ twoBytes m)
+pendingCells n (Row.branch s x y) = pad rowLength (jumpCondOp ∷ 0 ∷ s ∷ 0 ∷ (twoBytes x ++ twoBytes y))
 pendingCells n (Row.return s) = rowCells n (Row.return s)
 pendingCells n Row.leave = rowCells n Row.leave
 pendingCells n (Row.unknown op) = rowCells n (Row.unknown op)
@@ -61,17 +62,17 @@ unfoldable pub openHead : Draft → List ℕ
 openHead d = 0 ∷ 0 ∷ 0 ∷ 0 ∷ 0 ∷ 0 ∷ 0 ∷ 0 ∷ nameCells (d .function .name)
 
 unfoldable pub openRegisters : Draft → List ℕ
-openRegisters d = pad 16896 (gather registerCells (d .function .registers))
+openRegisters d = pad registersLength (gather registerCells (d .function .registers))
 
 unfoldable pub openBlocks : Draft → List ℕ
-openBlocks d = pad 4416 (gatherFrom (λ b. length (b .rows)) blockCells 0 (d .function .blocks) ++ openBlock (d .block .name))
+openBlocks d = pad blocksLength (gatherFrom (λ b. length (b .rows)) blockCells 0 (d .function .blocks) ++ openBlock (d .block .name))
 
 -- The rows of the closed blocks, then those of the block in hand.
 abbrev pub openRows : Draft → List Row
 openRows d = rowsOf (openFunction d)
 
 unfoldable pub openRowCells : Draft → List ℕ
-openRowCells d = pad 12288 (gatherFrom (λ r. length (entriesOf r)) pendingCells 0 (openRows d))
+openRowCells d = pad rowsLength (gatherFrom (λ r. length (entriesOf r)) pendingCells 0 (openRows d))
 
 unfoldable pub openEntries : Draft → List ℕ
 openEntries d = pad 1024 (gather entriesOf (openRows d) ++ d .parts .entries)
@@ -81,22 +82,22 @@ openCells d = openHead d ++ (openRegisters d ++ (openBlocks d ++ (openRowCells d
 
 -- The table with a function in hand, and between two functions. The function count is put down at the text's end.
 unfoldable pub openTable : Draft → List ℕ
-openTable d = 0 ∷ pad 555152 (gather functionCells (d .functions) ++ openCells d)
+openTable d = 0 ∷ pad functionsLength (gather functionCells (d .functions) ++ openCells d)
 
 unfoldable pub closedTable : List Func → List ℕ
-closedTable fs = 0 ∷ pad 555152 (gather functionCells fs)
+closedTable fs = 0 ∷ pad functionsLength (gather functionCells fs)
 
 -- At a function's end its first r rows have the numbers of blocks in place of those of mentions.
 unfoldable pub patchedRows : List ℕ → ℕ → List Row → List ℕ
 patchedRows bs r rows =
     let size : Row → ℕ = λ row. length (entriesOf row) in
-    pad 12288
+    pad rowsLength
     (gatherFrom size (λ n row. rowCells n (resolveRow bs row)) 0 (take r rows)
     ++ gatherFrom size pendingCells (sum (map size (take r rows))) (drop r rows))
 
 unfoldable pub patchedTable : Draft → List ℕ → ℕ → List ℕ
 patchedTable d bs r =
-    0 ∷ pad 555152
+    0 ∷ pad functionsLength
     (gather functionCells (d .functions)
     ++ (openHead d ++ (openRegisters d ++ (openBlocks d ++ (patchedRows bs r (openRows d) ++ openEntries d)))))
 
@@ -132,9 +133,9 @@ abbrev pub inForm : Row → Bool
 inForm row = eqb (formNumber (formOf (opOf row))) (formNumber (formIn row))
 
 -- No list of a draft outgrows its section.
-pub record Within (d : Draft) : Type 0 where
+pub record WithinSizes (d : Draft) : Type 0 where
   pub functions : length (d .functions) ≤ maxFunctions
-  pub whole : (i : ℕ) → i < length (d .functions) → length (functionCells (getD (d .functions) i noFunction)) ≡ 34697
+  pub whole : (i : ℕ) → i < length (d .functions) → length (functionCells (getD (d .functions) i noFunction)) ≡ functionLength
   pub name : T (shortName (d .function .name))
   pub registers : length (d .function .registers) ≤ maxRegisters
   pub registerNames : T (all (λ r. shortName (r .name)) (d .function .registers))
@@ -152,7 +153,7 @@ pub record Within (d : Draft) : Type 0 where
 -- Of an act that takes d to d′: with vs stored from cell k on, the table of the one is that of the other.
 pub record Stores (d d′ : Draft) (k : ℕ) (vs : List ℕ) : Type 0 where
   pub cells : openTable d′ ≡ sets (openTable d) k vs
-  pub within : Within d′
+  pub within : WithinSizes d′
 
 -- ---- what is in hand at a stage
 
@@ -196,6 +197,6 @@ pub record InHand (k : ℕ) (d : Draft) : Type 0 where
   pub entries : T (ltb k 3) → d .parts .entries ≡ []
 
 -- P holds of the draft that an act proceeds to.
-pub data After (P : Draft → Type 0) : Outcome → Type 0 where
-  refused : {n p : ℕ} → After P (Outcome.refuse n p)
-  proceeds : {d : Draft} → P d → After P (Outcome.proceed d)
+pub data After (P : Draft → Type 0) : ActOutcome → Type 0 where
+  refused : {n p : ℕ} → After P (ActOutcome.refuse n p)
+  proceeds : {d : Draft} → P d → After P (ActOutcome.proceed d)

@@ -9,17 +9,18 @@ use lib.ListN.{length, getD}
 use lib.Seq.{sets}
 use Rattle.table.specs.Named.{firstNamed}
 use Rattle.language.specs.Programs.{Func, noBlock}
-use Rattle.language.specs.Table.{nameAt, two, twoBytes, eightBytes, rowOp}
-use Rattle.language.specs.Reading.{Draft, Outcome, fresh, endFunction}
-use Rattle.reader.specs.Draft.{Within, closedTable}
-use Rattle.reader.specs.State.{Counts, Holds, Pending, Kept, betweenAt}
+use Rattle.language.specs.Table.{nameAt, two, twoBytes, eightBytes, rowOp, blockLength, blockNamesOffset, operandsOffset, rowLength}
+use Rattle.language.specs.Reading.{Draft, ActOutcome, fresh, endFunction}
+use Rattle.language.specs.Instructions.{jumpCondOp, jumpOp}
+use Rattle.reader.specs.Draft.{WithinSizes, closedTable}
+use Rattle.reader.specs.State.{Counts, Holds, Pending, KeepsBounds, betweenAt, mentionLength}
 use Rattle.reader.specs.declared.state.Reader.{Reader}
 use Rattle.reader.specs.declared.state.Taken.{Taken}
 use Rattle.reader.specs.declared.state.Taken.the-variants as taken
 
 -- The block that mention k names, or the number of blocks.
 abbrev pub blockNamed : (t : List ℕ) (a blocks : ℕ) (pend : List ℕ) → ℕ → ℕ
-blockNamed t a blocks pend k = firstNamed t (a + 16973) 69 blocks (nameAt pend (69 * k))
+blockNamed t a blocks pend k = firstNamed t (a + blockNamesOffset) blockLength blocks (nameAt pend (mentionLength * k))
 
 -- Of so many mentions r are resolved, all or those before the first that no block answers, and stand in found.
 pub record Resolved (t : List ℕ) (a blocks : ℕ) (pend : List ℕ) (mentions r : ℕ) (found : List ℕ) : Type 0 where
@@ -30,11 +31,11 @@ pub record Resolved (t : List ℕ) (a blocks : ℕ) (pend : List ℕ) (mentions 
 -- Row r with its blocks' numbers, if it is a jump or a branch, in place of its mentions' numbers.
 unfoldable pub patchRow : List ℕ → (a : ℕ) → List ℕ → ℕ → List ℕ
 patchRow t a bs r =
-    let k = a + 21389 + 12 * r in
+    let k = a + operandsOffset + rowLength * r in
     let b = getD bs (two t k) 0 in
-    cond (eqb (rowOp t a r) 32)
+    cond (eqb (rowOp t a r) jumpOp)
     (sets t k (eightBytes b))
-    (cond (eqb (rowOp t a r) 33) (sets t k (eightBytes (b + 256 * getD bs (two t (k + 2)) 0))) t)
+    (cond (eqb (rowOp t a r) jumpCondOp) (sets t k (eightBytes (b + 256 * getD bs (two t (k + 2)) 0))) t)
 
 -- The first r rows, one after the other.
 unfoldable pub patchRows : List ℕ → (a : ℕ) → List ℕ → ℕ → List ℕ
@@ -76,18 +77,18 @@ closedAt s =
 -- The state and the table t stand for so many closed functions, and none is in hand.
 pub record Closed (fs : List Func) (s : Reader) (t : List ℕ) : Type 0 where
   pub counts : Counts (fresh fs) s
-  pub within : Within (fresh fs)
+  pub within : WithinSizes (fresh fs)
   pub table : t ≡ closedTable fs
 
 -- What a function's end comes to: the answer of the definition, or a state and table that stand for the functions it closes.
-pub data Closes (t : List ℕ) : Outcome → Taken → Type 0 where
-  refuses : (n p : ℕ) → Closes t (Outcome.refuse n p) (taken.Refused n p)
-  proceeds : (fs : List Func) (s : Reader) → Closed fs s t → Closes t (Outcome.proceed (fresh fs)) (taken.Reading s)
+pub data Closes (t : List ℕ) : ActOutcome → Taken → Type 0 where
+  refuses : (n p : ℕ) → Closes t (ActOutcome.refuse n p) (taken.Refused n p)
+  proceeds : (fs : List Func) (s : Reader) → Closed fs s t → Closes t (ActOutcome.proceed (fresh fs)) (taken.Reading s)
 
 -- A function's end in code, from the state s and the table t to r and t′, does what the definition does to every draft that s, t and the
 -- mentions put down stand for, no block and no phi entries being in hand.
 pub record Ends (s : Reader) (t pend : List ℕ) (p : ℕ) (r : Taken) (t′ : List ℕ) : Type 0 where
-  pub kept : Kept s r
+  pub kept : KeepsBounds s r
   pub size : length t′ ≡ length t
   pub meaning :
       (d : Draft) → Holds d s t → Pending (d .mentions) pend → d .block ≡ noBlock → d .parts .entries ≡ [] → Closes t′ (endFunction p d) r

@@ -1,18 +1,18 @@
 -- What the reader's numbers stand for between two tokens: a stage of the grammar and a draft. Assumes nothing.
 use mathlib.Core.Path.{_≡_}
 use mathlib.Core.Bool.{Bool, true, false, cond}
-use mathlib.Core.List.{List, [], _∷_, _++_, foldl}
+use mathlib.Core.List.{List, [], _++_, foldl}
 use Prim.Native.Nat.{ℕ, _+_, _≤_, _<_}
 use lib.Dec.{T}
 use lib.ListN.{length, take, drop}
 use Rattle.language.specs.Programs.{Program, noBlock, entriesOf}
-use Rattle.language.specs.Table.{cells}
+use Rattle.language.specs.Table.{cells, tableLength}
 use Rattle.language.specs.Tokens.{Token as Tokenᴸ, Found as Foundᴸ}
 use Rattle.language.specs.Grammar.{Stage, Act as Actᴸ}
 use Rattle.language.specs.Reading.{Draft, Parse, Reading, rowOf, markSsa, setResult, nameFunction, nameRegister, nameBlock, endBlock, beginInstruction, setTarget, setInstruction, addSource, addEntry, addMention, setNumber, endInstruction}
 use Rattle.language.specs.Reading as meaning
 use Rattle.grammar.specs.Meaning.{Spot, stageIs, actOf, actBytes}
-use Rattle.grammar.specs.Ready.{isTop, Ready}
+use Rattle.grammar.specs.Ready.{isTop, StageReady}
 use Rattle.grammar.specs.declared.Act.{Act}
 use Rattle.lexer.specs.declared.Lexer.{Lexer}
 use Rattle.lexer.specs.declared.Lexed.{Lexed}
@@ -20,8 +20,8 @@ use Rattle.lexer.specs.declared.Token.{Token}
 use Rattle.lexer.specs.declared.Token.the-variants as tokens
 use Rattle.lexer.specs.declared.Found.{Found}
 use Rattle.lexer.specs.declared.Found.the-variants as founds
-use Rattle.reader.specs.Draft.{Within, openTable, closedTable, depth, InHand}
-use Rattle.reader.specs.State.{Bounded, Counts, Pending, Acts, Always, MentionKept, ifRoomAt}
+use Rattle.reader.specs.Draft.{WithinSizes, openTable, closedTable, depth, InHand}
+use Rattle.reader.specs.State.{Bounded, Counts, Pending, Acts, Always, MentionKept, ifRoomAt, scratchLength}
 use Rattle.lexer.specs.Numbers.{amountFrom, amountOf}
 use Rattle.lexer.specs.Lexing.{Means, Finds, tokenBytes, Scanned, Finished}
 use Rattle.reader.specs.Ending.{Ends}
@@ -40,9 +40,9 @@ pub record Follows (s : Stage) (d : Draft) (c : Reader) (t pend : List ℕ) : Ty
   pub stage : stageIs (c .stage) ≡ s
   pub bounded : Bounded c
   pub counts : Counts d c
-  pub within : Within d
+  pub within : WithinSizes d
   pub pending : Pending (d .mentions) pend
-  pub ready : Ready s d
+  pub ready : StageReady s d
   pub hand : InHand (depth s) d
   pub table : t ≡ standing (isTop s) d
 
@@ -59,8 +59,8 @@ pub record Reached (c : Reader) (t pend : List ℕ) : Type 0 where
 -- What is lent: a text that is not too long, a table, and room for 2,048 mentions and their blocks.
 pub record Lent (text t pend found : List ℕ) : Type 0 where
   pub size : length text ≤ 65536
-  pub table : length t ≡ 555153
-  pub pending : length pend ≡ 141312
+  pub table : length t ≡ tableLength
+  pub pending : length pend ≡ scratchLength
   pub blocks : length found ≡ 2048
 
 -- A token at p that the text holds.
@@ -72,7 +72,7 @@ pub record Placed (text : List ℕ) (p : ℕ) (x : Token) : Type 0 where
 abbrev pub Takes : (text : List ℕ) (p : ℕ) (x : Token) (c : Reader) (t pend : List ℕ) (r : Taken) (t′ pend′ : List ℕ) → Type 0
 Takes text p x c t pend r t′ pend′ =
     (parse : Parse) → Reads t pend parse (taken.Reading c) → (m : Tokenᴸ) → Means text p x m
-    → Reads t′ pend′ (meaning.take parse (Foundᴸ.token p m)) r
+    → Reads t′ pend′ (meaning.takeToken parse (Foundᴸ.token p m)) r
 
 -- What the lexer found in the text, if anything, stands for this.
 abbrev pub PlacedAt : List ℕ → Found → Type 0
@@ -87,13 +87,13 @@ pub record FoundIn (text : List ℕ) (f : Found) : Type 0 where
 
 abbrev pub TakesFound : (text : List ℕ) (f : Found) (c : Reader) (t pend : List ℕ) (r : Taken) (t′ pend′ : List ℕ) → Type 0
 TakesFound text f c t pend r t′ pend′ =
-    (parse : Parse) → Reads t pend parse (taken.Reading c) → (fs : List Foundᴸ) → Finds text f fs → Reads t′ pend′ (foldl meaning.take parse fs) r
+    (parse : Parse) → Reads t pend parse (taken.Reading c) → (fs : List Foundᴸ) → Finds text f fs → Reads t′ pend′ (foldl meaning.takeToken parse fs) r
 
 -- Two things found.
 abbrev pub TakesBoth : (text : List ℕ) (f g : Found) (c : Reader) (t pend : List ℕ) (r : Taken) (t′ pend′ : List ℕ) → Type 0
 TakesBoth text f g c t pend r t′ pend′ =
     (parse : Parse) → Reads t pend parse (taken.Reading c) → (fs gs : List Foundᴸ) → Finds text f fs → Finds text g gs
-    → Reads t′ pend′ (foldl meaning.take parse (fs ++ gs)) r
+    → Reads t′ pend′ (foldl meaning.takeToken parse (fs ++ gs)) r
 
 -- What a whole text comes to: the definition's answer, or the table of its program.
 pub data Told (t : List ℕ) : Reading → Taken → Type 0 where
@@ -147,17 +147,17 @@ pub record Enabled (text t pend found : List ℕ) (p : ℕ) (c : Reader) (a : Ac
   pub room : T (wantsFunction a) → c .functions < 16
 
 -- Nothing lent is changed, and this is the answer.
-abbrev pub Stays : (t pend : List ℕ) (r : Taken) (t′ pend′ : List ℕ) → Taken → Type 0
-Stays t pend r t′ pend′ x = (r ≡ x) × (t′ ≡ t) × (pend′ ≡ pend)
+abbrev pub LeavesLent : (t pend : List ℕ) (r : Taken) (t′ pend′ : List ℕ) → Taken → Type 0
+LeavesLent t pend r t′ pend′ x = (r ≡ x) × (t′ ≡ t) × (pend′ ≡ pend)
 
 -- What each act does in code.
 abbrev pub Performs : (text : List ℕ) (p : ℕ) (c : Reader) (t pend : List ℕ) (r : Taken) (t′ pend′ : List ℕ) → Act → Type 0
-Performs text p c t pend r t′ pend′ Act.Wrong = Stays t pend r t′ pend′ (taken.Refused 3 p)
-Performs text p c t pend r t′ pend′ Act.Pass = Stays t pend r t′ pend′ (taken.Reading c)
-Performs text p c t pend r t′ pend′ Act.BeginFunction = Stays t pend r t′ pend′ (ifRoomAt (c .functions) 16 p c)
+Performs text p c t pend r t′ pend′ Act.Wrong = LeavesLent t pend r t′ pend′ (taken.Refused 3 p)
+Performs text p c t pend r t′ pend′ Act.Pass = LeavesLent t pend r t′ pend′ (taken.Reading c)
+Performs text p c t pend r t′ pend′ Act.BeginFunction = LeavesLent t pend r t′ pend′ (ifRoomAt (c .functions) 16 p c)
 Performs text p c t pend r t′ pend′ Act.MarkSsa = Acts Always markSsa c t r t′ × (pend′ ≡ pend)
-Performs text p c t pend r t′ pend′ Act.BeginRegister = Stays t pend r t′ pend′ (ifRoomAt (c .registers) 256 p c)
-Performs text p c t pend r t′ pend′ Act.BeginBlock = Stays t pend r t′ pend′ (ifRoomAt (c .blocks) 64 p c)
+Performs text p c t pend r t′ pend′ Act.BeginRegister = LeavesLent t pend r t′ pend′ (ifRoomAt (c .registers) 256 p c)
+Performs text p c t pend r t′ pend′ Act.BeginBlock = LeavesLent t pend r t′ pend′ (ifRoomAt (c .blocks) 64 p c)
 Performs text p c t pend r t′ pend′ (Act.SetResult k) = Acts Always (setResult k) c t r t′ × (pend′ ≡ pend)
 Performs text p c t pend r t′ pend′ (Act.NameFunction n) =
     Acts (λ d. d .function .name ≡ []) (nameFunction (take n (drop p text)) p) c t r t′ × (pend′ ≡ pend)

@@ -1,6 +1,6 @@
 -- What the reader's numbers stand for: a draft, whose cells stand in the table. Assumes nothing.
 use mathlib.Core.Path.{_≡_}
-use mathlib.Core.Bool.{Bool, true, false, cond}
+use mathlib.Core.Bool.{cond}
 use mathlib.Core.List.{List, [], _∷_, _++_}
 use Prim.Native.Nat.{ℕ, _+_, _-_, _*_, _≤_, _<_, min}
 use lib.Dec.{ltb}
@@ -8,10 +8,10 @@ use lib.ListN.{length, getD}
 use Rattle.laws.specs.Lists.{gather}
 use Rattle.language.specs.Programs.{entryCount}
 use Rattle.language.specs.Instructions.{Operand, formOf, hasTarget, sourceCount, operandOf}
-use Rattle.language.specs.Table.{nameAt, four, eightBytes}
-use Rattle.language.specs.Reading.{Draft, Mention, Outcome, openFunction}
+use Rattle.language.specs.Table.{nameAt, four, eightBytes, nameLength}
+use Rattle.language.specs.Reading.{Draft, Mention, ActOutcome, openFunction, maxMentions}
 use Rattle.grammar.specs.Meaning.{stageFrom}
-use Rattle.reader.specs.Draft.{openRows, openTable, Within}
+use Rattle.reader.specs.Draft.{openRows, openTable, WithinSizes}
 use Rattle.reader.specs.declared.state.Reader.{Reader}
 use Rattle.reader.specs.declared.state.Taken.{Taken}
 use Rattle.reader.specs.declared.state.Taken.the-variants as taken
@@ -59,32 +59,38 @@ pub record Counts (d : Draft) (s : Reader) : Type 0 where
 -- The state and the table t stand for the draft d, a function being in hand.
 pub record Holds (d : Draft) (s : Reader) (t : List ℕ) : Type 0 where
   pub counts : Counts d s
-  pub within : Within d
+  pub within : WithinSizes d
   pub table : t ≡ openTable d
 
--- The lent scratch holds the mentions: 69 cells each, the name's length and bytes, and from cell 65 on the place. No name reaches into
+-- The lent scratch holds the mentions, each its name's length and bytes and behind them, in four cells, its place. No name reaches into
 -- the cells behind it.
+abbrev pub mentionLength : ℕ
+mentionLength = nameLength + 4
+
+abbrev pub scratchLength : ℕ
+scratchLength = maxMentions * mentionLength
+
 abbrev pub Pending : List Mention → List ℕ → Type 0
 Pending ms pend =
     (k : ℕ) → k < length ms
-    → (nameAt pend (69 * k) ≡ getD ms k (record { name = []; place = 0 }) .name)
-    × (four pend (69 * k + 65) ≡ getD ms k (record { name = []; place = 0 }) .place)
-    × (getD pend (69 * k) 0 ≤ 64)
+    → (nameAt pend (mentionLength * k) ≡ getD ms k (record { name = []; place = 0 }) .name)
+    × (four pend (mentionLength * k + nameLength) ≡ getD ms k (record { name = []; place = 0 }) .place)
+    × (getD pend (mentionLength * k) 0 ≤ 64)
 
 -- What an act comes to: the answer of the definition, or a state and table that stand for the definition's draft.
-pub data Comes (t : List ℕ) : Outcome → Taken → Type 0 where
-  refuses : (n p : ℕ) → Comes t (Outcome.refuse n p) (taken.Refused n p)
-  proceeds : (d : Draft) (s : Reader) → Holds d s t → Comes t (Outcome.proceed d) (taken.Reading s)
+pub data Comes (t : List ℕ) : ActOutcome → Taken → Type 0 where
+  refuses : (n p : ℕ) → Comes t (ActOutcome.refuse n p) (taken.Refused n p)
+  proceeds : (d : Draft) (s : Reader) → Holds d s t → Comes t (ActOutcome.proceed d) (taken.Reading s)
 
 -- The state after an act keeps the bounds and the stage.
-abbrev pub Kept : Reader → Taken → Type 0
-Kept s (taken.Refused n p) = Unit {0}
-Kept s (taken.Reading s′) = Bounded s′ × (s′ .stage ≡ s .stage)
+abbrev pub KeepsBounds : Reader → Taken → Type 0
+KeepsBounds s (taken.Refused n p) = Unit {0}
+KeepsBounds s (taken.Reading s′) = Bounded s′ × (s′ .stage ≡ s .stage)
 
 -- An act in code, from the state s and the table t to r and t′, does what the definition's act does to every draft that s and t stand for
 -- and that meets the act's condition.
-pub record Acts (Fit : Draft → Type 0) (act : Draft → Outcome) (s : Reader) (t : List ℕ) (r : Taken) (t′ : List ℕ) : Type 0 where
-  pub kept : Kept s r
+pub record Acts (Fit : Draft → Type 0) (act : Draft → ActOutcome) (s : Reader) (t : List ℕ) (r : Taken) (t′ : List ℕ) : Type 0 where
+  pub kept : KeepsBounds s r
   pub size : length t′ ≡ length t
   pub meaning : (d : Draft) → Holds d s t → Fit d → Comes t′ (act d) r
 

@@ -1,6 +1,17 @@
 // Declarations: functions, registers, blocks. Each tests 5, then 6, and puts the name down in the table.
 use crate::state::Reader;
 use crate::state::Taken;
+use table::BLOCK_LENGTH;
+use table::BLOCK_NAMES_OFFSET;
+use table::BLOCKS_OFFSET;
+use table::FUNCTION_LENGTH;
+use table::FUNCTION_NAMES_OFFSET;
+use table::MAX_BLOCKS;
+use table::MAX_FUNCTIONS;
+use table::MAX_REGISTERS;
+use table::NAME_OFFSET;
+use table::REGISTER_LENGTH;
+use table::REGISTER_NAMES_OFFSET;
 use table::find_name;
 use table::put_name;
 use table::put_register;
@@ -11,6 +22,7 @@ ghost use Prim.Native.Nat.{ℕ, _<_, _≤_};
 ghost use lib.ListN.{length};
 ghost use Rattle.language.specs.Programs.{noBlock};
 ghost use Rattle.language.specs.Reading.{markSsa, setResult, nameFunction, nameRegister, nameBlock, endBlock};
+ghost use Rattle.language.specs.Table.{tableLength};
 ghost use Rattle.reader.specs.State.{Bounded, Acts, Always, ifRoomAt};
 
 impl Reader {
@@ -18,7 +30,7 @@ impl Reader {
     pub fn begin_function(self, p: usize) -> Taken
         ensures { λ r. ⌜ r ≡ ifRoomAt (self .functions) 16 p self ⌝ }
     {
-        if self.functions < 16 {
+        if self.functions < MAX_FUNCTIONS {
             return Taken::Reading(self);
         }
         Taken::Refused(5, p)
@@ -43,17 +55,17 @@ impl Reader {
     // The function's name: 6 if a function has it.
     pub fn name_function(self, t: &mut [u8], name: &[u8], p: usize) -> Taken
         requires { ⌜ Bounded self ⌝ }
-        requires { ⌜ (length (now t) ≡ 555153) × (length (now name) ≤ 64) ⌝ }
+        requires { ⌜ (length (now t) ≡ tableLength) × (length (now name) ≤ 64) ⌝ }
         ensures { λ r. ⌜ Acts (λ d. d .function .name ≡ []) (nameFunction (now (name .entry)) p) self (now (t .entry)) r (now (t .exit)) ⌝ }
     {
         let n = self.functions;
-        if 16 <= n {
+        if MAX_FUNCTIONS <= n {
             return Taken::Refused(5, p);
         }
-        if find_name(t, 9, 34697, n, name) < n {
+        if find_name(t, FUNCTION_NAMES_OFFSET, FUNCTION_LENGTH, n, name) < n {
             return Taken::Refused(6, p);
         }
-        put_name(t, self.base() + 8, name);
+        put_name(t, self.base() + NAME_OFFSET, name);
         Taken::Reading(self)
     }
 
@@ -61,7 +73,7 @@ impl Reader {
     pub fn begin_register(self, p: usize) -> Taken
         ensures { λ r. ⌜ r ≡ ifRoomAt (self .registers) 256 p self ⌝ }
     {
-        if self.registers < 256 {
+        if self.registers < MAX_REGISTERS {
             return Taken::Reading(self);
         }
         Taken::Refused(5, p)
@@ -77,16 +89,16 @@ impl Reader {
         p: usize,
     ) -> Taken
         requires { ⌜ Bounded self ⌝ }
-        requires { ⌜ (self .functions < 16) × (length (now t) ≡ 555153) × (length (now name) ≤ 64) ⌝ }
+        requires { ⌜ (self .functions < 16) × (length (now t) ≡ tableLength) × (length (now name) ≤ 64) ⌝ }
         requires { ⌜ more ≤ 1 ⌝ }
         ensures { λ r. ⌜ Acts Always (nameRegister more kind (now (name .entry)) p) self (now (t .entry)) r (now (t .exit)) ⌝ }
     {
         let n = self.registers;
         let a = self.base();
-        if 256 <= n {
+        if MAX_REGISTERS <= n {
             return Taken::Refused(5, p);
         }
-        if find_name(t, a + 74, 66, n, name) < n {
+        if find_name(t, a + REGISTER_NAMES_OFFSET, REGISTER_LENGTH, n, name) < n {
             return Taken::Refused(6, p);
         }
         put_register(t, a, n, kind, name);
@@ -99,7 +111,7 @@ impl Reader {
     pub fn begin_block(self, p: usize) -> Taken
         ensures { λ r. ⌜ r ≡ ifRoomAt (self .blocks) 64 p self ⌝ }
     {
-        if self.blocks < 64 {
+        if self.blocks < MAX_BLOCKS {
             return Taken::Reading(self);
         }
         Taken::Refused(5, p)
@@ -108,30 +120,30 @@ impl Reader {
     // A block's name, of no bytes for entry: 6 if a block has it.
     pub fn name_block(self, t: &mut [u8], name: &[u8], p: usize) -> Taken
         requires { ⌜ Bounded self ⌝ }
-        requires { ⌜ (self .functions < 16) × (length (now t) ≡ 555153) × (length (now name) ≤ 64) ⌝ }
+        requires { ⌜ (self .functions < 16) × (length (now t) ≡ tableLength) × (length (now name) ≤ 64) ⌝ }
         ensures { λ r. ⌜ Acts (λ d. d .block ≡ noBlock) (nameBlock (now (name .entry)) p) self (now (t .entry)) r (now (t .exit)) ⌝ }
     {
         let n = self.blocks;
         let a = self.base();
-        if 64 <= n {
+        if MAX_BLOCKS <= n {
             return Taken::Refused(5, p);
         }
-        if find_name(t, a + 16973, 69, n, name) < n {
+        if find_name(t, a + BLOCK_NAMES_OFFSET, BLOCK_LENGTH, n, name) < n {
             return Taken::Refused(6, p);
         }
-        put_name(t, a + 16973 + 69 * n, name);
+        put_name(t, a + BLOCK_NAMES_OFFSET + BLOCK_LENGTH * n, name);
         Taken::Reading(self)
     }
 
     // A block's closing brace: its first row and its count of rows are put down.
     pub fn end_block(mut self, t: &mut [u8], p: usize) -> Taken
         requires { ⌜ Bounded self ⌝ }
-        requires { ⌜ (self .functions < 16) × (length (now t) ≡ 555153) ⌝ }
+        requires { ⌜ (self .functions < 16) × (length (now t) ≡ tableLength) ⌝ }
         ensures { λ r. ⌜ Acts Always (endBlock p) self (now (t .entry)) r (now (t .exit)) ⌝ }
     {
         let n = self.blocks;
-        let k = self.base() + 16969 + 69 * n;
-        if 64 <= n {
+        let k = self.base() + BLOCKS_OFFSET + BLOCK_LENGTH * n;
+        if MAX_BLOCKS <= n {
             return Taken::Refused(5, p);
         }
         put_two(t, k, self.first);

@@ -1,14 +1,26 @@
 // A function's closing brace: 8 without an entry block, 7 at the first mention of a block that is not there, else every jump gets its blocks'
 // numbers and the function is closed.
 ghost use mathlib.Core.Path.{_≡_};
-ghost use Prim.Native.Nat.{_+_, _<_, _≤_};
+ghost use Prim.Native.Nat.{_<_, _≤_};
 ghost use lib.ListN.{length, getD, take};
 ghost use lib.Seq.{sets};
-ghost use Rattle.language.specs.Table.{nameAt};
-ghost use Rattle.reader.specs.State.{Bounded};
+ghost use Rattle.language.specs.Table.{nameAt, InTable, tableLength};
+ghost use Rattle.reader.specs.State.{Bounded, scratchLength};
 ghost use Rattle.reader.specs.Ending.{Resolved, patchRow, patchRows, headAt, closedAt, Ends};
+use crate::rows::MENTION;
 use crate::state::Reader;
 use crate::state::Taken;
+use instructions::ops;
+use table::BLOCK_COUNT_OFFSET;
+use table::BLOCK_LENGTH;
+use table::BLOCK_NAMES_OFFSET;
+use table::ENTRY_OFFSET;
+use table::NAME_LENGTH;
+use table::OPERANDS_OFFSET;
+use table::PARAMS_OFFSET;
+use table::REGISTER_COUNT_OFFSET;
+use table::RESULT_OFFSET;
+use table::ROW_LENGTH;
 use table::find_name;
 use table::four_at;
 use table::put_eight;
@@ -40,13 +52,19 @@ fn resolve(
     mentions: usize,
     found: &mut [u8],
 ) -> usize
-    requires { ⌜ (a + 34697 ≤ length (now t)) × (blocks ≤ 64) × (mentions ≤ 2048) ⌝ }
-    requires { ⌜ (length (now pend) ≡ 141312) × (length (now found) ≡ 2048) ⌝ }
+    requires { ⌜ (InTable (now t) a) × (blocks ≤ 64) × (mentions ≤ 2048) ⌝ }
+    requires { ⌜ (length (now pend) ≡ scratchLength) × (length (now found) ≡ 2048) ⌝ }
     ensures { λ r. ⌜ Resolved (now (t .entry)) a blocks (now (pend .entry)) mentions r (now (found .exit)) ⌝ }
 {
     let mut k = 0;
     while k < mentions {
-        let b = find_name(t, a + 16973, 69, blocks, mentioned(pend, 69 * k));
+        let b = find_name(
+            t,
+            a + BLOCK_NAMES_OFFSET,
+            BLOCK_LENGTH,
+            blocks,
+            mentioned(pend, MENTION * k),
+        );
         if blocks <= b {
             return k;
         }
@@ -69,17 +87,17 @@ fn block_of(found: &[u8], mentions: usize, m: usize) -> usize
 
 // A jump or branch gets its blocks' numbers in place of the mentions'.
 fn patch_row(t: &mut [u8], a: usize, r: usize, found: &[u8], mentions: usize)
-    requires { ⌜ (a + 34697 ≤ length (now t)) × (r < 1024) × (mentions ≤ length (now found)) ⌝ }
+    requires { ⌜ (InTable (now t) a) × (r < 1024) × (mentions ≤ length (now found)) ⌝ }
     ensures { λ _. ⌜ now (t .exit) ≡ patchRow (now (t .entry)) a (take mentions (now (found .entry))) r ⌝ }
 {
     let op = row_op(t, a, r);
-    let k = a + 21389 + 12 * r;
-    if op == 32 {
+    let k = a + OPERANDS_OFFSET + ROW_LENGTH * r;
+    if op == ops::JUMP {
         let b = block_of(found, mentions, two_at(t, k));
         put_eight(t, k, b as u64);
         return;
     }
-    if op == 33 {
+    if op == ops::JUMP_COND {
         let b = block_of(found, mentions, two_at(t, k));
         let c = block_of(found, mentions, two_at(t, k + 2));
         put_eight(t, k, (b + 256 * c) as u64);
@@ -88,7 +106,7 @@ fn patch_row(t: &mut [u8], a: usize, r: usize, found: &[u8], mentions: usize)
 
 // All rows of the function at a.
 fn patch(t: &mut [u8], a: usize, rows: usize, found: &[u8], mentions: usize)
-    requires { ⌜ (a + 34697 ≤ length (now t)) × (rows ≤ 1024) × (mentions ≤ length (now found)) ⌝ }
+    requires { ⌜ (InTable (now t) a) × (rows ≤ 1024) × (mentions ≤ length (now found)) ⌝ }
     ensures { λ _. ⌜ now (t .exit) ≡ patchRows (now (t .entry)) a (take mentions (now (found .entry))) rows ⌝ }
 {
     let mut r = 0;
@@ -101,15 +119,15 @@ fn patch(t: &mut [u8], a: usize, rows: usize, found: &[u8], mentions: usize)
 impl Reader {
     // The first eight cells of the function at a.
     fn put_head(self, t: &mut [u8], a: usize, entry: usize)
-        requires { ⌜ (a + 34697 ≤ length (now t)) × (self .blocks < 256) × (entry < 256) ⌝ }
+        requires { ⌜ (InTable (now t) a) × (self .blocks < 256) × (entry < 256) ⌝ }
         ensures { λ _. ⌜ now (t .exit) ≡ sets (now (t .entry)) a (headAt self entry) ⌝ }
     {
         t[a] = self.ssa;
-        t[a + 1] = self.result;
-        put_two(t, a + 2, self.params);
-        put_two(t, a + 4, self.registers);
-        t[a + 6] = self.blocks as u8;
-        t[a + 7] = entry as u8;
+        t[a + RESULT_OFFSET] = self.result;
+        put_two(t, a + PARAMS_OFFSET, self.params);
+        put_two(t, a + REGISTER_COUNT_OFFSET, self.registers);
+        t[a + BLOCK_COUNT_OFFSET] = self.blocks as u8;
+        t[a + ENTRY_OFFSET] = entry as u8;
     }
 
     // The state behind the closing brace: one function more is closed, and the stage is kept.
@@ -126,19 +144,19 @@ impl Reader {
     // The closing brace at p. A function is in hand, its blocks closed.
     pub fn end_function(self, t: &mut [u8], pend: &[u8], found: &mut [u8], p: usize) -> Taken
         requires { ⌜ Bounded self ⌝ }
-        requires { ⌜ (self .functions < 16) × (length (now t) ≡ 555153) × (length (now pend) ≡ 141312) × (length (now found) ≡ 2048) ⌝ }
+        requires { ⌜ (self .functions < 16) × (length (now t) ≡ tableLength) × (length (now pend) ≡ scratchLength) × (length (now found) ≡ 2048) ⌝ }
         ensures { λ r. ⌜ Ends self (now (t .entry)) (now (pend .entry)) p r (now (t .exit)) ⌝ }
     {
         let a = self.base();
         let n = self.blocks;
         let none = &pend[0..0];
-        let entry = find_name(t, a + 16973, 69, n, none);
+        let entry = find_name(t, a + BLOCK_NAMES_OFFSET, BLOCK_LENGTH, n, none);
         if n <= entry {
             return Taken::Refused(8, p);
         }
         let resolved = resolve(t, a, n, pend, self.mentions, found);
         if resolved < self.mentions {
-            return Taken::Refused(7, four_at(pend, 69 * resolved + 65));
+            return Taken::Refused(7, four_at(pend, MENTION * resolved + NAME_LENGTH));
         }
         patch(t, a, self.rows, found, self.mentions);
         self.put_head(t, a, entry);

@@ -8,5 +8,7 @@ mod state;
 mod taking;
 
 pub use reading::read_text;
+pub use rows::MAX_MENTIONS;
+pub use rows::SCRATCH_LENGTH;
 pub use state::Reader;
 pub use state::Taken;

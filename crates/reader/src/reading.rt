@@ -11,6 +11,7 @@ ghost use Prim.Native.Nat.{_≤_};
 ghost use lib.ListN.{length};
 ghost use Rattle.language.specs.Answers.{zeros};
 ghost use Rattle.language.specs.Reading.{read};
+ghost use Rattle.language.specs.Table.{tableLength};
 ghost use Rattle.lexer.specs.Lexing.{classTable};
 ghost use Rattle.reader.specs.Parse.{Lent, Reached, FoundIn, TakesFound, TakesBoth, Nexts, Told};
 
@@ -86,7 +87,7 @@ fn next(l: Lexer, text: &[u8], classes: &[u8; 256]) -> Lexed
 // The text read into a table that is all zero.
 pub fn read_text(text: &[u8], t: &mut [u8], pend: &mut [u8], found: &mut [u8]) -> Taken
     requires { ⌜ Lent (now text) (now t) (now pend) (now found) ⌝ }
-    requires { ⌜ now t ≡ zeros 555153 ⌝ }
+    requires { ⌜ now t ≡ zeros tableLength ⌝ }
     ensures { λ r. ⌜ Told (now (t .exit)) (read (now (text .entry))) r ⌝ }
 {
     let classes = lexer::classes();

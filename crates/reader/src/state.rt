@@ -1,5 +1,6 @@
 // What has been read of the function in hand, in numbers: its cells stand in the table.
 use grammar::Stage;
+use table::function_at;
 ghost use mathlib.Core.Path.{_≡_};
 ghost use Prim.Native.Nat.{_≤_};
 ghost use Rattle.language.specs.Table.{functionAt};
@@ -84,6 +85,6 @@ impl Reader {
         requires { ⌜ self .functions ≤ 16 ⌝ }
         ensures { λ r. ⌜ r ≡ functionAt (self .functions) ⌝ }
     {
-        1 + 34697 * self.functions
+        function_at(self.functions)
     }
 }

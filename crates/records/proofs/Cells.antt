@@ -13,7 +13,7 @@ use Rattle.laws.specs.Sections.{pad, At}
 use Rattle.laws.proofs.Ranges.{map-from}
 use Rattle.laws.proofs.Sections.{at-move, at-self, at-left, at-right, at-pad, length-pad}
 use Rattle.laws.proofs.Storing.{Stored, sets-middle, stored-pad, pad-is, length-each, at-each}
-use Rattle.laws.proofs.Sums.{gather-append}
+use Rattle.laws.proofs.Appending.{gather-append}
 use Rattle.language.specs.Answers.{zeros}
 use Rattle.language.specs.Table.{eight, eightBytes}
 use Rattle.theorems.proofs.TableParts.{eight-back}

@@ -9,13 +9,13 @@ use lib.Dec.{eqb}
 use borrow.Author.Tests.{eqb-true, eqb-false}
 use Rattle.records.specs.declared.Record.{Record}
 use Rattle.records.specs.Records.{best}
-use Rattle.records.specs.Stores.{Found, insert, inserts, lookup, Above, Rising, beside, joined}
+use Rattle.records.specs.Stores.{FoundRecord, insert, inserts, lookup, Above, Rising, beside, joined}
 use Rattle.records.proofs.Storing.{by-order, best-appliance, above-rising, rising-insert, rising-inserts, lookup-here, lookup-past, above-none, bestOf, lookup-same, lookup-other, stores-same}
 
 -- The better of what was found and what comes.
-abbrev pub bestFound : Found → Found → Found
-bestFound x Found.none = x
-bestFound x (Found.found f) = Found.found (bestOf f x)
+abbrev pub bestFound : FoundRecord → FoundRecord → FoundRecord
+bestFound x FoundRecord.none = x
+bestFound x (FoundRecord.found f) = FoundRecord.found (bestOf f x)
 
 -- a look-up after a store went into a store is the better of the two stores' own
 pub lookup-inserts : (a : ℕ) (es fs : List Record) → Rising es → Rising fs → lookup a (inserts fs es) ≡ bestFound (lookup a es) (lookup a fs)
@@ -25,12 +25,12 @@ lookup-inserts a es (f ∷ fs) h k = lookup-inserts a (insert f es) fs (rising-i
   where
     by :
         (b : Bool) → eqb (f .appliance) a ≡ b
-        → bestFound (lookup a (insert f es)) (lookup a fs) ≡ bestFound (lookup a es) (cond b (Found.found f) (lookup a fs))
+        → bestFound (lookup a (insert f es)) (lookup a fs) ≡ bestFound (lookup a es) (cond b (FoundRecord.found f) (lookup a fs))
     by true i =
         let at : f .appliance ≡ a = eqb-true (f .appliance) a i in
-        let none-later : lookup a fs ≡ Found.none = above-none a fs (subst (λ (n : ℕ). Above n fs) at (k .0)) in
-        rw none-later (subst (λ (n : ℕ). lookup n (insert f es) ≡ Found.found (bestOf f (lookup n es))) at (lookup-same f es h))
-    by false i = ap (λ (x : Found). bestFound x (lookup a fs)) (lookup-other a f es (eqb-false (f .appliance) a i))
+        let none-later : lookup a fs ≡ FoundRecord.none = above-none a fs (subst (λ (n : ℕ). Above n fs) at (k .0)) in
+        rw none-later (subst (λ (n : ℕ). lookup n (insert f es) ≡ FoundRecord.found (bestOf f (lookup n es))) at (lookup-same f es h))
+    by false i = ap (λ (x : FoundRecord). bestFound x (lookup a fs)) (lookup-other a f es (eqb-false (f .appliance) a i))
 
 -- ---- one pass
 
@@ -69,7 +69,7 @@ module _ (e : Record) (es : List Record) (next : List Record → List Record) wh
           ∙ sym (ap₂ bestFound (lookup-here a e es at) (above-none a (f ∷ fs) (above-rising a f fs (omega arith) k)))
       first l false i =
           let n = eqb-false (e .appliance) a i in
-          lookup-past a e (next (f ∷ fs)) n ∙ g (f ∷ fs) k ∙ sym (ap (λ (x : Found). bestFound x (lookup a (f ∷ fs))) (lookup-past a e es n))
+          lookup-past a e (next (f ∷ fs)) n ∙ g (f ∷ fs) k ∙ sym (ap (λ (x : FoundRecord). bestFound x (lookup a (f ∷ fs))) (lookup-past a e es n))
 
       both : e .appliance ≡ f .appliance → (b : Bool) → eqb (f .appliance) a ≡ b → lookup a (best f e ∷ next fs) ≡ bestFound (lookup a (e ∷ es)) (lookup a (f ∷ fs))
       both d true i =
@@ -104,9 +104,9 @@ rising-joined (e ∷ es) fs h k =
 lookup-joined : (a : ℕ) (es fs : List Record) → Rising es → Rising fs → lookup a (joined es fs) ≡ bestFound (lookup a es) (lookup a fs)
 lookup-joined a [] fs h k = alone (lookup a fs)
   where
-    alone : (x : Found) → x ≡ bestFound Found.none x
-    alone Found.none = refl
-    alone (Found.found f) = refl
+    alone : (x : FoundRecord) → x ≡ bestFound FoundRecord.none x
+    alone FoundRecord.none = refl
+    alone (FoundRecord.found f) = refl
 lookup-joined a (e ∷ es) fs h k = lookup-beside e es (joined es) a h (λ gs i. lookup-joined a es gs (h .1) i) fs k
 
 -- two stores in one pass are the one's records into the other, one after the other

@@ -5,7 +5,7 @@ use mathlib.Core.Bool.{Bool, true, false, cond, _&&_, false≢true}
 use mathlib.Core.List.{List, [], _∷_}
 use mathlib.Core.Logic.{_⊎_, inl, inr}
 use mathlib.Core.Path.{_≡_, refl, sym, _∙_, ap, subst}
-use Prim.Native.Nat.{ℕ, suc, _-_, _<_, _^_}
+use Prim.Native.Nat.{ℕ, _-_, _<_, _^_}
 use native.Mathlib.Omega.{arith}
 use lib.Dec.{eqb, ltb, leb}
 use lib.IntN.{ℤ, pos, negsuc}
@@ -13,8 +13,9 @@ use lib.Signed.{leZ}
 use borrow.Author.Tests.{eq-eqb, ne-eqb, eqb-true, eqb-false, lt-ltb, ltb-true, ltb-false, le-leb, leb-true, leb-false}
 use Rattle.language.specs.Instructions.{int64, width, signed}
 use Rattle.language.specs.Arithmetic.{meaning}
+use Rattle.language.proofs.Widths.{meaning-is}
 use Rattle.records.specs.declared.Record.{Record}
-use Rattle.records.specs.Records.{Sized, greater, lower, meant, larger, wins, best}
+use Rattle.records.specs.Records.{Sized, compared, greater, lower, meant, larger, wins, best}
 
 -- ---- whole numbers
 
@@ -50,12 +51,6 @@ leZ-same (pos m) (pos n) p q = ap pos (leb-same m n p q)
 leZ-same (pos m) (negsuc n) p q = absurd (false≢true p)
 leZ-same (negsuc m) (pos n) p q = absurd (false≢true q)
 leZ-same (negsuc m) (negsuc n) p q = ap negsuc (leb-same m n q p)
-
--- what a number of a type means: a negative one is counted down from -1
-pub meaning-is :
-    (t x : ℕ) → x < 2 ^ width t → meaning t x ≡ cond (signed t && leb (2 ^ (width t - 1)) x) (negsuc (2 ^ width t - 1 - x)) (pos x)
-unfolding meaning
-meaning-is t x l = let e : 2 ^ width t - x ≡ suc (2 ^ width t - 1 - x) = omega arith in rw e
 
 pub int64-means : (x : ℕ) → x < 2 ^ 64 → meaning int64 x ≡ cond (leb (2 ^ 63) x) (negsuc (2 ^ 64 - 1 - x)) (pos x)
 unfolding width signed
@@ -100,7 +95,7 @@ record Strict (ahead : ℕ → ℕ → Bool) : Type 0 where
   onward : (l m n : ℕ) → ahead l m ≡ true → ahead m n ≡ true → ahead l n ≡ true
   one-way : (m n : ℕ) → ahead m n ≡ true → ahead n m ≡ true → ⊥
 
-less-strict : Strict ltb
+less-strict : Strict lower
 less-strict =
     record {
       either = λ m n d. by m n d (ltb m n) refl;
@@ -112,7 +107,7 @@ less-strict =
     by m n d true i = inl i
     by m n d false i = inr (let l = ltb-false m n i in lt-ltb n m (omega arith))
 
-more-strict : Strict (λ m n. ltb n m)
+more-strict : Strict greater
 more-strict =
     record {
       either = λ m n d. less-strict .either n m (λ e. d (sym e));
@@ -120,17 +115,14 @@ more-strict =
       one-way = λ m n p q. less-strict .one-way n m p q;
     }
 
--- Two numbers of two records are compared, and where they are the same what comes next decides: `greater` and `lower` are such.
-abbrev chain : (ℕ → ℕ → Bool) → (Record → ℕ) → (Record → Record → Bool) → Record → Record → Bool
-chain ahead k next x y = cond (eqb (k x) (k y)) (next x y) (ahead (k x) (k y))
-
 -- The numbers differ in favour of x, or they are the same and what comes next decides.
 abbrev Ahead : (ℕ → ℕ → Bool) → (Record → ℕ) → (Record → Record → Bool) → Record → Record → Type 0
 Ahead ahead k next x y = (ahead (k x) (k y) ≡ true) ⊎ ((k x ≡ k y) × (next x y ≡ true))
 
 module _ (ahead : ℕ → ℕ → Bool) (s : Strict ahead) (k : Record → ℕ) (next : Record → Record → Bool) where
-  chain-is : (x y : Record) → chain ahead k next x y ≡ true → Ahead ahead k next x y
-  chain-is x y e = by (eqb (k x) (k y)) refl e
+  compared-is : (x y : Record) → compared ahead k next x y ≡ true → Ahead ahead k next x y
+  unfolding compared
+  compared-is x y e = by (eqb (k x) (k y)) refl e
     where
       by : (b : Bool) → eqb (k x) (k y) ≡ b → cond b (next x y) (ahead (k x) (k y)) ≡ true → Ahead ahead k next x y
       by true i e = inr (eqb-true (k x) (k y) i, e)
@@ -139,23 +131,24 @@ module _ (ahead : ℕ → ℕ → Bool) (s : Strict ahead) (k : Record → ℕ) 
   ahead-apart : (m n : ℕ) → ahead m n ≡ true → m ≡ n → ⊥
   ahead-apart m n a e = s .one-way m n a (subst (λ (i : ℕ). ahead n i ≡ true) (sym e) (subst (λ (i : ℕ). ahead i n ≡ true) e a))
 
-  is-chain : (x y : Record) → Ahead ahead k next x y → chain ahead k next x y ≡ true
-  is-chain x y (inl h) = rw (ne-eqb (k x) (k y) (ahead-apart (k x) (k y) h)) h
-  is-chain x y (inr h) = rw (eq-eqb (k x) (k y) (h .0)) (h .1)
+  is-compared : (x y : Record) → Ahead ahead k next x y → compared ahead k next x y ≡ true
+  unfolding compared
+  is-compared x y (inl h) = rw (ne-eqb (k x) (k y) (ahead-apart (k x) (k y) h)) h
+  is-compared x y (inr h) = rw (eq-eqb (k x) (k y) (h .0)) (h .1)
 
   module _ {ks : List (Record → ℕ)} (o : Ordered next ks) where
-    chain-either : (x y : Record) → (chain ahead k next x y ≡ true) ⊎ (chain ahead k next y x ≡ true)
-    chain-either x y = by (eqb (k x) (k y)) refl (o .either x y)
+    compared-either : (x y : Record) → (compared ahead k next x y ≡ true) ⊎ (compared ahead k next y x ≡ true)
+    compared-either x y = by (eqb (k x) (k y)) refl (o .either x y)
       where
-        apart : (ahead (k x) (k y) ≡ true) ⊎ (ahead (k y) (k x) ≡ true) → (chain ahead k next x y ≡ true) ⊎ (chain ahead k next y x ≡ true)
-        apart (inl a) = inl (is-chain x y (inl a))
-        apart (inr a) = inr (is-chain y x (inl a))
+        apart : (ahead (k x) (k y) ≡ true) ⊎ (ahead (k y) (k x) ≡ true) → (compared ahead k next x y ≡ true) ⊎ (compared ahead k next y x ≡ true)
+        apart (inl a) = inl (is-compared x y (inl a))
+        apart (inr a) = inr (is-compared y x (inl a))
 
         by :
             (b : Bool) → eqb (k x) (k y) ≡ b → (next x y ≡ true) ⊎ (next y x ≡ true)
-            → (chain ahead k next x y ≡ true) ⊎ (chain ahead k next y x ≡ true)
-        by true i (inl e) = inl (is-chain x y (inr (eqb-true (k x) (k y) i, e)))
-        by true i (inr e) = inr (is-chain y x (inr (sym (eqb-true (k x) (k y) i), e)))
+            → (compared ahead k next x y ≡ true) ⊎ (compared ahead k next y x ≡ true)
+        by true i (inl e) = inl (is-compared x y (inr (eqb-true (k x) (k y) i, e)))
+        by true i (inr e) = inr (is-compared y x (inr (sym (eqb-true (k x) (k y) i), e)))
         by false i e = apart (s .either (k x) (k y) (eqb-false (k x) (k y) i))
 
     ahead-onward : (x y z : Record) → Ahead ahead k next x y → Ahead ahead k next y z → Ahead ahead k next x z
@@ -170,28 +163,19 @@ module _ (ahead : ℕ → ℕ → Bool) (s : Strict ahead) (k : Record → ℕ) 
     ahead-same x y h i (inr p) (inl q) = absurd (ahead-apart (k y) (k x) q (sym (p .0)))
     ahead-same x y h i (inr p) (inr q) = (p .0, o .same x y h i (p .1) (q .1))
 
-    chain-ordered : Ordered (chain ahead k next) (k ∷ ks)
-    chain-ordered =
+    compared-ordered : Ordered (compared ahead k next) (k ∷ ks)
+    compared-ordered =
         record {
-          either = chain-either;
-          onward = λ x y z p q. is-chain x z (ahead-onward x y z (chain-is x y p) (chain-is y z q));
-          same = λ x y h i p q. ahead-same x y h i (chain-is x y p) (chain-is y x q);
+          either = compared-either;
+          onward = λ x y z p q. is-compared x z (ahead-onward x y z (compared-is x y p) (compared-is y z q));
+          same = λ x y h i p q. ahead-same x y h i (compared-is x y p) (compared-is y x q);
         }
-
-module _ (k : Record → ℕ) (next : Record → Record → Bool) {ks : List (Record → ℕ)} (o : Ordered next ks) where
-  greater-ordered : Ordered (greater k next) (k ∷ ks)
-  unfolding greater
-  greater-ordered = chain-ordered (λ m n. ltb n m) more-strict k next o
-
-  lower-ordered : Ordered (lower k next) (k ∷ ks)
-  unfolding lower
-  lower-ordered = chain-ordered ltb less-strict k next o
 
 -- ---- which of two wins
 
 wins-ordered : Ordered wins ((λ r. r .time) ∷ ((λ r. r .fail) ∷ ((λ r. r .tablet) ∷ ((λ r. r .reading) ∷ []))))
 unfolding wins
-wins-ordered = search (greater-ordered, lower-ordered, larger-ordered)
+wins-ordered = search (compared-ordered, more-strict, less-strict, larger-ordered)
 
 pub wins-either : (x y : Record) → (wins x y ≡ true) ⊎ (wins y x ≡ true)
 wins-either = wins-ordered .either

@@ -7,12 +7,12 @@ use native.Mathlib.Nat.{not-suc-le-zero, le-of-suc-le-suc, zero-lt-suc}
 use native.Mathlib.Omega.{arith}
 use lib.Dec.{leb}
 use lib.ListN.{length, getD, take, drop}
-use borrow.Author.Tests.{eq-eqb, ne-eqb, lt-ltb, le-ltb, le-leb, lt-leb, leb-true, leb-false}
+use borrow.Author.Tests.{eq-eqb, ne-eqb, lt-ltb, le-ltb, leb-true, leb-false}
 use Rattle.laws.specs.Lists.{position}
 use Rattle.laws.proofs.Positions.{position-le, position-hit, position-before}
 use Rattle.records.specs.declared.Record.{Record}
 use Rattle.records.specs.Records.{best}
-use Rattle.records.specs.Stores.{Found, insert, lookup, Above, Rising}
+use Rattle.records.specs.Stores.{FoundRecord, insert, lookup, Above, Rising}
 use Rattle.records.proofs.Storing.{above-none, above-rising, lookup-here, lookup-past}
 
 -- ---- rising, by places
@@ -69,12 +69,6 @@ past h =
       least = λ l. h .least (suc-le-suc l);
     }
 
--- there is one such place alone
-pub is-place : (a : ℕ) (es : List Record) (d : Record) (p : ℕ) → Placed a es d p → p ≡ placeOf a es
-is-place a [] d p h = omega (arith, h .within)
-is-place a (e ∷ es) d zero h = rw (le-leb a (e .appliance) (h .least (zero-lt-suc (length es))))
-is-place a (e ∷ es) d (suc p) h = rw (lt-leb a (e .appliance) (h .before zero (zero-lt-suc p))) (ap suc (is-place a es d p (past h)))
-
 -- ---- inserting and looking up there
 
 -- No record at place p is of appliance a.
@@ -106,7 +100,7 @@ insert-known r (e ∷ es) d (suc p) h l x =
     (ap (λ (t : List Record). e ∷ t) (insert-known r es d p (past h) (le-of-suc-le-suc l) x))
 
 -- a new appliance is not found
-pub lookup-new : (a : ℕ) (es : List Record) (d : Record) (p : ℕ) → Rising es → Placed a es d p → Absent a es d p → lookup a es ≡ Found.none
+pub lookup-new : (a : ℕ) (es : List Record) (d : Record) (p : ℕ) → Rising es → Placed a es d p → Absent a es d p → lookup a es ≡ FoundRecord.none
 lookup-new a [] d p k h n = refl
 lookup-new a (e ∷ es) d zero k h n =
     let l = h .least (zero-lt-suc (length es)) in
@@ -118,7 +112,7 @@ lookup-new a (e ∷ es) d (suc p) k h n =
 
 -- one that is there is found at its place
 pub lookup-known : (a : ℕ) (es : List Record) (d : Record) (p : ℕ) → Placed a es d p → p < length es → getD es p d .appliance ≡ a
-    → lookup a es ≡ Found.found (getD es p d)
+    → lookup a es ≡ FoundRecord.found (getD es p d)
 lookup-known a [] d p h l x = absurd (not-suc-le-zero l)
 lookup-known a (e ∷ es) d zero h l x = lookup-here a e es x
 lookup-known a (e ∷ es) d (suc p) h l x =

@@ -6,13 +6,13 @@ use Prim.Native.Nat.{ℕ, _-_, _^_}
 use Rattle.language.specs.Instructions.{width, signed}
 use Rattle.language.specs.Arithmetic.{meaning}
 use Rattle.records.specs.declared.Record.{Record}
-use Rattle.records.specs.Records.{greater, lower, meant, larger, wins, best}
-use Rattle.records.specs.Stores.{Found, inserts, lookup, joined}
+use Rattle.records.specs.Records.{compared, meant, larger, wins, best}
+use Rattle.records.specs.Stores.{FoundRecord, inserts, lookup, joined}
 use Rattle.records.specs.Trees.{Tree, storeOf}
 
 -- `unfolding merging` opens every definition of the merge.
 unfoldable merging : Unit {0}
-unfolding width signed meaning greater lower meant larger wins best inserts storeOf
+unfolding width signed meaning compared meant larger wins best inserts storeOf
 merging = tt
 
 abbrev pub one : Record → Tree
@@ -102,8 +102,8 @@ unfolding merging
 in-one-pass = refl
 
 -- an appliance is looked up, or there is none of it
-pub looked-up : lookup 7 (tested 4 9 ∷ (tested 7 1 ∷ [])) ≡ Found.found (tested 7 1)
+pub looked-up : lookup 7 (tested 4 9 ∷ (tested 7 1 ∷ [])) ≡ FoundRecord.found (tested 7 1)
 looked-up = refl
 
-pub not-there : lookup 5 (tested 4 9 ∷ (tested 7 1 ∷ [])) ≡ Found.none
+pub not-there : lookup 5 (tested 4 9 ∷ (tested 7 1 ∷ [])) ≡ FoundRecord.none
 not-there = refl

@@ -10,7 +10,7 @@ use lib.ListN.{length}
 use borrow.Author.Tests.{eq-eqb, ne-eqb, eqb-true, eqb-false, ltb-true, ltb-false}
 use Rattle.records.specs.declared.Record.{Record}
 use Rattle.records.specs.Records.{Sized, best}
-use Rattle.records.specs.Stores.{Found, insert, inserts, lookup, Above, Rising, AllSized}
+use Rattle.records.specs.Stores.{FoundRecord, insert, inserts, lookup, Above, Rising, AllSized}
 use Rattle.records.proofs.Order.{best-is}
 
 -- Two numbers compared as a store compares appliances: what holds in each of the three cases holds.
@@ -70,18 +70,12 @@ sized-inserts (r ∷ rs) es h k = sized-inserts rs (insert r es) (h .1) (sized-i
 
 -- ---- lengths
 
--- no record is lost, and one comes at most
+-- no record is lost
 pub insert-longer : (r : Record) (es : List Record) → length es ≤ length (insert r es)
 insert-longer r [] = omega arith
 insert-longer r (e ∷ es) =
     let k = insert-longer r es in
     by-order (λ (fs : List Record). suc (length es) ≤ length fs) (r .appliance) (e .appliance) (λ l. omega arith) (λ d. omega arith) (λ l. omega arith)
-
-pub insert-shorter : (r : Record) (es : List Record) → length (insert r es) ≤ suc (length es)
-insert-shorter r [] = omega arith
-insert-shorter r (e ∷ es) =
-    let k = insert-shorter r es in
-    by-order (λ (fs : List Record). length fs ≤ suc (suc (length es))) (r .appliance) (e .appliance) (λ l. omega arith) (λ d. omega arith) (λ l. omega arith)
 
 pub inserts-longer : (rs es : List Record) → length es ≤ length (inserts rs es)
 unfolding inserts
@@ -90,33 +84,33 @@ inserts-longer (r ∷ rs) es = omega (arith, inserts-longer rs (insert r es), in
 
 -- ---- looking up
 
-pub lookup-here : (a : ℕ) (e : Record) (es : List Record) → e .appliance ≡ a → lookup a (e ∷ es) ≡ Found.found e
+pub lookup-here : (a : ℕ) (e : Record) (es : List Record) → e .appliance ≡ a → lookup a (e ∷ es) ≡ FoundRecord.found e
 lookup-here a e es d = rw (eq-eqb (e .appliance) a d)
 
 pub lookup-past : (a : ℕ) (e : Record) (es : List Record) → (e .appliance ≡ a → ⊥) → lookup a (e ∷ es) ≡ lookup a es
 lookup-past a e es d = rw (ne-eqb (e .appliance) a d)
 
-pub above-none : (a : ℕ) (es : List Record) → Above a es → lookup a es ≡ Found.none
+pub above-none : (a : ℕ) (es : List Record) → Above a es → lookup a es ≡ FoundRecord.none
 above-none a [] h = refl
 above-none a (e ∷ es) h = lookup-past a e es (λ d. absurd (omega (arith, h .0))) ∙ above-none a es (h .1)
 
 -- The better of a newcomer and what was found of its appliance.
-abbrev pub bestOf : Record → Found → Record
-bestOf r Found.none = r
-bestOf r (Found.found e) = best r e
+abbrev pub bestOf : Record → FoundRecord → Record
+bestOf r FoundRecord.none = r
+bestOf r (FoundRecord.found e) = best r e
 
 -- what an inserted record's appliance is looked up as
-pub lookup-same : (r : Record) (es : List Record) → Rising es → lookup (r .appliance) (insert r es) ≡ Found.found (bestOf r (lookup (r .appliance) es))
+pub lookup-same : (r : Record) (es : List Record) → Rising es → lookup (r .appliance) (insert r es) ≡ FoundRecord.found (bestOf r (lookup (r .appliance) es))
 lookup-same r [] h = lookup-here (r .appliance) r [] refl
 lookup-same r (e ∷ es) h =
-    by-order (λ (fs : List Record). lookup (r .appliance) fs ≡ Found.found (bestOf r (lookup (r .appliance) (e ∷ es)))) (r .appliance) (e .appliance)
+    by-order (λ (fs : List Record). lookup (r .appliance) fs ≡ FoundRecord.found (bestOf r (lookup (r .appliance) (e ∷ es)))) (r .appliance) (e .appliance)
     (λ l. lookup-here (r .appliance) r (e ∷ es) refl ∙ sym (ap found-best (above-none (r .appliance) (e ∷ es) (above-rising (r .appliance) e es l h))))
     (λ d. lookup-here (r .appliance) (best r e) es (best-appliance r e d ∙ sym d) ∙ sym (ap found-best (lookup-here (r .appliance) e es (sym d))))
     (λ l. lookup-past (r .appliance) e (insert r es) (λ d. absurd (omega arith)) ∙ lookup-same r es (h .1)
     ∙ sym (ap found-best (lookup-past (r .appliance) e es (λ d. absurd (omega arith)))))
   where
-    found-best : Found → Found
-    found-best x = Found.found (bestOf r x)
+    found-best : FoundRecord → FoundRecord
+    found-best x = FoundRecord.found (bestOf r x)
 
 -- another appliance is looked up as before
 pub lookup-other : (a : ℕ) (r : Record) (es : List Record) → (r .appliance ≡ a → ⊥) → lookup a (insert r es) ≡ lookup a es
@@ -124,16 +118,16 @@ lookup-other a r [] n = lookup-past a r [] n
 lookup-other a r (e ∷ es) n =
     by-order (λ (fs : List Record). lookup a fs ≡ lookup a (e ∷ es)) (r .appliance) (e .appliance) (λ l. lookup-past a r (e ∷ es) n)
     (λ d. lookup-past a (best r e) es (λ x. n (d ∙ sym (best-appliance r e d) ∙ x)) ∙ sym (lookup-past a e es (λ x. n (d ∙ x))))
-    (λ l. ap (λ (f : Found). cond (eqb (e .appliance) a) (Found.found e) f) (lookup-other a r es n))
+    (λ l. ap (λ (f : FoundRecord). cond (eqb (e .appliance) a) (FoundRecord.found e) f) (lookup-other a r es n))
 
 -- ---- a store is its look-ups
 
-not-found : {x : Record} → Found.none ≡ Found.found x → ⊥
-not-found e = let z : _≡_ {A = ℕ} 0 1 = cc in omega arith
+pub none-found : {x : Record} → FoundRecord.none ≡ FoundRecord.found x → ⊥
+none-found e = let z : _≡_ {A = ℕ} 0 1 = cc in omega arith
 
 -- the first of one store is no record of another whose records are all above it
 first-apart : (x : Record) (xs ys : List Record) → Above (x .appliance) ys → lookup (x .appliance) (x ∷ xs) ≡ lookup (x .appliance) ys → ⊥
-first-apart x xs ys h e = not-found (sym (above-none (x .appliance) ys h) ∙ sym e ∙ lookup-here (x .appliance) x xs refl)
+first-apart x xs ys h e = none-found (sym (above-none (x .appliance) ys h) ∙ sym e ∙ lookup-here (x .appliance) x xs refl)
 
 pub stores-same : (es fs : List Record) → Rising es → Rising fs → ((a : ℕ) → lookup a es ≡ lookup a fs) → es ≡ fs
 stores-same [] [] h k e = refl
@@ -150,7 +144,7 @@ stores-same (x ∷ xs) (y ∷ ys) h k e = by (ltb (x .appliance) (y .appliance))
         let p = ltb-false (x .appliance) (y .appliance) i in
         let q = ltb-false (y .appliance) (x .appliance) j in
         let d : y .appliance ≡ x .appliance = omega arith in
-        let both : Found.found x ≡ Found.found y = sym (lookup-here (x .appliance) x xs refl) ∙ e (x .appliance) ∙ lookup-here (x .appliance) y ys d in
+        let both : FoundRecord.found x ≡ FoundRecord.found y = sym (lookup-here (x .appliance) x xs refl) ∙ e (x .appliance) ∙ lookup-here (x .appliance) y ys d in
         let head : x ≡ y = cc in
         let tail : xs ≡ ys = f (λ a. later a (eqb (x .appliance) a) refl d) in
         λ i. head i ∷ tail i

@@ -17,7 +17,7 @@ use Rattle.laws.proofs.Keep.{any-keep}
 use Rattle.laws.proofs.Sums.{length-keeps}
 use Rattle.records.specs.declared.Record.{Record}
 use Rattle.records.specs.Records.{wins, best}
-use Rattle.records.specs.Stores.{Found, insert, inserts, lookup, Above, Rising, AllSized}
+use Rattle.records.specs.Stores.{FoundRecord, insert, inserts, lookup, Above, Rising, AllSized}
 use Rattle.records.specs.Trees.{Tree, In, storeOf, Winner, SizedIn, SameRecords, AnyOrder, MergedTwice, AnswersWinner, OneWinner, RoomForSoMany}
 use Rattle.records.proofs.Order.{wins-onward, wins-same, wins-self, best-left, best-right, best-is}
 use Rattle.records.proofs.Storing.{rising-insert, rising-inserts, sized-insert, sized-inserts, lookup-here, lookup-past, above-none, stores-same}
@@ -40,28 +40,28 @@ sized-store (Tree.join t u) h = sized-inserts (storeOf u) (storeOf t) (sized-sto
 -- ---- the winner
 
 -- a winner of some records is one of the same records in another tree
-winner-moved : (t u : Tree) → SameRecords t u → (a : ℕ) (x : Found) → Winner t a x → Winner u a x
-winner-moved t u s a Found.none h = λ r i e. h r (s r .1 i) e
-winner-moved t u s a (Found.found x) h = (s x .0 (h .0), h .1, λ r i e. h .2 r (s r .1 i) e)
+winner-moved : (t u : Tree) → SameRecords t u → (a : ℕ) (x : FoundRecord) → Winner t a x → Winner u a x
+winner-moved t u s a FoundRecord.none h = λ r i e. h r (s r .1 i) e
+winner-moved t u s a (FoundRecord.found x) h = (s x .0 (h .0), h .1, λ r i e. h .2 r (s r .1 i) e)
 
 -- the better of two trees' winners wins over both
-winner-join : (t u : Tree) (a : ℕ) (x y : Found) → Winner t a x → Winner u a y → Winner (Tree.join t u) a (bestFound x y)
-winner-join t u a Found.none Found.none h k = λ r i e. neither r e i
+winner-join : (t u : Tree) (a : ℕ) (x y : FoundRecord) → Winner t a x → Winner u a y → Winner (Tree.join t u) a (bestFound x y)
+winner-join t u a FoundRecord.none FoundRecord.none h k = λ r i e. neither r e i
   where
     neither : (r : Record) → r .appliance ≡ a → In r t ⊎ In r u → ⊥
     neither r e (inl i) = h r i e
     neither r e (inr i) = k r i e
-winner-join t u a (Found.found x) Found.none h k = (inl (h .0), h .1, λ r i e. by r i e)
+winner-join t u a (FoundRecord.found x) FoundRecord.none h k = (inl (h .0), h .1, λ r i e. by r i e)
   where
     by : (r : Record) → In r t ⊎ In r u → r .appliance ≡ a → wins x r ≡ true
     by r (inl i) e = h .2 r i e
     by r (inr i) e = absurd (k r i e)
-winner-join t u a Found.none (Found.found y) h k = (inr (k .0), k .1, λ r i e. by r i e)
+winner-join t u a FoundRecord.none (FoundRecord.found y) h k = (inr (k .0), k .1, λ r i e. by r i e)
   where
     by : (r : Record) → In r t ⊎ In r u → r .appliance ≡ a → wins y r ≡ true
     by r (inl i) e = absurd (h r i e)
     by r (inr i) e = k .2 r i e
-winner-join t u a (Found.found x) (Found.found y) h k =
+winner-join t u a (FoundRecord.found x) (FoundRecord.found y) h k =
     (best-is (λ r. In r t ⊎ In r u) y x (inr (k .0)) (inl (h .0)), best-is (λ r. r .appliance ≡ a) y x (k .1) (h .1), λ r i e. by r i e)
   where
     by : (r : Record) → In r t ⊎ In r u → r .appliance ≡ a → wins (best y x) r ≡ true
@@ -79,7 +79,7 @@ winner-one x a = by (eqb (x .appliance) a) refl
     same r (inl e) = e
     same r (inr e) = absurd e
 
-    by : (b : Bool) → eqb (x .appliance) a ≡ b → Winner (one x) a (cond b (Found.found x) Found.none)
+    by : (b : Bool) → eqb (x .appliance) a ≡ b → Winner (one x) a (cond b (FoundRecord.found x) FoundRecord.none)
     by true i = (inl refl, eqb-true (x .appliance) a i, λ r e d. subst⁻¹ (λ (y : Record). wins x y ≡ true) (same r e) (wins-self x))
     by false i = λ r e d. eqb-false (x .appliance) a i (ap (λ (y : Record). y .appliance) (sym (same r e)) ∙ d)
 
@@ -108,11 +108,11 @@ answers-winner (Tree.join t u) a =
     (winner-join t u a (lookup a (storeOf t)) (lookup a (storeOf u)) (answers-winner t a) (answers-winner u a))
 
 pub one-winner : OneWinner
-one-winner t a Found.none Found.none z h k = refl
-one-winner t a Found.none (Found.found y) z h k = absurd (h y (k .0) (k .1))
-one-winner t a (Found.found x) Found.none z h k = absurd (k x (h .0) (h .1))
-one-winner t a (Found.found x) (Found.found y) z h k =
-    ap Found.found
+one-winner t a FoundRecord.none FoundRecord.none z h k = refl
+one-winner t a FoundRecord.none (FoundRecord.found y) z h k = absurd (h y (k .0) (k .1))
+one-winner t a (FoundRecord.found x) FoundRecord.none z h k = absurd (k x (h .0) (h .1))
+one-winner t a (FoundRecord.found x) (FoundRecord.found y) z h k =
+    ap FoundRecord.found
     (wins-same x y (z x (h .0)) (z y (k .0)) (h .1 ∙ sym (k .1)) (h .2 y (k .0) (k .1)) (k .2 x (h .0) (h .1)))
 
 -- ---- any order
@@ -134,7 +134,7 @@ merged-twice x t z i = sym (any-order t (Tree.add x t) z (λ r. (inr, back r)))
 
 -- a rising store whose appliances are all in a list is no longer than the list
 few-appliances :
-    (es : List Record) (ns : List ℕ) → Rising es → ((a : ℕ) (w : Record) → lookup a es ≡ Found.found w → member a ns ≡ true) → length es ≤ length ns
+    (es : List Record) (ns : List ℕ) → Rising es → ((a : ℕ) (w : Record) → lookup a es ≡ FoundRecord.found w → member a ns ≡ true) → length es ≤ length ns
 few-appliances [] ns h k = omega arith
 few-appliances (e ∷ es) ns h k =
     let one-less = any-keep (λ n. eqb n (e .appliance)) ns (k (e .appliance) e (lookup-here (e .appliance) e es refl)) in
@@ -144,9 +144,9 @@ few-appliances (e ∷ es) ns h k =
     (λ a w i. member-keep (λ n. not (eqb n (e .appliance))) a ns (ap not (ne-eqb a (e .appliance) (other a w i))) (k a w (lookup-past a e es (λ x. other a w i (sym x)) ∙ i))) in
     omega arith
   where
-    other : (a : ℕ) (w : Record) → lookup a es ≡ Found.found w → a ≡ e .appliance → ⊥
+    other : (a : ℕ) (w : Record) → lookup a es ≡ FoundRecord.found w → a ≡ e .appliance → ⊥
     other a w i x =
-        let gone : lookup a es ≡ Found.none = above-none a es (subst⁻¹ (λ (n : ℕ). Above n es) x (h .0)) in
+        let gone : lookup a es ≡ FoundRecord.none = above-none a es (subst⁻¹ (λ (n : ℕ). Above n es) x (h .0)) in
         let z : _≡_ {A = ℕ} 0 1 = cc in
         omega arith
 
@@ -155,5 +155,5 @@ room-for-so-many t ns h l =
     let few = few-appliances (storeOf t) ns (rising-store t) (λ a w i. all a w (subst (Winner t a) i (answers-winner t a))) in
     omega arith
   where
-    all : (a : ℕ) (w : Record) → Winner t a (Found.found w) → member a ns ≡ true
+    all : (a : ℕ) (w : Record) → Winner t a (FoundRecord.found w) → member a ns ≡ true
     all a w k = subst (λ (n : ℕ). member n ns ≡ true) (k .1) (is-true (member (w .appliance) ns) (h w (k .0)))

@@ -18,12 +18,16 @@ pub record Sized (r : Record) : Type 0 where
   pub tablet : r .tablet < 2 ^ 64
   pub reading : r .reading < 2 ^ 64
 
--- Of two with different numbers the greater or the lower wins; else what comes next decides.
-unfoldable pub greater : (Record → ℕ) → (Record → Record → Bool) → Record → Record → Bool
-greater k next x y = cond (eqb (k x) (k y)) (next x y) (ltb (k y) (k x))
+-- Two records by a number of each: of different ones the one that is ahead wins; else what comes next decides.
+unfoldable pub compared : (ahead : ℕ → ℕ → Bool) → (Record → ℕ) → (Record → Record → Bool) → Record → Record → Bool
+compared ahead k next x y = cond (eqb (k x) (k y)) (next x y) (ahead (k x) (k y))
 
-unfoldable pub lower : (Record → ℕ) → (Record → Record → Bool) → Record → Record → Bool
-lower k next x y = cond (eqb (k x) (k y)) (next x y) (ltb (k x) (k y))
+-- The greater number is ahead, or the lower.
+abbrev pub greater : ℕ → ℕ → Bool
+greater m n = ltb n m
+
+abbrev pub lower : ℕ → ℕ → Bool
+lower m n = ltb m n
 
 -- The number that a record's reading means.
 unfoldable pub meant : Record → ℤ
@@ -35,7 +39,7 @@ larger x y = leZ (meant y) (meant x)
 
 -- x wins over y, or they are the same: later time, fail over pass, lower tablet, larger reading.
 unfoldable pub wins : Record → Record → Bool
-wins = greater (λ r. r .time) (greater (λ r. r .fail) (lower (λ r. r .tablet) larger))
+wins = compared greater (λ r. r .time) (compared greater (λ r. r .fail) (compared lower (λ r. r .tablet) larger))
 
 -- The winner of two.
 unfoldable pub best : Record → Record → Record

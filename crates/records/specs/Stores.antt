@@ -16,9 +16,9 @@ use Rattle.records.specs.Records.{Sized, best}
 -- ---- What a store holds.
 
 -- A record, or none.
-pub data Found : Type 0 where
-  none : Found
-  found : Record → Found
+pub data FoundRecord : Type 0 where
+  none : FoundRecord
+  found : Record → FoundRecord
 
 -- A record comes to its place; where its appliance has one already, the winner of the two stays.
 abbrev pub insert : Record → List Record → List Record
@@ -32,13 +32,13 @@ unfoldable pub inserts : List Record → List Record → List Record
 inserts rs es = foldl (λ s r. insert r s) es rs
 
 -- "answers for an appliance"
-abbrev pub lookup : ℕ → List Record → Found
-lookup a [] = Found.none
-lookup a (e ∷ es) = cond (eqb (e .appliance) a) (Found.found e) (lookup a es)
+abbrev pub lookup : ℕ → List Record → FoundRecord
+lookup a [] = FoundRecord.none
+lookup a (e ∷ es) = cond (eqb (e .appliance) a) (FoundRecord.found e) (lookup a es)
 
 -- The n-th record in order, counted from 0.
-abbrev pub nth : ℕ → List Record → Found
-nth n es = cond (ltb n (length es)) (Found.found (getD es n (record { appliance = 0; time = 0; fail = 0; tablet = 0; reading = 0 }))) Found.none
+abbrev pub nth : ℕ → List Record → FoundRecord
+nth n es = cond (ltb n (length es)) (FoundRecord.found (getD es n (record { appliance = 0; time = 0; fail = 0; tablet = 0; reading = 0 }))) FoundRecord.none
 
 -- All appliance numbers are greater than a; they rise.
 abbrev pub Above : ℕ → List Record → Type 0

@@ -11,7 +11,7 @@ use lib.ListN.{length}
 use Rattle.laws.specs.Lists.{member}
 use Rattle.records.specs.declared.Record.{Record}
 use Rattle.records.specs.Records.{Sized, wins}
-use Rattle.records.specs.Stores.{Found, insert, inserts, lookup, capacity}
+use Rattle.records.specs.Stores.{FoundRecord, insert, inserts, lookup, capacity}
 
 -- "any order and grouping of merges": nothing yet; a record merged into what is there; a store merged into it.
 pub data Tree : Type 0 where
@@ -32,9 +32,9 @@ storeOf (Tree.add x t) = insert x (storeOf t)
 storeOf (Tree.join t u) = inserts (storeOf u) (storeOf t)
 
 -- The winner of the records of appliance a: one of them that wins over each, or none where there are none.
-abbrev pub Winner : Tree → ℕ → Found → Type 0
-Winner t a Found.none = (r : Record) → In r t → r .appliance ≡ a → ⊥
-Winner t a (Found.found w) =
+abbrev pub Winner : Tree → ℕ → FoundRecord → Type 0
+Winner t a FoundRecord.none = (r : Record) → In r t → r .appliance ≡ a → ⊥
+Winner t a (FoundRecord.found w) =
     In w t × (w .appliance ≡ a) × ((r : Record) → In r t → r .appliance ≡ a → wins w r ≡ true)
 
 -- ---- the laws
@@ -60,7 +60,7 @@ abbrev pub AnswersWinner : Type 0
 AnswersWinner = (t : Tree) (a : ℕ) → Winner t a (lookup a (storeOf t))
 
 abbrev pub OneWinner : Type 0
-OneWinner = (t : Tree) (a : ℕ) (x y : Found) → SizedIn t → Winner t a x → Winner t a y → x ≡ y
+OneWinner = (t : Tree) (a : ℕ) (x y : FoundRecord) → SizedIn t → Winner t a x → Winner t a y → x ≡ y
 
 -- "for so many at most" there is room, whatever the grouping.
 abbrev pub RoomForSoMany : Type 0

@@ -12,7 +12,7 @@ use Rattle.laws.specs.Lists.{from}
 use Rattle.laws.proofs.Every.{Every, every-all, every-at, every-left, every-right}
 use Rattle.laws.proofs.Ranges.{getD-map-from, length-map-from}
 use Rattle.laws.proofs.Sums.{sum-below-le}
-use Rattle.language.specs.Instructions.{Form, formOf, formNumber, instructionCount, width, loadType, operandOf}
+use Rattle.language.specs.Instructions.{Form, formOf, formNumber, instructionCount, width, loadType, operandOf, phiOp}
 use Rattle.language.specs.Programs.{Row, Func, opOf, formIn, targetsOf, sourcesOf, entriesOf, namedBy, rowsOf}
 use Rattle.language.specs.Checking.{shaped, numberFits, inRange}
 use Rattle.language.specs.Table.{registerCount, blockCount, rowCount, rowOp, rowTarget, rowLeft, rowRight, loadNumber, jumpFirst, jumpSecond, phiFirst, phiCount, phiEntry, rowEntries, decodeAs, decodeRow, decodeFunction}
@@ -20,13 +20,13 @@ use Rattle.instructions.specs.Shapes.{operandNumber, shapeOf}
 use Rattle.theorems.specs.Clean.{Clean}
 use Rattle.theorems.proofs.AcceptanceCheck.{sound-parts}
 use Rattle.theorems.proofs.AcceptanceRows.{InRange, range-parts}
-use Rattle.theorems.proofs.TableView.{op-decoded, register-count, block-count, phi-first-is, row-count, row-is}
-use Rattle.rules.specs.Prepared.{Sized}
+use Rattle.language.proofs.TableView.{op-decoded, register-count, block-count, phi-first-is, row-count, row-is}
+use Rattle.flow.specs.Sized.{Sized}
 use Rattle.naming.specs.Numbered.{RegistersNumbered, BlocksNumbered}
-use Rattle.row_text.specs.Ready.{Entries, RowReady, Ready}
+use Rattle.row_text.specs.Ready.{Entries, RowReady, TextReady}
 use Rattle.row_text.proofs.Shapes.{targets-are, sources-are}
 
-instruction-of : (x : Row) → T (shaped x) → opOf x < 36
+instruction-of : (x : Row) → T (shaped x) → opOf x < instructionCount
 unfolding shaped
 instruction-of x h = ltb→lt (opOf x) instructionCount (and-l (ltb (opOf x) instructionCount) (eqb (formNumber (formOf (opOf x))) (formNumber (formIn x))) h)
 
@@ -105,7 +105,7 @@ module _ (t : List ℕ) (a : ℕ) (sized : Sized t a) (clean : Clean (decodeFunc
   unfolding decodeRow shapeOf
   entries-of e =
       let row : decodeRow t a r ≡ Row.phi (rowTarget t a r) (map (phiEntry t a) (from (phiFirst t a r) (phiCount t a r))) = phi-as t a r (formOf (rowOp t a r)) e in
-      let op : rowOp t a r ≡ 31 = sym (op-decoded t a r) ∙ ap opOf row in
+      let op : rowOp t a r ≡ phiOp = sym (op-decoded t a r) ∙ ap opOf row in
       let entries : List ℕ = map (phiEntry t a) (from (phiFirst t a r) (phiCount t a r)) in
       let h : Every Known entries =
       subst (Every Known) (ap entriesOf row) (every-right (sourcesOf (decodeRow t a r)) (entriesOf (decodeRow t a r)) (every-right (targetsOf (decodeRow t a r)) _ (in-range .registers))) in
@@ -141,6 +141,6 @@ module _ (t : List ℕ) (a : ℕ) (sized : Sized t a) (clean : Clean (decodeFunc
 
 -- An accepted function with its made names numbered is ready.
 pub ready : {t : List ℕ} {a : ℕ} {rs bs : List ℕ} → Sized t a → Clean (decodeFunction t a)
-    → RegistersNumbered (decodeFunction t a) rs → BlocksNumbered (decodeFunction t a) bs → 256 ≤ length rs → 64 ≤ length bs → Ready t a rs bs
+    → RegistersNumbered (decodeFunction t a) rs → BlocksNumbered (decodeFunction t a) bs → 256 ≤ length rs → 64 ≤ length bs → TextReady t a rs bs
 ready {t} {a} sized clean registers blocks m n =
     record { sized = sized; rows = row-ready t a sized clean; registers = registers; blocks = blocks; registerRoom = m; blockRoom = n }

@@ -1,5 +1,5 @@
 pub mod Accepted
 pub mod Asked
-pub mod BlockLines
+pub mod BlocksLaws
 pub mod Parts
 pub mod Shapes

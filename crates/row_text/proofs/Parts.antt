@@ -14,7 +14,7 @@ use Rattle.language.specs.Table.{rowOp, rowTarget, rowLeft, rowRight, decodeRow
 use Rattle.language.specs.Tokens.{Token}
 use Rattle.language.specs.Writing.{bytesFor, lineBytes, opToken, registerToken, targetPart, registersPart, operandPart, rowLine}
 use Rattle.instructions.specs.Shapes.{shapeOf}
-use Rattle.theorems.proofs.TableView.{op-decoded}
+use Rattle.language.proofs.TableView.{op-decoded}
 use Rattle.token_text.specs.Spaced.{spaced}
 use Rattle.token_text.proofs.Lines.{line-ends}
 use Rattle.row_text.specs.Ready.{titled, operandAs}

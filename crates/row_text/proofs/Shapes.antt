@@ -5,47 +5,22 @@ use mathlib.Core.Path.{_≡_, refl}
 use Prim.Native.Nat.{ℕ, _≤_}
 use native.Mathlib.Omega.{arith}
 use lib.ListN.{take}
-use Rattle.language.specs.Instructions.{Form, formOf, hasTarget, sourceCount, operandOf}
+use Rattle.language.specs.Instructions.{Form, formOf, sourceCount, operandOf}
 use Rattle.language.specs.Programs.{targetsOf, sourcesOf}
 use Rattle.language.specs.Table.{rowOp, rowTarget, rowLeft, rowRight, decodeAs, decodeRow}
 use Rattle.language.specs.Writing.{operandPart}
+use Rattle.language.proofs.TableView.{targets-as, sources-as}
 use Rattle.instructions.specs.Shapes.{operandNumber, shapeOf}
 use Rattle.row_text.specs.Ready.{titled, operandAs}
 
 module _ (t : List ℕ) (a r : ℕ) where
-  targets-as : (g : Form) → targetsOf (decodeAs g t a r) ≡ cond (hasTarget g) (rowTarget t a r ∷ []) []
-  unfolding decodeAs
-  targets-as Form.nop = refl
-  targets-as Form.load = refl
-  targets-as Form.unary = refl
-  targets-as Form.binary = refl
-  targets-as Form.phi = refl
-  targets-as Form.jump = refl
-  targets-as Form.branch = refl
-  targets-as Form.return = refl
-  targets-as Form.leave = refl
-  targets-as Form.unknown = refl
-
   pub targets-are : targetsOf (decodeRow t a r) ≡ cond (shapeOf (rowOp t a r) .target) (rowTarget t a r ∷ []) []
   unfolding decodeRow shapeOf
-  targets-are = targets-as (formOf (rowOp t a r))
-
-  sources-as : (g : Form) → sourcesOf (decodeAs g t a r) ≡ take (sourceCount g) (rowLeft t a r ∷ rowRight t a r ∷ [])
-  unfolding decodeAs
-  sources-as Form.nop = refl
-  sources-as Form.load = refl
-  sources-as Form.unary = refl
-  sources-as Form.binary = refl
-  sources-as Form.phi = refl
-  sources-as Form.jump = refl
-  sources-as Form.branch = refl
-  sources-as Form.return = refl
-  sources-as Form.leave = refl
-  sources-as Form.unknown = refl
+  targets-are = targets-as t a r (formOf (rowOp t a r))
 
   pub sources-are : sourcesOf (decodeRow t a r) ≡ take (shapeOf (rowOp t a r) .sources) (rowLeft t a r ∷ rowRight t a r ∷ [])
   unfolding decodeRow shapeOf
-  sources-are = sources-as (formOf (rowOp t a r))
+  sources-are = sources-as t a r (formOf (rowOp t a r))
 
   operand-as : (g : Form) → operandAs t a r (operandNumber (operandOf g)) ≡ operandPart (titled t a) (decodeAs g t a r)
   unfolding decodeAs

@@ -5,7 +5,7 @@ use mathlib.Core.Path.{_≡_}
 use Prim.Native.Nat.{ℕ, _+_, _^_, _<_, _≤_}
 use lib.ListN.{length, getD}
 use Rattle.laws.specs.Lists.{from}
-use Rattle.language.specs.Instructions.{width, loadType}
+use Rattle.language.specs.Instructions.{width, loadType, instructionCount}
 use Rattle.language.specs.MadeNames.{namedFunction}
 use Rattle.language.specs.Programs.{Func, maxRegisters, maxBlocks, maxEntries}
 use Rattle.language.specs.Table.{registerCount, blockCount, rowCount, rowOp, rowTarget, rowLeft, rowRight, loadNumber, jumpFirst, jumpSecond, phiFirst, phiCount, phiEntry, decodeFunction}
@@ -13,7 +13,7 @@ use Rattle.language.specs.Tokens.{Token}
 use Rattle.language.specs.Writing.{numberToken, registersPart, blocksPart, inParens}
 use Rattle.instructions.specs.Shapes.{shapeOf}
 use Rattle.naming.specs.Numbered.{RegistersNumbered, BlocksNumbered}
-use Rattle.rules.specs.Prepared.{Sized}
+use Rattle.flow.specs.Sized.{Sized}
 
 -- The function at cell a of t with the made names filled in.
 abbrev pub titled : List ℕ → ℕ → Func
@@ -28,7 +28,7 @@ pub record Entries (t : List ℕ) (a first count : ℕ) : Type 0 where
 
 -- The numbers of row r that its instruction needs are in their range.
 pub record RowReady (t : List ℕ) (a r : ℕ) : Type 0 where
-  pub instruction : rowOp t a r < 36
+  pub instruction : rowOp t a r < instructionCount
   pub target : shapeOf (rowOp t a r) .target ≡ true → rowTarget t a r < registerCount t a
   pub left : 0 < shapeOf (rowOp t a r) .sources → rowLeft t a r < registerCount t a
   pub right : 1 < shapeOf (rowOp t a r) .sources → rowRight t a r < registerCount t a
@@ -38,7 +38,7 @@ pub record RowReady (t : List ℕ) (a r : ℕ) : Type 0 where
   pub second : 3 < shapeOf (rowOp t a r) .operand → jumpSecond t a r < blockCount t a
 
 -- Every row of the function at cell a is so, and the numbers of its made names are prepared.
-pub record Ready (t : List ℕ) (a : ℕ) (rs bs : List ℕ) : Type 0 where
+pub record TextReady (t : List ℕ) (a : ℕ) (rs bs : List ℕ) : Type 0 where
   pub sized : Sized t a
   pub rows : (r : ℕ) → r < rowCount t a → RowReady t a r
   pub registers : RegistersNumbered (decodeFunction t a) rs

@@ -1,12 +1,12 @@
 // Blocks: a head, the rows, a `}`.
 ghost use mathlib.Core.Path.{_≡_};
-ghost use Prim.Native.Nat.{_+_, _<_};
+ghost use Prim.Native.Nat.{_<_};
 ghost use Rattle.laws.specs.Lists.{gather};
 ghost use Rattle.language.specs.Programs.{blockAt};
 ghost use Rattle.language.specs.Table.{blockCount};
 ghost use Rattle.language.specs.Writing.{blockLines, lineBytes};
 ghost use Rattle.page.specs.Page.{page, puts};
-ghost use Rattle.row_text.specs.Ready.{Ready, titled};
+ghost use Rattle.row_text.specs.Ready.{TextReady, titled};
 use crate::rows::put_rows;
 use page::put_part;
 use table::block_count;
@@ -24,7 +24,7 @@ fn put_block_lines(
     out: &mut [u8],
     at: usize,
 ) -> usize
-    requires { ⌜ Ready (now t) a (now registers) (now blocks) × (b < blockCount (now t) a) ⌝ }
+    requires { ⌜ TextReady (now t) a (now registers) (now blocks) × (b < blockCount (now t) a) ⌝ }
     ensures { λ e. ⌜ page (now (out .exit)) e ≡ puts (page (now (out .entry)) at) (gather lineBytes (blockLines (titled (now (t .entry)) a) (blockAt (titled (now (t .entry)) a) b))) ⌝ }
 {
     let e = put_part(out, at, b"block ");
@@ -52,7 +52,7 @@ pub fn put_blocks(
     out: &mut [u8],
     at: usize,
 ) -> usize
-    requires { ⌜ Ready (now t) a (now registers) (now blocks) ⌝ }
+    requires { ⌜ TextReady (now t) a (now registers) (now blocks) ⌝ }
     ensures { λ e. ⌜ page (now (out .exit)) e ≡ puts (page (now (out .entry)) at) (gather lineBytes (gather (blockLines (titled (now (t .entry)) a)) (titled (now (t .entry)) a .blocks))) ⌝ }
 {
     let n = block_count(t, a);

@@ -1,7 +1,7 @@
 // The operand in parentheses, by its kind.
 ghost use mathlib.Core.List.{[], _∷_, map};
 ghost use mathlib.Core.Path.{_≡_};
-ghost use Prim.Native.Nat.{_+_, _<_};
+ghost use Prim.Native.Nat.{_<_};
 ghost use Rattle.laws.specs.Lists.{from, gather};
 ghost use Rattle.language.specs.Bytes.{comma};
 ghost use Rattle.language.specs.Table.{rowCount, registerCount, rowOp, phiEntry};
@@ -10,7 +10,7 @@ ghost use Rattle.language.specs.Writing.{registerToken, registersPart};
 ghost use Rattle.instructions.specs.Shapes.{shapeOf};
 ghost use Rattle.page.specs.Page.{page, puts};
 ghost use Rattle.token_text.specs.Spaced.{spaced};
-ghost use Rattle.row_text.specs.Ready.{Entries, Ready, titled, operandAs};
+ghost use Rattle.row_text.specs.Ready.{Entries, TextReady, titled, operandAs};
 use instructions::load_type;
 use page::put_part;
 use table::jump_first;
@@ -34,7 +34,7 @@ fn put_load(
     out: &mut [u8],
     at: usize,
 ) -> usize
-    requires { ⌜ Ready (now t) a (now registers) (now blocks) × (r < rowCount (now t) a) × (shapeOf (rowOp (now t) a r) .operand ≡ 1) ⌝ }
+    requires { ⌜ TextReady (now t) a (now registers) (now blocks) × (r < rowCount (now t) a) × (shapeOf (rowOp (now t) a r) .operand ≡ 1) ⌝ }
     ensures { λ e. ⌜ page (now (out .exit)) e ≡ puts (page (now (out .entry)) at) (spaced (operandAs (now (t .entry)) a r 1)) ⌝ }
 {
     let e = put_part(out, at, b"( ");
@@ -53,7 +53,7 @@ fn put_entry(
     out: &mut [u8],
     at: usize,
 ) -> usize
-    requires { ⌜ Ready (now t) a (now registers) (now blocks) × (k < 1024) × (phiEntry (now t) a k < registerCount (now t) a) ⌝ }
+    requires { ⌜ TextReady (now t) a (now registers) (now blocks) × (k < 1024) × (phiEntry (now t) a k < registerCount (now t) a) ⌝ }
     ensures { λ e. ⌜ page (now (out .exit)) e ≡ puts (page (now (out .entry)) at) (spaced (Token.mark comma ∷ registerToken (titled (now (t .entry)) a) (phiEntry (now (t .entry)) a k) ∷ [])) ⌝ }
 {
     let e = put_part(out, at, b", ");
@@ -71,7 +71,7 @@ fn put_later_entries(
     out: &mut [u8],
     at: usize,
 ) -> usize
-    requires { ⌜ Ready (now t) a (now registers) (now blocks) × Entries (now t) a first count ⌝ }
+    requires { ⌜ TextReady (now t) a (now registers) (now blocks) × Entries (now t) a first count ⌝ }
     ensures { λ e. ⌜ page (now (out .exit)) e ≡ puts (page (now (out .entry)) at) (spaced (gather (λ k. Token.mark comma ∷ registerToken (titled (now (t .entry)) a) (phiEntry (now (t .entry)) a k) ∷ []) (from first count))) ⌝ }
 {
     let mut e = at;
@@ -94,7 +94,7 @@ fn put_entries(
     out: &mut [u8],
     at: usize,
 ) -> usize
-    requires { ⌜ Ready (now t) a (now registers) (now blocks) × Entries (now t) a first count ⌝ }
+    requires { ⌜ TextReady (now t) a (now registers) (now blocks) × Entries (now t) a first count ⌝ }
     ensures { λ e. ⌜ page (now (out .exit)) e ≡ puts (page (now (out .entry)) at) (spaced (registersPart (titled (now (t .entry)) a) (map (phiEntry (now (t .entry)) a) (from first count)))) ⌝ }
 {
     if count == 0 {
@@ -114,7 +114,7 @@ fn put_phi(
     out: &mut [u8],
     at: usize,
 ) -> usize
-    requires { ⌜ Ready (now t) a (now registers) (now blocks) × (r < rowCount (now t) a) × (shapeOf (rowOp (now t) a r) .operand ≡ 2) ⌝ }
+    requires { ⌜ TextReady (now t) a (now registers) (now blocks) × (r < rowCount (now t) a) × (shapeOf (rowOp (now t) a r) .operand ≡ 2) ⌝ }
     ensures { λ e. ⌜ page (now (out .exit)) e ≡ puts (page (now (out .entry)) at) (spaced (operandAs (now (t .entry)) a r 2)) ⌝ }
 {
     let e = put_part(out, at, b"( ");
@@ -141,7 +141,7 @@ fn put_jump(
     out: &mut [u8],
     at: usize,
 ) -> usize
-    requires { ⌜ Ready (now t) a (now registers) (now blocks) × (r < rowCount (now t) a) × (shapeOf (rowOp (now t) a r) .operand ≡ 3) ⌝ }
+    requires { ⌜ TextReady (now t) a (now registers) (now blocks) × (r < rowCount (now t) a) × (shapeOf (rowOp (now t) a r) .operand ≡ 3) ⌝ }
     ensures { λ e. ⌜ page (now (out .exit)) e ≡ puts (page (now (out .entry)) at) (spaced (operandAs (now (t .entry)) a r 3)) ⌝ }
 {
     let e = put_part(out, at, b"( ");
@@ -159,7 +159,7 @@ fn put_branch(
     out: &mut [u8],
     at: usize,
 ) -> usize
-    requires { ⌜ Ready (now t) a (now registers) (now blocks) × (r < rowCount (now t) a) × (shapeOf (rowOp (now t) a r) .operand ≡ 4) ⌝ }
+    requires { ⌜ TextReady (now t) a (now registers) (now blocks) × (r < rowCount (now t) a) × (shapeOf (rowOp (now t) a r) .operand ≡ 4) ⌝ }
     ensures { λ e. ⌜ page (now (out .exit)) e ≡ puts (page (now (out .entry)) at) (spaced (operandAs (now (t .entry)) a r 4)) ⌝ }
 {
     let first = jump_first(t, a, r);
@@ -182,7 +182,7 @@ pub fn put_operand(
     out: &mut [u8],
     at: usize,
 ) -> usize
-    requires { ⌜ Ready (now t) a (now registers) (now blocks) × (r < rowCount (now t) a) × (kind ≡ shapeOf (rowOp (now t) a r) .operand) ⌝ }
+    requires { ⌜ TextReady (now t) a (now registers) (now blocks) × (r < rowCount (now t) a) × (kind ≡ shapeOf (rowOp (now t) a r) .operand) ⌝ }
     ensures { λ e. ⌜ page (now (out .exit)) e ≡ puts (page (now (out .entry)) at) (spaced (operandAs (now (t .entry)) a r kind)) ⌝ }
 {
     match kind {

@@ -8,9 +8,10 @@ ghost use Rattle.language.specs.Writing.{targetPart, registersPart, rowLine, li
 ghost use Rattle.instructions.specs.Shapes.{shapeOf};
 ghost use Rattle.page.specs.Page.{page, puts};
 ghost use Rattle.token_text.specs.Spaced.{spaced};
-ghost use Rattle.row_text.specs.Ready.{Ready, titled};
+ghost use Rattle.row_text.specs.Ready.{TextReady, titled};
 use crate::operands::put_operand;
 use instructions::shape_of;
+use instructions::words;
 use page::put_part;
 use table::row_left;
 use table::row_op;
@@ -18,9 +19,6 @@ use table::row_right;
 use table::row_target;
 use token_text::put_register;
 use token_text::put_word;
-
-// The number of the first instruction among the words.
-const FIRST_INSTRUCTION: u8 = 16;
 
 // The target and `=` of a row that has one.
 fn put_target(
@@ -33,7 +31,7 @@ fn put_target(
     out: &mut [u8],
     at: usize,
 ) -> usize
-    requires { ⌜ Ready (now t) a (now registers) (now blocks) × (r < rowCount (now t) a) × (present ≡ shapeOf (rowOp (now t) a r) .target) ⌝ }
+    requires { ⌜ TextReady (now t) a (now registers) (now blocks) × (r < rowCount (now t) a) × (present ≡ shapeOf (rowOp (now t) a r) .target) ⌝ }
     ensures { λ e. ⌜ page (now (out .exit)) e ≡ puts (page (now (out .entry)) at) (spaced (targetPart (titled (now (t .entry)) a) (targetsOf (decodeRow (now (t .entry)) a r)))) ⌝ }
 {
     if !present {
@@ -54,7 +52,7 @@ fn put_sources(
     out: &mut [u8],
     at: usize,
 ) -> usize
-    requires { ⌜ Ready (now t) a (now registers) (now blocks) × (r < rowCount (now t) a) × (count ≡ shapeOf (rowOp (now t) a r) .sources) ⌝ }
+    requires { ⌜ TextReady (now t) a (now registers) (now blocks) × (r < rowCount (now t) a) × (count ≡ shapeOf (rowOp (now t) a r) .sources) ⌝ }
     ensures { λ e. ⌜ page (now (out .exit)) e ≡ puts (page (now (out .entry)) at) (spaced (registersPart (titled (now (t .entry)) a) (sourcesOf (decodeRow (now (t .entry)) a r)))) ⌝ }
 {
     if count == 0 {
@@ -80,13 +78,13 @@ fn put_row(
     out: &mut [u8],
     at: usize,
 ) -> usize
-    requires { ⌜ Ready (now t) a (now registers) (now blocks) × (r < rowCount (now t) a) ⌝ }
+    requires { ⌜ TextReady (now t) a (now registers) (now blocks) × (r < rowCount (now t) a) ⌝ }
     ensures { λ e. ⌜ page (now (out .exit)) e ≡ puts (page (now (out .entry)) at) (lineBytes (rowLine (titled (now (t .entry)) a) (decodeRow (now (t .entry)) a r))) ⌝ }
 {
     let op = row_op(t, a, r);
     let s = shape_of(op);
     let e = put_target(t, a, registers, blocks, r, s.target, out, at);
-    let f = put_word(FIRST_INSTRUCTION + op, out, e);
+    let f = put_word(words::FIRST_INSTRUCTION + op, out, e);
     let g = put_sources(t, a, registers, blocks, r, s.sources, out, f);
     let h = put_operand(t, a, registers, blocks, r, s.operand, out, g);
     put_part(out, h, b";\n")
@@ -103,7 +101,7 @@ pub fn put_rows(
     out: &mut [u8],
     at: usize,
 ) -> usize
-    requires { ⌜ Ready (now t) a (now registers) (now blocks) × (first + count ≤ rowCount (now t) a) ⌝ }
+    requires { ⌜ TextReady (now t) a (now registers) (now blocks) × (first + count ≤ rowCount (now t) a) ⌝ }
     ensures { λ e. ⌜ page (now (out .exit)) e ≡ puts (page (now (out .entry)) at) (gather (λ r. lineBytes (rowLine (titled (now (t .entry)) a) (decodeRow (now (t .entry)) a r))) (from first count)) ⌝ }
 {
     let mut e = at;

@@ -1,34 +1,38 @@
 -- 10 to 16 of a row, form by form, by its cells and what is prepared.
 -- Assumes nothing.
-use mathlib.Core.Path.{_≡_, refl, sym, ap, ap₂, _∙_}
-use mathlib.Core.Bool.{Bool, true, false, cond, not, _&&_, _||_, and-false, or-false}
-use mathlib.Core.List.{List, [], _∷_, _++_, map}
+use mathlib.Core.Path.{_≡_, refl, sym, ap, _∙_}
+use mathlib.Core.Bool.{Bool, true, false, cond, not, _&&_, _||_, or-false}
+use mathlib.Core.List.{List, [], _∷_, _++_}
 use Prim.Native.Nat.{ℕ, suc, _+_, _≤_, _<_}
 use native.Mathlib.Numerals.{add-one}
 use native.Mathlib.Omega.{arith}
 use native.Mathlib.Decide.{decLt}
 use borrow.Author.Tests.{lt-ltb, le-ltb, le-leb, lt-leb, eq-eqb}
-use lib.Dec.{T, eqb, leb, ltb, eqb·suc-suc, eqb·suc-zero}
+use lib.Dec.{eqb, leb, ltb, eqb·suc-suc, eqb·suc-zero}
 use lib.ListN.{length, getD, take}
-use Rattle.laws.specs.Lists.{any, all, from, member, position, empty}
+use Rattle.laws.specs.Lists.{any, member, position}
+use Rattle.laws.proofs.Agreeing.{any-every}
 use Rattle.laws.proofs.Indexing.{any-at}
-use Rattle.laws.proofs.Every.{Every, none, more, every-imp}
+use Rattle.laws.proofs.Every.{Every, every-imp}
 use Rattle.language.specs.Programs.{Func, Row, isSsa, rowsAt, rowsOf, isPhi, targetsOf, sourcesOf, entriesOf}
 use Rattle.language.specs.Table.{functionSsa, functionParams, decodeRow, decodeFunction}
-use Rattle.language.specs.Checking.{Spot, rowNumber, assignedIn, isParameter, predecessors, breaks12, breaks14, breaks15, breaks16}
-use Rattle.rules.specs.Prepared.{Prepared, assignedAt, leadingPhis}
+use Rattle.language.specs.Checking.{assignedIn, isParameter, breaks12, breaks16}
+use Rattle.flow.specs.Layout.{assignmentIn, phisIn}
+use Rattle.flow.specs.Assignments.{assignedAt}
+use Rattle.flow.specs.Leading.{leadingPhis}
+use Rattle.flow.specs.Prepared.{Prepared}
 use Rattle.rules.specs.Cells.{Stands, spot, retaken, unset}
-use Rattle.rules.proofs.Firsts.{any-before, any-after-leading, any-and, any-same}
+use Rattle.rules.proofs.Firsts.{any-before, any-after-leading, any-and}
 use Rattle.rules.proofs.Standing.{row-in, row-of, number-here}
 
 -- ---- what is prepared, against what the tests scan for
 
 module _ (f : Func) (m : List ℕ) (h : Prepared f m) where
-  pub assigned-any : (u : ℕ) → u < 256 → assignedIn (rowsOf f) u ≡ not (eqb (getD m u 0) 0)
+  pub assigned-any : (u : ℕ) → u < 256 → assignedIn (rowsOf f) u ≡ not (eqb (assignmentIn m u) 0)
   unfolding assignedAt
   assigned-any u l = by (assignedIn (rowsOf f) u) (h .assigned u l)
     where
-      by : (b : Bool) → getD m u 0 ≡ cond b (suc (position (λ r. member u (targetsOf r)) (rowsOf f))) 0 → b ≡ not (eqb (getD m u 0) 0)
+      by : (b : Bool) → assignmentIn m u ≡ cond b (suc (position (λ r. member u (targetsOf r)) (rowsOf f))) 0 → b ≡ not (eqb (assignmentIn m u) 0)
       by true e = rw (e, eqb·suc-zero)
       by false e = rw e
 
@@ -38,15 +42,15 @@ module _ (f : Func) (m : List ℕ) (h : Prepared f m) where
       → u < 256
       → k < length (rowsOf f)
       → member u (targetsOf (getD (rowsOf f) k Row.nop)) ≡ true
-      → assignedIn (take k (rowsOf f)) u ≡ not (eqb (getD m u 0) (k + 1))
+      → assignedIn (take k (rowsOf f)) u ≡ not (eqb (assignmentIn m u) (k + 1))
   unfolding assignedAt assignedIn
   assigned-before u k l n e =
       let p : Row → Bool = λ r. member u (targetsOf r) in
       let some : any p (rowsOf f) ≡ true = any-at p (rowsOf f) k Row.nop n e in
-      let first : getD m u 0 ≡ suc (position p (rowsOf f)) = h .assigned u l ∙ ap (λ b. cond b (suc (position p (rowsOf f))) 0) some in
+      let first : assignmentIn m u ≡ suc (position p (rowsOf f)) = h .assigned u l ∙ ap (λ b. cond b (suc (position p (rowsOf f))) 0) some in
       rw (first, add-one, eqb·suc-suc) (any-before p (rowsOf f) k Row.nop n e)
 
-  pub led : (b j : ℕ) → b < length (f .blocks) → j ≤ length (rowsAt f b) → any (λ r. not (isPhi r)) (take j (rowsAt f b)) ≡ ltb (getD m (576 + b) 0) j
+  pub led : (b j : ℕ) → b < length (f .blocks) → j ≤ length (rowsAt f b) → any (λ r. not (isPhi r)) (take j (rowsAt f b)) ≡ ltb (phisIn m b) j
   unfolding leadingPhis
   led b j l n = any-after-leading isPhi (rowsAt f b) j n ∙ ap (λ x. ltb x j) (sym (h .phis b l))
 
@@ -85,10 +89,10 @@ module _ (t : List ℕ) (a : ℕ) (m : List ℕ) (b j k : ℕ) (h : Stands t a m
   unset-is : (u : ℕ) → u < 256 → (isSsa f && not (isParameter f u || assignedIn (rowsOf f) u)) ≡ unset t a m u
   unfolding unset
   unset-is u l =
-      rw (ssa-is t a, param-is t a u, assigned-any f m (h .prepared) u l, not-either (ltb u (functionParams t a)) (eqb (getD m u 0) 0), not-ltb)
+      rw (ssa-is t a, param-is t a u, assigned-any f m (h .prepared) u l, not-either (ltb u (functionParams t a)) (eqb (assignmentIn m u) 0), not-ltb)
 
   pub breaks16-at : (r : Row) → Every (λ u. u < 256) (sourcesOf r ++ entriesOf r) → breaks16 f (spot b j r) ≡ any (unset t a m) (sourcesOf r ++ entriesOf r)
   unfolding breaks16
   breaks16-at r l =
       any-and (λ u. not (isParameter f u || assignedIn (rowsOf f) u)) (isSsa f) (sourcesOf r ++ entriesOf r)
-      ∙ any-same (every-imp unset-is l)
+      ∙ any-every (every-imp unset-is l)

@@ -1,18 +1,14 @@
 -- A test of the images of n numbers from k on, one by one.
 -- Assumes nothing.
-use mathlib.Core.Path.{_≡_, refl, sym, ap, _∙_}
+use mathlib.Core.Path.{_≡_, sym, ap, _∙_}
 use mathlib.Core.Bool.{Bool, true, false, _&&_, and-false}
 use mathlib.Core.List.{List, [], _∷_, map}
 use Prim.Native.Nat.{ℕ, zero, suc, _+_, _<_}
 use native.Mathlib.Nat.{not-suc-le-zero, le-of-suc-le-suc}
-use native.Mathlib.Omega.{arith}
 use lib.ListN.{length, getD}
 use Rattle.laws.specs.Lists.{all, from}
+use Rattle.laws.proofs.Appending.{all-map}
 use Rattle.laws.proofs.Ranges.{all-from, length-map-from, getD-map-from}
-
-all-map : {A B : Type 0} (q : B → Bool) (g : A → B) (xs : List A) → all q (map g xs) ≡ all (λ x. q (g x)) xs
-all-map q g [] = refl
-all-map q g (x ∷ xs) = ap (λ b. q (g x) && b) (all-map q g xs)
 
 -- one that fails is enough
 pub all-fails : {A : Type 0} (p : A → Bool) (xs : List A) (i : ℕ) (d : A) → i < length xs → p (getD xs i d) ≡ false → all p xs ≡ false

@@ -1,13 +1,7 @@
-pub mod Accepted
-pub mod Counting
-pub mod Ends
-pub mod FaultForms
+pub mod FormFaultLaws
 pub mod FaultLaws
 pub mod Firsts
-pub mod FlowLaws
-pub mod Forms
 pub mod Images
-pub mod NotingLaws
 pub mod RangeLaws
 pub mod Standing
-pub mod WholeRow
+pub mod RowFaultLaws

@@ -3,24 +3,22 @@
 use mathlib.Core.Path.{_≡_, refl, sym, ap, _∙_}
 use mathlib.Core.Bool.{Bool, true, false, _&&_, and-true, and-assoc}
 use mathlib.Core.List.{List, map}
-use Prim.Native.Nat.{ℕ, _<_, _≤_, _^_}
-use native.Mathlib.Omega.{arith}
-use lib.Dec.{T, eqb, ltb, lit<}
+use Prim.Native.Nat.{ℕ, _<_, _^_}
+use lib.Dec.{ltb, lit<}
 use borrow.Author.Tests.{lt-ltb, le-ltb, eq-eqb}
-use lib.ListN.{length}
 use Rattle.laws.specs.Lists.{all, from}
 use Rattle.laws.proofs.Matches.{None, past}
-use Rattle.language.specs.Instructions.{Form, formOf, formNumber, width, loadType}
+use Rattle.language.specs.Instructions.{Form, formOf, formNumber, width, loadType, instructionCount}
 use Rattle.language.specs.Programs.{Func, Row, opOf, formIn}
 use Rattle.language.specs.Table.{registerCount, blockCount, rowOp, rowTarget, rowLeft, rowRight, loadNumber, jumpFirst, jumpSecond, phiFirst, phiCount, phiEntry, decodeAs, decodeRow, decodeFunction}
 use Rattle.language.specs.Checking.{inRange, shaped}
-use Rattle.theorems.proofs.TableView.{register-count, block-count}
-use Rattle.rules.proofs.Forms.{known, unknown-from, form-is, form-past}
+use Rattle.language.proofs.TableView.{register-count, block-count}
+use Rattle.language.proofs.FormLaws.{known, unknown-from, form-is, form-past}
 
 -- a row in its instruction's form
 shaped-in : (r : Row) → formOf (opOf r) ≡ formIn r → formNumber (formIn r) < 9 → shaped r ≡ true
 unfolding shaped
-shaped-in r e l = rw (lt-ltb (opOf r) 36 (known (opOf r) (formIn r) e l)) (eq-eqb _ _ (ap formNumber e))
+shaped-in r e l = rw (lt-ltb (opOf r) instructionCount (known (opOf r) (formIn r) e l)) (eq-eqb _ _ (ap formNumber e))
 
 module _ (t : List ℕ) (a k : ℕ) where
   abbrev f : Func
@@ -79,19 +77,20 @@ module _ (t : List ℕ) (a k : ℕ) where
 
   pub unknown-range : formOf (rowOp t a k) ≡ Form.unknown → false ≡ inRange f (decodeAs Form.unknown t a k)
   unfolding inRange decodeAs shaped
-  unknown-range e = simp (le-ltb (rowOp t a k) 36 (unknown-from (rowOp t a k) e))
+  unknown-range e = simp (le-ltb (rowOp t a k) instructionCount (unknown-from (rowOp t a k) e))
 
 -- ---- the same of what the code has at hand: cells by other names, and the counts
 module _ (t : List ℕ) (a k n : ℕ) (counted : n ≡ registerCount t a) where
   pub load-tested :
-      (op x y : ℕ) (fits : Bool)
+      (op x y z : ℕ) (fits : Bool)
       → op ≡ rowOp t a k
       → formOf op ≡ Form.load
       → x ≡ rowTarget t a k
       → y ≡ loadNumber t a k
-      → fits ≡ ltb y (2 ^ width (loadType op))
+      → z ≡ loadType op
+      → fits ≡ ltb y (2 ^ width z)
       → (ltb x n && fits) ≡ inRange (decodeFunction t a) (decodeAs Form.load t a k)
-  load-tested op x y fits o e p q r = rw (p, counted, r, q, o) (sym (load-range t a k (ap formOf (sym o) ∙ e)))
+  load-tested op x y z fits o e p q s r = rw (p, counted, r, q, s, o) (sym (load-range t a k (ap formOf (sym o) ∙ e)))
 
   pub unary-tested :
       (x y : ℕ)

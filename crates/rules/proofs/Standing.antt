@@ -1,40 +1,17 @@
--- Rows of a function whose sizes are within the limits: where they stand in it, and that their cells may be looked at.
+-- A row at its place: where it stands in its function, and that its cells may be looked at.
 -- Assumes nothing.
 use mathlib.Core.Path.{_≡_, sym, ap}
-use mathlib.Core.Bool.{cond}
 use mathlib.Core.List.{List}
 use Prim.Native.Nat.{ℕ, _+_, _≤_, _<_}
 use native.Mathlib.Omega.{arith}
 use lib.ListN.{length, getD}
-use borrow.Author.Tests.{eq-eqb}
-use Rattle.laws.proofs.Sums.{sum-below-le}
 use Rattle.language.specs.Programs.{Row, rowsAt, rowsOf}
-use Rattle.language.specs.Table.{blockCount, blockFirst, blockRows, rowCount, rowOp, rowEntries, entriesBefore, phiFirst, phiCount, decodeRow, decodeFunction}
+use Rattle.language.specs.Table.{blockFirst, rowCount, rowOp, phiFirst, phiCount, decodeRow, decodeFunction}
 use Rattle.language.specs.Checking.{spotAt, rowNumber}
-use Rattle.theorems.proofs.TableView.{block-first-is, block-row-is, phi-first-is, first-row-is, row-is, row-count}
-use Rattle.rules.specs.Prepared.{Sized}
+use Rattle.language.specs.Instructions.{phiOp}
+use Rattle.language.proofs.TableView.{block-row-is, first-row-is, row-is, row-count}
+use Rattle.flow.proofs.Standing.{row-within, entries-within}
 use Rattle.rules.specs.Cells.{Stands, spot}
-
-module _ (t : List ℕ) (a : ℕ) (h : Sized t a) where
-  -- the rows of a block are rows of the function
-  pub block-within : (b : ℕ) → b < blockCount t a → blockFirst t a b + blockRows t a b ≤ rowCount t a
-  block-within b l = rw (block-first-is t a (h .placed) b l) (sum-below-le (blockRows t a) b (blockCount t a) l)
-
-  -- and among the 1,024
-  pub block-limit : (b first rows : ℕ) → b < blockCount t a → first ≡ blockFirst t a b → rows ≡ blockRows t a b → first + rows ≤ 1024
-  block-limit b first rows l p q = omega (arith, block-within b l, h .rows)
-
-  pub row-within : (b j : ℕ) → b < blockCount t a → j < blockRows t a b → blockFirst t a b + j < rowCount t a
-  row-within b j l m = omega (arith, block-within b l)
-
-  -- the entries of a phi are entries of the function
-  pub entries-within : (k : ℕ) → k < rowCount t a → rowOp t a k ≡ 31 → phiFirst t a k + phiCount t a k ≤ 1024
-  entries-within k l e =
-      let n : rowEntries t a k ≡ phiCount t a k = ap (λ x. cond x (phiCount t a k) 0) (eq-eqb (rowOp t a k) 31 e) in
-      let s : entriesBefore t a k + rowEntries t a k ≤ entriesBefore t a (rowCount t a) = sum-below-le (rowEntries t a) k (rowCount t a) l in
-      let p : phiFirst t a k ≡ entriesBefore t a k = phi-first-is t a (h .placed) k l e in
-      let q : entriesBefore t a (rowCount t a) ≤ 1024 = h .entries in
-      omega arith
 
 module _ (t : List ℕ) (a : ℕ) (m : List ℕ) (b j k : ℕ) (h : Stands t a m b j k) where
   pub row-below : k < rowCount t a
@@ -46,7 +23,7 @@ module _ (t : List ℕ) (a : ℕ) (m : List ℕ) (b j k : ℕ) (h : Stands t a m
   pub place-limit : j < 1024
   place-limit = let l : k < 1024 = row-limit in let e : k ≡ blockFirst t a b + j = h .row in omega arith
 
-  pub phi-limit : rowOp t a k ≡ 31 → phiFirst t a k + phiCount t a k ≤ 1024
+  pub phi-limit : rowOp t a k ≡ phiOp → phiFirst t a k + phiCount t a k ≤ 1024
   phi-limit e = entries-within t a (h .sized) k row-below e
 
   -- the row at the place, by its number

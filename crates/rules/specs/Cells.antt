@@ -6,12 +6,13 @@ use mathlib.Core.Path.{_≡_}
 use mathlib.Core.List.{List}
 use Prim.Native.Nat.{ℕ, _+_, _<_}
 use lib.Dec.{T, eqb, leb, ltb}
-use lib.ListN.{getD}
-use Rattle.language.specs.Instructions.{Form, formOf, uint}
+use Rattle.language.specs.Instructions.{Form, formOf, uint, cmpEqOp, shlOp}
 use Rattle.language.specs.Programs.{Row}
 use Rattle.language.specs.Table.{functionSsa, functionParams, blockCount, blockFirst, blockRows, rowOp, decodeAs, decodeFunction}
 use Rattle.language.specs.Checking.{Spot, inRange}
-use Rattle.rules.specs.Prepared.{Sized, Prepared}
+use Rattle.flow.specs.Layout.{assignmentIn}
+use Rattle.flow.specs.Sized.{Sized}
+use Rattle.flow.specs.Prepared.{Prepared}
 use Rattle.rules.specs.Tests.{lowest, laterTests}
 
 -- Row k of the function at cell a stands at place j of block b, and m is prepared of that function.
@@ -36,14 +37,14 @@ Judged g t a m b j k r =
 
 -- 12 of row k, which assigns register u: a parameter, or first assigned by another row.
 unfoldable pub retaken : List ℕ → ℕ → List ℕ → ℕ → ℕ → Bool
-retaken t a m u k = eqb (functionSsa t a) 1 && (ltb u (functionParams t a) || not (eqb (getD m u 0) (k + 1)))
+retaken t a m u k = eqb (functionSsa t a) 1 && (ltb u (functionParams t a) || not (eqb (assignmentIn m u) (k + 1)))
 
 -- 16 of a row that uses register u: no parameter, and assigned by no row.
 unfoldable pub unset : List ℕ → ℕ → List ℕ → ℕ → Bool
-unset t a m u = eqb (functionSsa t a) 1 && (leb (functionParams t a) u && eqb (getD m u 0) 0)
+unset t a m u = eqb (functionSsa t a) 1 && (leb (functionParams t a) u && eqb (assignmentIn m u) 0)
 
 -- The types of a row with two sources, as `typed` has them.
 unfoldable pub binaryTyped : (op target left right : ℕ) → Bool
 binaryTyped op target left right =
-    cond (ltb op 19) (eqb target left && eqb left right)
-    (cond (ltb op 23) (eqb target left && eqb right uint) (eqb left right && eqb target uint))
+    cond (ltb op shlOp) (eqb target left && eqb left right)
+    (cond (ltb op cmpEqOp) (eqb target left && eqb right uint) (eqb left right && eqb target uint))

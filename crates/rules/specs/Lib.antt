@@ -1,4 +1,2 @@
 pub mod Cells
-pub mod Prepared
-pub mod Preparing
 pub mod Tests

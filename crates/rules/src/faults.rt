@@ -1,19 +1,29 @@
 // 10 to 16 of a row whose numbers are in their ranges. What a test would have to scan the function for is
-// prepared (`prepare`): the first row that assigns a register, a block's leading phi, its number of predecessors.
+// prepared (`flow`): the first row that assigns a register, a block's leading phi, its number of predecessors.
 ghost use mathlib.Core.Path.{_≡_};
-ghost use mathlib.Core.Bool.{false, not, _&&_, _||_, Bool·beq};
+ghost use mathlib.Core.Bool.{false, not, Bool·beq};
 ghost use mathlib.Core.List.{map, [], _∷_};
 ghost use Prim.Native.Nat.{ℕ, _+_, _<_, _≤_};
-ghost use lib.Dec.{T, eqb, leb, ltb};
-ghost use lib.ListN.{length, getD};
+ghost use lib.Dec.{T, eqb};
+ghost use lib.ListN.{length};
 ghost use Rattle.laws.specs.Lists.{all, from};
 ghost use Rattle.language.specs.Instructions.{Form, void};
-ghost use Rattle.language.specs.Table.{functionEntry, functionResult, registerType, rowOp, rowLeft, phiFirst, phiCount, phiEntry, decodeAs, decodeRow, decodeFunction};
+ghost use Rattle.language.specs.Table.{functionResult, registerType, rowOp, rowLeft, phiFirst, phiCount, phiEntry, decodeRow, decodeFunction};
+ghost use Rattle.language.specs.Table.{InTable};
 ghost use Rattle.language.specs.Checking.{inRange, spotAt};
+ghost use Rattle.flow.specs.Layout.{flowLength};
 ghost use Rattle.rules.specs.Tests.{lowest, laterTests, formFault};
 ghost use Rattle.rules.specs.Cells.{Stands, Judged, spot, retaken as retakenBy, unset as unsetBy, binaryTyped};
+ghost use Rattle.instructions.specs.Shapes.{isTerminatorOp};
 use crate::ranges::form_of;
+use flow::assignment;
+use flow::incoming;
+use flow::phis;
+use instructions::forms;
+use instructions::is_terminator;
 use instructions::load_type;
+use instructions::ops;
+use instructions::types;
 use table::block_rows;
 use table::function_entry;
 use table::function_params;
@@ -28,34 +38,20 @@ use table::row_op;
 use table::row_right;
 use table::row_target;
 
-fn wide(x: u16) -> usize
-    ensures { λ r. ⌜ r ≡ x ⌝ }
-{
-    x as usize
-}
-
-// A number of those prepared.
-pub fn at(m: &[u16], i: usize) -> usize
-    requires { ⌜ i < length (now m) ⌝ }
-    ensures { λ r. ⌜ r ≡ getD (now (m .entry)) i 0 ⌝ }
-{
-    wide(m[i])
-}
-
 // 12 of a row k that assigns register u.
 fn retaken(t: &[u8], a: usize, m: &[u16], u: usize, k: usize) -> bool
-    requires { ⌜ (a + 34697 ≤ length (now t)) × (length (now m) ≡ 768) × (u < 256) × (k < 1024) ⌝ }
+    requires { ⌜ (InTable (now t) a) × (length (now m) ≡ flowLength) × (u < 256) × (k < 1024) ⌝ }
     ensures { λ r. ⌜ r ≡ retakenBy (now (t .entry)) a (now (m .entry)) u k ⌝ }
 {
-    (function_ssa(t, a) == 1) & ((u < function_params(t, a)) | (at(m, u) != k + 1))
+    (function_ssa(t, a) == 1) & ((u < function_params(t, a)) | (assignment(m, u) != k + 1))
 }
 
 // 16 of a row that uses register u.
 fn unset(t: &[u8], a: usize, m: &[u16], u: usize) -> bool
-    requires { ⌜ (a + 34697 ≤ length (now t)) × (length (now m) ≡ 768) × (u < 256) ⌝ }
+    requires { ⌜ (InTable (now t) a) × (length (now m) ≡ flowLength) × (u < 256) ⌝ }
     ensures { λ r. ⌜ r ≡ unsetBy (now (t .entry)) a (now (m .entry)) u ⌝ }
 {
-    (function_ssa(t, a) == 1) & ((function_params(t, a) <= u) & (at(m, u) == 0))
+    (function_ssa(t, a) == 1) & ((function_params(t, a) <= u) & (assignment(m, u) == 0))
 }
 
 // The lowest number of those from 11 on whose test holds. A row that is right is tested for all of them, so none is spared.
@@ -87,18 +83,18 @@ fn pick(b11: bool, b12: bool, b13: bool, b14: bool, b15: bool, b16: bool) -> u8
 fn binary_typed(op: u8, target: u8, left: u8, right: u8) -> bool
     ensures { λ r. ⌜ r ≡ binaryTyped op target left right ⌝ }
 {
-    if op < 19 {
+    if op < ops::SHL {
         return (target == left) & (left == right);
     }
-    if op < 23 {
-        return (target == left) & (right == 9);
+    if op < ops::CMP_EQ {
+        return (target == left) & (right == types::UINT);
     }
-    (left == right) & (target == 9)
+    (left == right) & (target == types::UINT)
 }
 
 // Every one of `count` phi entries from `first` on is a register of this type.
 fn entries_typed(t: &[u8], a: usize, first: usize, count: usize, kind: u8) -> bool
-    requires { ⌜ (a + 34697 ≤ length (now t)) × (first + count ≤ 1024) ⌝ }
+    requires { ⌜ (InTable (now t) a) × (first + count ≤ 1024) ⌝ }
     ensures { λ r. ⌜ r ≡ all (λ u. eqb (registerType (now (t .entry)) a u) kind) (map (phiEntry (now (t .entry)) a) (from first count)) ⌝ }
 {
     let mut i = 0;
@@ -113,7 +109,7 @@ fn entries_typed(t: &[u8], a: usize, first: usize, count: usize, kind: u8) -> bo
 
 // None of them breaks 16.
 fn entries_set(t: &[u8], a: usize, m: &[u16], first: usize, count: usize) -> bool
-    requires { ⌜ (a + 34697 ≤ length (now t)) × (length (now m) ≡ 768) × (first + count ≤ 1024) ⌝ }
+    requires { ⌜ (InTable (now t) a) × (length (now m) ≡ flowLength) × (first + count ≤ 1024) ⌝ }
     ensures { λ r. ⌜ r ≡ all (λ u. not (unsetBy (now (t .entry)) a (now (m .entry)) u)) (map (phiEntry (now (t .entry)) a) (from first count)) ⌝ }
 {
     let mut i = 0;
@@ -126,17 +122,17 @@ fn entries_set(t: &[u8], a: usize, m: &[u16], first: usize, count: usize) -> boo
     true
 }
 
-// 10: a terminator (`jump`, number 32, or one after it) anywhere but at the end, or none there.
+// 10: a terminator anywhere but at the end, or none there.
 fn misended(op: u8, last: bool) -> bool
-    ensures { λ r. ⌜ r ≡ not (Bool·beq (leb 32 op) last) ⌝ }
+    ensures { λ r. ⌜ r ≡ not (Bool·beq (isTerminatorOp op) last) ⌝ }
 {
-    (32 <= op) != last
+    is_terminator(op) != last
 }
 
 // The lowest of 11 to 16 that a row of each form breaks.
 
 fn load_fault(t: &[u8], a: usize, m: &[u16], k: usize) -> u8
-    requires { ⌜ (a + 34697 ≤ length (now t)) × (length (now m) ≡ 768) × (k < 1024) ⌝ }
+    requires { ⌜ (InTable (now t) a) × (length (now m) ≡ flowLength) × (k < 1024) ⌝ }
     ensures { λ r. ⌜ ((b j : ℕ) → Judged Form.load (now (t .entry)) a (now (m .entry)) b j k r) ⌝ }
 {
     let target = row_target(t, a, k);
@@ -152,14 +148,14 @@ fn load_fault(t: &[u8], a: usize, m: &[u16], k: usize) -> u8
 }
 
 fn unary_fault(t: &[u8], a: usize, m: &[u16], k: usize) -> u8
-    requires { ⌜ (a + 34697 ≤ length (now t)) × (length (now m) ≡ 768) × (k < 1024) ⌝ }
+    requires { ⌜ (InTable (now t) a) × (length (now m) ≡ flowLength) × (k < 1024) ⌝ }
     ensures { λ r. ⌜ ((b j : ℕ) → Judged Form.unary (now (t .entry)) a (now (m .entry)) b j k r) ⌝ }
 {
     let op = row_op(t, a, k);
     let target = row_target(t, a, k);
     let source = row_left(t, a, k);
-    let wrong = (op != 29) & (register_type(t, a, target) != register_type(t, a, source));
-    let copied = (function_ssa(t, a) == 1) & (op == 30);
+    let wrong = (op != ops::CONV) & (register_type(t, a, target) != register_type(t, a, source));
+    let copied = (function_ssa(t, a) == 1) & (op == ops::COPY);
     pick(
         wrong,
         retaken(t, a, m, target, k),
@@ -171,7 +167,7 @@ fn unary_fault(t: &[u8], a: usize, m: &[u16], k: usize) -> u8
 }
 
 fn binary_fault(t: &[u8], a: usize, m: &[u16], k: usize) -> u8
-    requires { ⌜ (a + 34697 ≤ length (now t)) × (length (now m) ≡ 768) × (k < 1024) ⌝ }
+    requires { ⌜ (InTable (now t) a) × (length (now m) ≡ flowLength) × (k < 1024) ⌝ }
     ensures { λ r. ⌜ ((b j : ℕ) → Judged Form.binary (now (t .entry)) a (now (m .entry)) b j k r) ⌝ }
 {
     let target = row_target(t, a, k);
@@ -196,7 +192,7 @@ fn binary_fault(t: &[u8], a: usize, m: &[u16], k: usize) -> u8
 }
 
 fn phi_fault(t: &[u8], a: usize, m: &[u16], b: usize, j: usize, k: usize) -> u8
-    requires { ⌜ (a + 34697 ≤ length (now t)) × (length (now m) ≡ 768) × (b < 64) × (k < 1024) ⌝ }
+    requires { ⌜ (InTable (now t) a) × (length (now m) ≡ flowLength) × (b < 64) × (k < 1024) ⌝ }
     requires { ⌜ phiFirst (now t) a k + phiCount (now t) a k ≤ 1024 ⌝ }
     ensures { λ r. ⌜ Judged Form.phi (now (t .entry)) a (now (m .entry)) b j k r ⌝ }
 {
@@ -204,8 +200,8 @@ fn phi_fault(t: &[u8], a: usize, m: &[u16], b: usize, j: usize, k: usize) -> u8
     let first = phi_first(t, a, k);
     let count = phi_count(t, a, k);
     let fits = entries_typed(t, a, first, count, register_type(t, a, target));
-    let misplaced = (b == function_entry(t, a)) | (at(m, 576 + b) < j);
-    let miscounted = (count == 0) | (count != at(m, 512 + b));
+    let misplaced = (b == function_entry(t, a)) | (phis(m, b) < j);
+    let miscounted = (count == 0) | (count != incoming(m, b));
     let assigned = entries_set(t, a, m, first, count);
     pick(
         !fits,
@@ -219,7 +215,7 @@ fn phi_fault(t: &[u8], a: usize, m: &[u16], b: usize, j: usize, k: usize) -> u8
 
 // A terminator with a source, which must be of type `kind`.
 fn source_fault(t: &[u8], a: usize, m: &[u16], k: usize, kind: u8) -> u8
-    requires { ⌜ (a + 34697 ≤ length (now t)) × (length (now m) ≡ 768) × (k < 1024) ⌝ }
+    requires { ⌜ (InTable (now t) a) × (length (now m) ≡ flowLength) × (k < 1024) ⌝ }
     ensures { λ r. ⌜ r ≡ lowest 11 (not (eqb (registerType (now (t .entry)) a (rowLeft (now (t .entry)) a k)) kind) ∷ false ∷ false ∷ false ∷ false ∷ unsetBy (now (t .entry)) a (now (m .entry)) (rowLeft (now (t .entry)) a k) ∷ []) ⌝ }
 {
     let source = row_left(t, a, k);
@@ -234,11 +230,11 @@ fn source_fault(t: &[u8], a: usize, m: &[u16], k: usize, kind: u8) -> u8
 }
 
 fn leave_fault(t: &[u8], a: usize) -> u8
-    requires { ⌜ a + 34697 ≤ length (now t) ⌝ }
+    requires { ⌜ InTable (now t) a ⌝ }
     ensures { λ r. ⌜ r ≡ lowest 11 (not (eqb (functionResult (now (t .entry)) a) void) ∷ false ∷ false ∷ false ∷ false ∷ false ∷ []) ⌝ }
 {
     pick(
-        function_result(t, a) != 10,
+        function_result(t, a) != types::VOID,
         false,
         false,
         false,
@@ -249,21 +245,21 @@ fn leave_fault(t: &[u8], a: usize) -> u8
 
 // The lowest of 11 to 16 that row k breaks; `op` is its instruction.
 fn later_fault(t: &[u8], a: usize, m: &[u16], b: usize, j: usize, k: usize, op: u8) -> u8
-    requires { ⌜ (a + 34697 ≤ length (now t)) × (length (now m) ≡ 768) × (b < 64) × (k < 1024) × (op ≡ rowOp (now t) a k) ⌝ }
+    requires { ⌜ (InTable (now t) a) × (length (now m) ≡ flowLength) × (b < 64) × (k < 1024) × (op ≡ rowOp (now t) a k) ⌝ }
     requires { ⌜ Stands (now t) a (now m) b j k × T (inRange (decodeFunction (now t) a) (decodeRow (now t) a k)) ⌝ }
     ensures { λ r. ⌜ r ≡ lowest 11 (laterTests (decodeFunction (now (t .entry)) a) (spot b j (decodeRow (now (t .entry)) a k))) ⌝ }
 {
     let form = form_of(op);
     match form {
-        0 => 0,
-        1 => load_fault(t, a, m, k),
-        2 => unary_fault(t, a, m, k),
-        3 => binary_fault(t, a, m, k),
-        4 => phi_fault(t, a, m, b, j, k),
-        5 => 0,
-        6 => source_fault(t, a, m, k, 9),
-        7 => source_fault(t, a, m, k, function_result(t, a)),
-        8 => leave_fault(t, a),
+        forms::NOP => 0,
+        forms::LOAD => load_fault(t, a, m, k),
+        forms::UNARY => unary_fault(t, a, m, k),
+        forms::BINARY => binary_fault(t, a, m, k),
+        forms::PHI => phi_fault(t, a, m, b, j, k),
+        forms::JUMP => 0,
+        forms::BRANCH => source_fault(t, a, m, k, types::UINT),
+        forms::RETURN => source_fault(t, a, m, k, function_result(t, a)),
+        forms::LEAVE => leave_fault(t, a),
         _ => 9,
     }
 }

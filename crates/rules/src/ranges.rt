@@ -1,17 +1,16 @@
 // 9 of a row: "number outside its range". Only the cells that the row's instruction needs are looked at.
 ghost use mathlib.Core.Path.{_≡_};
-ghost use mathlib.Core.Bool.{_&&_};
 ghost use mathlib.Core.List.{map};
-ghost use Prim.Native.Nat.{_+_, _<_, _≤_, _^_};
+ghost use Prim.Native.Nat.{_+_, _<_, _≤_};
 ghost use lib.Dec.{ltb};
-ghost use lib.ListN.{length};
 ghost use Rattle.laws.specs.Lists.{all, from};
-ghost use Rattle.language.specs.Instructions.{Form, formOf, formNumber, width as widthOf, loadType};
-ghost use Rattle.language.specs.Table.{registerCount, blockCount, rowOp, phiFirst, phiCount, phiEntry, decodeAs, decodeRow, decodeFunction};
+ghost use Rattle.language.specs.Instructions.{Form, formOf, formNumber, phiOp};
+ghost use Rattle.language.specs.Table.{registerCount, blockCount, rowOp, phiFirst, phiCount, phiEntry, decodeAs, decodeRow, decodeFunction, InTable};
 ghost use Rattle.language.specs.Checking.{inRange};
+use instructions::forms;
 use instructions::load_type;
+use instructions::number_fits;
 use instructions::shape_of;
-use instructions::width;
 use table::jump_first;
 use table::jump_second;
 use table::load_number;
@@ -31,20 +30,9 @@ pub fn form_of(op: u8) -> u8
     shape.form
 }
 
-// A load's number is below 2^w.
-fn number_fits(op: u8, n: u64) -> bool
-    ensures { λ r. ⌜ r ≡ ltb n (2 ^ widthOf (loadType op)) ⌝ }
-{
-    let w = width(load_type(op));
-    if w == 64 {
-        return true;
-    }
-    n >> w == 0
-}
-
 // Every one of `count` phi entries from `first` on is a register.
 fn entries_in_range(t: &[u8], a: usize, registers: usize, first: usize, count: usize) -> bool
-    requires { ⌜ (a + 34697 ≤ length (now t)) × (first + count ≤ 1024) ⌝ }
+    requires { ⌜ (InTable (now t) a) × (first + count ≤ 1024) ⌝ }
     ensures { λ r. ⌜ r ≡ all (λ u. ltb u registers) (map (phiEntry (now (t .entry)) a) (from first count)) ⌝ }
 {
     let mut i = 0;
@@ -60,15 +48,15 @@ fn entries_in_range(t: &[u8], a: usize, registers: usize, first: usize, count: u
 // The same test of a row of each form.
 
 fn load_in_range(t: &[u8], a: usize, registers: usize, k: usize, op: u8) -> bool
-    requires { ⌜ (a + 34697 ≤ length (now t)) × (registers ≡ registerCount (now t) a) × (k < 1024) ⌝ }
+    requires { ⌜ (InTable (now t) a) × (registers ≡ registerCount (now t) a) × (k < 1024) ⌝ }
     requires { ⌜ (op ≡ rowOp (now t) a k) × (formOf op ≡ Form.load) ⌝ }
     ensures { λ r. ⌜ r ≡ inRange (decodeFunction (now (t .entry)) a) (decodeAs Form.load (now (t .entry)) a k) ⌝ }
 {
-    (row_target(t, a, k) < registers) & number_fits(op, load_number(t, a, k))
+    (row_target(t, a, k) < registers) & number_fits(load_number(t, a, k), load_type(op))
 }
 
 fn unary_in_range(t: &[u8], a: usize, registers: usize, k: usize) -> bool
-    requires { ⌜ (a + 34697 ≤ length (now t)) × (registers ≡ registerCount (now t) a) × (k < 1024) ⌝ }
+    requires { ⌜ (InTable (now t) a) × (registers ≡ registerCount (now t) a) × (k < 1024) ⌝ }
     requires { ⌜ formOf (rowOp (now t) a k) ≡ Form.unary ⌝ }
     ensures { λ r. ⌜ r ≡ inRange (decodeFunction (now (t .entry)) a) (decodeAs Form.unary (now (t .entry)) a k) ⌝ }
 {
@@ -76,7 +64,7 @@ fn unary_in_range(t: &[u8], a: usize, registers: usize, k: usize) -> bool
 }
 
 fn binary_in_range(t: &[u8], a: usize, registers: usize, k: usize) -> bool
-    requires { ⌜ (a + 34697 ≤ length (now t)) × (registers ≡ registerCount (now t) a) × (k < 1024) ⌝ }
+    requires { ⌜ (InTable (now t) a) × (registers ≡ registerCount (now t) a) × (k < 1024) ⌝ }
     requires { ⌜ formOf (rowOp (now t) a k) ≡ Form.binary ⌝ }
     ensures { λ r. ⌜ r ≡ inRange (decodeFunction (now (t .entry)) a) (decodeAs Form.binary (now (t .entry)) a k) ⌝ }
 {
@@ -86,7 +74,7 @@ fn binary_in_range(t: &[u8], a: usize, registers: usize, k: usize) -> bool
 }
 
 fn phi_in_range(t: &[u8], a: usize, registers: usize, k: usize) -> bool
-    requires { ⌜ (a + 34697 ≤ length (now t)) × (registers ≡ registerCount (now t) a) × (k < 1024) ⌝ }
+    requires { ⌜ (InTable (now t) a) × (registers ≡ registerCount (now t) a) × (k < 1024) ⌝ }
     requires { ⌜ phiFirst (now t) a k + phiCount (now t) a k ≤ 1024 ⌝ }
     ensures { λ r. ⌜ r ≡ inRange (decodeFunction (now (t .entry)) a) (decodeAs Form.phi (now (t .entry)) a k) ⌝ }
 {
@@ -95,14 +83,14 @@ fn phi_in_range(t: &[u8], a: usize, registers: usize, k: usize) -> bool
 }
 
 fn jump_in_range(t: &[u8], a: usize, blocks: usize, k: usize) -> bool
-    requires { ⌜ (a + 34697 ≤ length (now t)) × (blocks ≡ blockCount (now t) a) × (k < 1024) ⌝ }
+    requires { ⌜ (InTable (now t) a) × (blocks ≡ blockCount (now t) a) × (k < 1024) ⌝ }
     ensures { λ r. ⌜ r ≡ inRange (decodeFunction (now (t .entry)) a) (decodeAs Form.jump (now (t .entry)) a k) ⌝ }
 {
     jump_first(t, a, k) < blocks
 }
 
 fn branch_in_range(t: &[u8], a: usize, registers: usize, blocks: usize, k: usize) -> bool
-    requires { ⌜ (a + 34697 ≤ length (now t)) × (registers ≡ registerCount (now t) a) × (blocks ≡ blockCount (now t) a) × (k < 1024) ⌝ }
+    requires { ⌜ (InTable (now t) a) × (registers ≡ registerCount (now t) a) × (blocks ≡ blockCount (now t) a) × (k < 1024) ⌝ }
     ensures { λ r. ⌜ r ≡ inRange (decodeFunction (now (t .entry)) a) (decodeAs Form.branch (now (t .entry)) a k) ⌝ }
 {
     (row_left(t, a, k) < registers)
@@ -111,7 +99,7 @@ fn branch_in_range(t: &[u8], a: usize, registers: usize, blocks: usize, k: usize
 }
 
 fn return_in_range(t: &[u8], a: usize, registers: usize, k: usize) -> bool
-    requires { ⌜ (a + 34697 ≤ length (now t)) × (registers ≡ registerCount (now t) a) × (k < 1024) ⌝ }
+    requires { ⌜ (InTable (now t) a) × (registers ≡ registerCount (now t) a) × (k < 1024) ⌝ }
     ensures { λ r. ⌜ r ≡ inRange (decodeFunction (now (t .entry)) a) (decodeAs Form.return (now (t .entry)) a k) ⌝ }
 {
     row_left(t, a, k) < registers
@@ -120,22 +108,22 @@ fn return_in_range(t: &[u8], a: usize, registers: usize, k: usize) -> bool
 // Row k of the function at cell a has no number outside its range. The function's two counts are handed in, since every row
 // is tested against them.
 pub fn in_range(t: &[u8], a: usize, registers: usize, blocks: usize, k: usize) -> bool
-    requires { ⌜ (a + 34697 ≤ length (now t)) × (registers ≡ registerCount (now t) a) × (blocks ≡ blockCount (now t) a) × (k < 1024) ⌝ }
-    requires { ⌜ (rowOp (now t) a k ≡ 31 → phiFirst (now t) a k + phiCount (now t) a k ≤ 1024) ⌝ }
+    requires { ⌜ (InTable (now t) a) × (registers ≡ registerCount (now t) a) × (blocks ≡ blockCount (now t) a) × (k < 1024) ⌝ }
+    requires { ⌜ (rowOp (now t) a k ≡ phiOp → phiFirst (now t) a k + phiCount (now t) a k ≤ 1024) ⌝ }
     ensures { λ r. ⌜ r ≡ inRange (decodeFunction (now (t .entry)) a) (decodeRow (now (t .entry)) a k) ⌝ }
 {
     let op = row_op(t, a, k);
     let form = form_of(op);
     match form {
-        0 => true,
-        1 => load_in_range(t, a, registers, k, op),
-        2 => unary_in_range(t, a, registers, k),
-        3 => binary_in_range(t, a, registers, k),
-        4 => phi_in_range(t, a, registers, k),
-        5 => jump_in_range(t, a, blocks, k),
-        6 => branch_in_range(t, a, registers, blocks, k),
-        7 => return_in_range(t, a, registers, k),
-        8 => true,
+        forms::NOP => true,
+        forms::LOAD => load_in_range(t, a, registers, k, op),
+        forms::UNARY => unary_in_range(t, a, registers, k),
+        forms::BINARY => binary_in_range(t, a, registers, k),
+        forms::PHI => phi_in_range(t, a, registers, k),
+        forms::JUMP => jump_in_range(t, a, blocks, k),
+        forms::BRANCH => branch_in_range(t, a, registers, blocks, k),
+        forms::RETURN => return_in_range(t, a, registers, k),
+        forms::LEAVE => true,
         _ => false,
     }
 }

@@ -1,13 +1,13 @@
 -- `distinct` of a list that grows at its end: the new name against those before it. Assumes nothing.
-use mathlib.Core.Bool.{Bool, true, false, not, _&&_, _||_, and-true, and-false, and-assoc, or-assoc, or-true, or-false, false≢true}
+use mathlib.Core.Bool.{Bool, true, false, not, _&&_, _||_, and-true, and-false, and-assoc, or-true, or-false}
 use mathlib.Core.List.{List, [], _∷_, _++_}
 use mathlib.Core.Path.{_≡_, refl, sym, ap, _∙_, subst}
 use Prim.Native.Nat.{ℕ}
 use lib.Dec.{T}
 use lib.Ieee.Fits.{and-i, and-l, and-r}
 use Rattle.laws.specs.Lists.{any, empty, same}
-use Rattle.laws.proofs.Joining.{any-both, same-sym}
-use Rattle.laws.proofs.Positions.{same-eq}
+use Rattle.laws.proofs.Joining.{any-both}
+use Rattle.laws.proofs.Positions.{same-eq, same-sym}
 use Rattle.laws.proofs.Tests.{of-true}
 use Rattle.language.specs.Checking.{distinct}
 

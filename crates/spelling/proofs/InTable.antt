@@ -1,20 +1,16 @@
 -- The names of a table one by one: the list of them grows at its end, and a test of all of them with it.
 -- Assumes nothing.
-use mathlib.Core.Bool.{Bool, true, false, not, _&&_, _||_, and-true, and-assoc}
+use mathlib.Core.Bool.{Bool, true, false, _&&_}
 use mathlib.Core.List.{List, [], _∷_, _++_, map}
-use mathlib.Core.Path.{_≡_, refl, sym, ap, _∙_}
-use Prim.Native.Nat.{ℕ, zero, suc, _+_, _-_, _*_, _≤_, _<_}
-use native.Mathlib.Nat.{mul-suc, mul-le-mul-left, zero-add}
+use mathlib.Core.Path.{_≡_, sym, ap, _∙_}
+use Prim.Native.Nat.{ℕ, _+_, _-_, _*_, _≤_, _<_}
+use native.Mathlib.Nat.{zero-add}
 use native.Mathlib.Omega.{arith}
 use Rattle.laws.specs.Lists.{all, from}
 use Rattle.laws.proofs.Joining.{all-both}
 use Rattle.laws.proofs.Ranges.{map-from-append}
 use Rattle.language.specs.Table.{nameAt}
 use Rattle.spelling.specs.Names.{namesIn}
-
--- name i ends before name i + 1 begins
-pub room : (stride : ℕ) {i count : ℕ} → i < count → stride * i + stride ≤ stride * count
-room stride {i} h = rw (← mul-suc stride i) (mul-le-mul-left stride h)
 
 module _ (t : List ℕ) (at stride : ℕ) where
   abbrev pub name : ℕ → List ℕ

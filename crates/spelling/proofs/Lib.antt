@@ -1,4 +1,4 @@
-pub mod Chaining
 pub mod Distinct
 pub mod InTable
-pub mod Spells
+pub mod NamesLaws
+pub mod TwiceLaws

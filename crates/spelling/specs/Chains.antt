@@ -31,7 +31,7 @@ pub record Met (t : List ℕ) (at stride : ℕ) (name : List ℕ) (x : ℕ) (bef
   pub unmet : r ≡ false → (j : ℕ) → Chained before x j → same (nameAt t (at + stride * j)) name ≡ false
 
 -- the chains have every name before i that has bytes
-pub record Kept (t : List ℕ) (at stride i : ℕ) (last before : List ℕ) : Type 0 where
+pub record ChainsKept (t : List ℕ) (at stride i : ℕ) (last before : List ℕ) : Type 0 where
   pub lasts : length last ≡ 512
   pub befores : length before ≡ 256
   pub falling : Falling before
@@ -41,4 +41,4 @@ pub record Kept (t : List ℕ) (at stride i : ℕ) (last before : List ℕ) : Ty
 -- r tells whether name i is one of those before it; if not, the chains have it too
 pub record Added (t : List ℕ) (at stride i : ℕ) (last before : List ℕ) (r : Bool) : Type 0 where
   pub clashes : r ≡ not (fresh t at stride i)
-  pub kept : r ≡ false → Kept t at stride (i + 1) last before
+  pub kept : r ≡ false → ChainsKept t at stride (i + 1) last before

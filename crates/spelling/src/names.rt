@@ -2,20 +2,18 @@
 ghost use mathlib.Core.Path.{_≡_};
 ghost use mathlib.Core.List.{foldl};
 ghost use Prim.Native.Nat.{_+_, _*_, _≤_};
-ghost use lib.ListN.{length, getD};
+ghost use lib.ListN.{length};
 ghost use Rattle.laws.specs.Lists.{all};
 ghost use Rattle.language.specs.Names.{Spelling, spell, whole, spelled as spelledOf};
 ghost use Rattle.language.specs.Checking.{spelledOrNone};
 ghost use Rattle.lexer.specs.Lexing.{classTable};
 ghost use Rattle.spelling.specs.Names.{Begins, closing, namesIn};
+use instructions::words;
+use table::MAX_NAME;
 use table::name_at;
 use table::wide;
 
 // "A name has 1 to 64 bytes so counted."
-const MAX_NAME: usize = 64;
-
-// The number that `lexer::word` gives where bytes spell no word.
-const NO_WORD: u8 = 52;
 
 // Whether name characters alone follow a first byte that begins a plain name.
 fn plain(name: &[u8], classes: &[u8; 256]) -> bool
@@ -92,7 +90,7 @@ pub fn spelled(name: &[u8], classes: &[u8; 256]) -> bool
     if !whole_name(name, classes) {
         return false;
     }
-    lexer::word(name) == NO_WORD
+    lexer::word(name) == words::COUNT
 }
 
 // "Registers and blocks may have a name of no bytes"; any other is one that a text can spell.

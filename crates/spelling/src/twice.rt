@@ -5,7 +5,7 @@ ghost use Prim.Native.Nat.{_+_, _*_, _<_, _≤_};
 ghost use lib.ListN.{length};
 ghost use Rattle.language.specs.Checking.{distinct};
 ghost use Rattle.spelling.specs.Names.{namesIn};
-ghost use Rattle.spelling.specs.Chains.{Falling, Met, Kept, Added};
+ghost use Rattle.spelling.specs.Chains.{Falling, Met, ChainsKept, Added};
 use crate::hashes::hash;
 use table::name_at;
 use table::same;
@@ -41,7 +41,7 @@ fn clashes(
     last: &mut [u16],
     before: &mut [u16],
 ) -> bool
-    requires { ⌜ (at + stride * i + 256 ≤ length (now t)) × (i < 256) × Kept (now t) at stride i (now last) (now before) ⌝ }
+    requires { ⌜ (at + stride * i + 256 ≤ length (now t)) × (i < 256) × ChainsKept (now t) at stride i (now last) (now before) ⌝ }
     ensures { λ r. ⌜ Added (now (t .entry)) at stride i (now (last .exit)) (now (before .exit)) r ⌝ }
 {
     let name = name_at(t, at + stride * i);

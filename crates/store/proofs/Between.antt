@@ -7,9 +7,9 @@ use lib.ListN.{length, replicate, length-append, length-replicate, replicate-app
 use lib.Seq.{sets}
 use Rattle.laws.specs.Lists.{gather}
 use Rattle.laws.proofs.Storing.{sets-over, pad-is}
-use Rattle.laws.proofs.Sums.{gather-append}
+use Rattle.laws.proofs.Appending.{gather-append}
 use Rattle.language.specs.Table.{eightBytes}
-use Rattle.numbers.proofs.Moving.{inserted}
+use Rattle.numbers.proofs.MovesLaws.{inserted}
 use Rattle.records.specs.declared.Record.{Record}
 use Rattle.records.specs.Stores.{capacity, storeLength, recordCells, storeCells}
 use Rattle.records.proofs.Cells.{length-record, length-records, length-before, length-front, front, front-between}

@@ -12,11 +12,11 @@ use borrow.Author.Tests.{lt-ltb, le-ltb, ltb-true, eqb-true, ltb-false, eqb-fals
 use Rattle.laws.specs.Lists.{position, below, from}
 use Rattle.laws.proofs.Positions.{position-of}
 use Rattle.records.specs.declared.Record.{Record}
-use Rattle.records.specs.Stores.{Found, Among, Holds, recordAt, countOf, recordsOf}
+use Rattle.records.specs.Stores.{FoundRecord, Among, Holds, recordAt, countOf, recordsOf}
 use Rattle.records.specs.Answers.{Looked, LookedIn}
 use Rattle.records.proofs.Placing.{Placed, Absent, placed, rising-at, lookup-known, lookup-new}
 use Rattle.records.proofs.Cells.{noRecord, held-count, held-record}
-use Rattle.store.specs.Places.{Sorted, Place, standsAt, lookedAt}
+use Rattle.store.specs.Places.{Sorted, FirstPlace, standsAt, lookedAt}
 
 -- ---- a place and what stands there
 
@@ -48,7 +48,7 @@ module _ {s : List ℕ} {es : List Record} (h : Holds s es) where
       let x = rising-at es noRecord (h .rising) i j l m in
       rw (ap (λ (r : Record). r .appliance) p, ap (λ (r : Record). r .appliance) q) x
 
-  pub placed-held : (n a p : ℕ) → n ≡ countOf s → Place s n a p → Placed a es noRecord p
+  pub placed-held : (n a p : ℕ) → n ≡ countOf s → FirstPlace s n a p → Placed a es noRecord p
   placed-held n a p c k =
       let e : n ≡ length es = c ∙ held-count h in
       let first : p ≡ position (λ i. leb a (recordAt s i .appliance)) (below n) = k .first (rw e sorted-held) in
@@ -72,7 +72,7 @@ among-records s i l =
     let e : 0 + i ≡ i = omega arith in
     subst (λ (m : ℕ). Among (recordAt s m) (map (recordAt s) (below (countOf s)))) e (among-from (recordAt s) 0 (countOf s) i l)
 
-module _ (s : List ℕ) (n a p : ℕ) (c : n ≡ countOf s) (k : Place s n a p) where
+module _ (s : List ℕ) (n a p : ℕ) (c : n ≡ countOf s) (k : FirstPlace s n a p) where
   pub looked-there : standsAt s n p a ≡ true → LookedIn s a (Looked.looked (lookedAt s p))
   unfolding lookedAt
   looked-there t =
@@ -83,7 +83,7 @@ module _ (s : List ℕ) (n a p : ℕ) (c : n ≡ countOf s) (k : Place s n a p) 
         held = λ es h.
             let m : p < length es = omega (arith, held-count h) in
             let e = held-record h noRecord p m in
-            ap (λ (r : Record). Looked.looked (Found.found r)) e
+            ap (λ (r : Record). Looked.looked (FoundRecord.found r)) e
             ∙ ap Looked.looked (sym (lookup-known a es noRecord p (placed-held h n a p c k) m (ap (λ (r : Record). r .appliance) (sym e) ∙ there .1)));
         among = inr (recordAt s p, (refl, (among-records s p l, there .1)));
       })

@@ -1,6 +1,6 @@
-pub mod Readings
-pub mod Putting
-pub mod Halving
-pub mod Finding
 pub mod Between
-pub mod Keeping
+pub mod CellsLaws
+pub mod Finding
+pub mod InsertingLaws
+pub mod SearchLaws
+pub mod WinnerLaws

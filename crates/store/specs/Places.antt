@@ -5,7 +5,7 @@ use mathlib.Core.Path.{_≡_}
 use Prim.Native.Nat.{ℕ, _+_, _<_, _≤_}
 use lib.Dec.{ltb, leb, eqb}
 use Rattle.laws.specs.Lists.{position, below}
-use Rattle.records.specs.Stores.{Found, recordAt, countOf}
+use Rattle.records.specs.Stores.{FoundRecord, recordAt, countOf}
 
 -- The first n appliance numbers rise.
 abbrev pub Sorted : List ℕ → ℕ → Type 0
@@ -16,7 +16,7 @@ unfoldable pub pastOf : List ℕ → ℕ → ℕ → ℕ → ℕ
 pastOf s lo m a = cond (ltb (recordAt s m .appliance) a) (m + 1) lo
 
 -- r is the first place whose appliance number is not smaller than a; of numbers that do not rise only that it is a place or n.
-pub record Place (s : List ℕ) (n a r : ℕ) : Type 0 where
+pub record FirstPlace (s : List ℕ) (n a r : ℕ) : Type 0 where
   pub within : r ≤ n
   pub first : Sorted s n → r ≡ position (λ i. leb a (recordAt s i .appliance)) (below n)
 
@@ -25,5 +25,5 @@ unfoldable pub standsAt : List ℕ → ℕ → ℕ → ℕ → Bool
 standsAt s n p a = ltb p n && eqb (recordAt s p .appliance) a
 
 -- What a place says: a record, or from the count on none.
-unfoldable pub lookedAt : List ℕ → ℕ → Found
-lookedAt s p = cond (ltb p (countOf s)) (Found.found (recordAt s p)) Found.none
+unfoldable pub lookedAt : List ℕ → ℕ → FoundRecord
+lookedAt s p = cond (ltb p (countOf s)) (FoundRecord.found (recordAt s p)) FoundRecord.none

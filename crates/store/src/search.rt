@@ -4,7 +4,7 @@ ghost use Prim.Native.Nat.{_+_, _*_, _≤_};
 ghost use lib.ListN.{length};
 ghost use Rattle.records.specs.Stores.{storeLength};
 ghost use Rattle.records.specs.Answers.{Looked, LookedIn};
-ghost use Rattle.store.specs.Places.{Place, pastOf, standsAt, lookedAt};
+ghost use Rattle.store.specs.Places.{FirstPlace, pastOf, standsAt, lookedAt};
 use crate::cells::appliance_at;
 use crate::cells::count;
 
@@ -22,7 +22,7 @@ fn past(s: &[u8], lo: usize, m: usize, a: u64) -> usize
 // Where a record of appliance a stands or would stand among the first n: at lo or one of the `left` places behind it, which are halved.
 pub fn place(s: &[u8], n: usize, a: u64) -> usize
     requires { ⌜ 8 + 40 * n ≤ length (now s) ⌝ }
-    ensures { λ r. ⌜ Place (now (s .entry)) n a r ⌝ }
+    ensures { λ r. ⌜ FirstPlace (now (s .entry)) n a r ⌝ }
 {
     let mut lo = 0;
     let mut left = n;

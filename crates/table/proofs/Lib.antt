@@ -1,3 +1,2 @@
 pub mod Digits
-pub mod Stored
-pub mod Tails
+pub mod NamesLaws

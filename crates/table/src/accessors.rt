@@ -1,12 +1,32 @@
 // The accessors of `language`'s Table, each under its definition's name. Counts, registers, blocks and rows are `usize` with
 // their bound, instructions, types and the ssa mark `u8`.
 ghost use mathlib.Core.Path.{_≡_};
-ghost use Prim.Native.Nat.{_+_, _<_, _≤_};
+ghost use Prim.Native.Nat.{_<_, _≤_};
 ghost use lib.ListN.{length};
-ghost use Rattle.language.specs.Table.{functionCount, functionSsa, functionResult, functionParams, registerCount, blockCount, functionEntry, functionName};
+ghost use Rattle.language.specs.Table.{functionCount, functionSsa, functionResult, functionParams, registerCount, blockCount, functionEntry, functionName, InTable};
 ghost use Rattle.language.specs.Table.{registerType, registerName, blockFirst, blockRows, blockName};
 ghost use Rattle.language.specs.Table.{rowOp, rowTarget, rowLeft, rowRight, loadNumber, jumpFirst, jumpSecond, phiFirst, phiCount, phiEntry};
 use crate::cells::name_at;
+use crate::layout::BLOCK_COUNT_OFFSET;
+use crate::layout::BLOCK_LENGTH;
+use crate::layout::BLOCK_NAMES_OFFSET;
+use crate::layout::BLOCK_ROWS_OFFSET;
+use crate::layout::BLOCKS_OFFSET;
+use crate::layout::ENTRIES_OFFSET;
+use crate::layout::ENTRY_OFFSET;
+use crate::layout::LEFTS_OFFSET;
+use crate::layout::NAME_OFFSET;
+use crate::layout::OPERANDS_OFFSET;
+use crate::layout::PARAMS_OFFSET;
+use crate::layout::REGISTER_COUNT_OFFSET;
+use crate::layout::REGISTER_LENGTH;
+use crate::layout::REGISTER_NAMES_OFFSET;
+use crate::layout::REGISTERS_OFFSET;
+use crate::layout::RESULT_OFFSET;
+use crate::layout::RIGHTS_OFFSET;
+use crate::layout::ROW_LENGTH;
+use crate::layout::ROWS_OFFSET;
+use crate::layout::TARGETS_OFFSET;
 use numbers::eight_at;
 use numbers::two_at;
 use numbers::wide;
@@ -19,161 +39,161 @@ pub fn function_count(t: &[u8]) -> usize
 }
 
 pub fn function_ssa(t: &[u8], a: usize) -> u8
-    requires { ⌜ a + 34697 ≤ length (now t) ⌝ }
+    requires { ⌜ InTable (now t) a ⌝ }
     ensures { λ r. ⌜ r ≡ functionSsa (now (t .entry)) a ⌝ }
 {
     t[a]
 }
 
 pub fn function_result(t: &[u8], a: usize) -> u8
-    requires { ⌜ a + 34697 ≤ length (now t) ⌝ }
+    requires { ⌜ InTable (now t) a ⌝ }
     ensures { λ r. ⌜ r ≡ functionResult (now (t .entry)) a ⌝ }
 {
-    t[a + 1]
+    t[a + RESULT_OFFSET]
 }
 
 pub fn function_params(t: &[u8], a: usize) -> usize
-    requires { ⌜ a + 34697 ≤ length (now t) ⌝ }
+    requires { ⌜ InTable (now t) a ⌝ }
     ensures { λ r. ⌜ (r ≡ functionParams (now (t .entry)) a) × (r < 65536) ⌝ }
 {
-    two_at(t, a + 2)
+    two_at(t, a + PARAMS_OFFSET)
 }
 
 pub fn register_count(t: &[u8], a: usize) -> usize
-    requires { ⌜ a + 34697 ≤ length (now t) ⌝ }
+    requires { ⌜ InTable (now t) a ⌝ }
     ensures { λ r. ⌜ (r ≡ registerCount (now (t .entry)) a) × (r < 65536) ⌝ }
 {
-    two_at(t, a + 4)
+    two_at(t, a + REGISTER_COUNT_OFFSET)
 }
 
 pub fn block_count(t: &[u8], a: usize) -> usize
-    requires { ⌜ a + 34697 ≤ length (now t) ⌝ }
+    requires { ⌜ InTable (now t) a ⌝ }
     ensures { λ r. ⌜ (r ≡ blockCount (now (t .entry)) a) × (r < 256) ⌝ }
 {
-    wide(t[a + 6])
+    wide(t[a + BLOCK_COUNT_OFFSET])
 }
 
 pub fn function_entry(t: &[u8], a: usize) -> usize
-    requires { ⌜ a + 34697 ≤ length (now t) ⌝ }
+    requires { ⌜ InTable (now t) a ⌝ }
     ensures { λ r. ⌜ (r ≡ functionEntry (now (t .entry)) a) × (r < 256) ⌝ }
 {
-    wide(t[a + 7])
+    wide(t[a + ENTRY_OFFSET])
 }
 
 pub fn function_name(t: &[u8], a: usize) -> &[u8]
-    requires { ⌜ a + 34697 ≤ length (now t) ⌝ }
+    requires { ⌜ InTable (now t) a ⌝ }
     ensures { λ r. ⌜ now r ≡ functionName (now (t .entry)) a ⌝ }
 {
-    name_at(t, a + 8)
+    name_at(t, a + NAME_OFFSET)
 }
 
 // Registers.
 
 pub fn register_type(t: &[u8], a: usize, r: usize) -> u8
-    requires { ⌜ (a + 34697 ≤ length (now t)) × (r < 256) ⌝ }
+    requires { ⌜ (InTable (now t) a) × (r < 256) ⌝ }
     ensures { λ n. ⌜ n ≡ registerType (now (t .entry)) a r ⌝ }
 {
-    t[a + 73 + 66 * r]
+    t[a + REGISTERS_OFFSET + REGISTER_LENGTH * r]
 }
 
 pub fn register_name(t: &[u8], a: usize, r: usize) -> &[u8]
-    requires { ⌜ (a + 34697 ≤ length (now t)) × (r < 256) ⌝ }
+    requires { ⌜ (InTable (now t) a) × (r < 256) ⌝ }
     ensures { λ n. ⌜ now n ≡ registerName (now (t .entry)) a r ⌝ }
 {
-    name_at(t, a + 74 + 66 * r)
+    name_at(t, a + REGISTER_NAMES_OFFSET + REGISTER_LENGTH * r)
 }
 
 // Blocks.
 
 pub fn block_first(t: &[u8], a: usize, b: usize) -> usize
-    requires { ⌜ (a + 34697 ≤ length (now t)) × (b < 64) ⌝ }
+    requires { ⌜ (InTable (now t) a) × (b < 64) ⌝ }
     ensures { λ r. ⌜ (r ≡ blockFirst (now (t .entry)) a b) × (r < 65536) ⌝ }
 {
-    two_at(t, a + 16969 + 69 * b)
+    two_at(t, a + BLOCKS_OFFSET + BLOCK_LENGTH * b)
 }
 
 pub fn block_rows(t: &[u8], a: usize, b: usize) -> usize
-    requires { ⌜ (a + 34697 ≤ length (now t)) × (b < 64) ⌝ }
+    requires { ⌜ (InTable (now t) a) × (b < 64) ⌝ }
     ensures { λ r. ⌜ (r ≡ blockRows (now (t .entry)) a b) × (r < 65536) ⌝ }
 {
-    two_at(t, a + 16971 + 69 * b)
+    two_at(t, a + BLOCK_ROWS_OFFSET + BLOCK_LENGTH * b)
 }
 
 pub fn block_name(t: &[u8], a: usize, b: usize) -> &[u8]
-    requires { ⌜ (a + 34697 ≤ length (now t)) × (b < 64) ⌝ }
+    requires { ⌜ (InTable (now t) a) × (b < 64) ⌝ }
     ensures { λ r. ⌜ now r ≡ blockName (now (t .entry)) a b ⌝ }
 {
-    name_at(t, a + 16973 + 69 * b)
+    name_at(t, a + BLOCK_NAMES_OFFSET + BLOCK_LENGTH * b)
 }
 
 // Rows, and the three readings of their eight operand cells: a load's number, the blocks of a jump, where a phi's entries stand.
 
 pub fn row_op(t: &[u8], a: usize, r: usize) -> u8
-    requires { ⌜ (a + 34697 ≤ length (now t)) × (r < 1024) ⌝ }
+    requires { ⌜ (InTable (now t) a) × (r < 1024) ⌝ }
     ensures { λ n. ⌜ n ≡ rowOp (now (t .entry)) a r ⌝ }
 {
-    t[a + 21385 + 12 * r]
+    t[a + ROWS_OFFSET + ROW_LENGTH * r]
 }
 
 pub fn row_target(t: &[u8], a: usize, r: usize) -> usize
-    requires { ⌜ (a + 34697 ≤ length (now t)) × (r < 1024) ⌝ }
+    requires { ⌜ (InTable (now t) a) × (r < 1024) ⌝ }
     ensures { λ n. ⌜ (n ≡ rowTarget (now (t .entry)) a r) × (n < 256) ⌝ }
 {
-    wide(t[a + 21386 + 12 * r])
+    wide(t[a + TARGETS_OFFSET + ROW_LENGTH * r])
 }
 
 pub fn row_left(t: &[u8], a: usize, r: usize) -> usize
-    requires { ⌜ (a + 34697 ≤ length (now t)) × (r < 1024) ⌝ }
+    requires { ⌜ (InTable (now t) a) × (r < 1024) ⌝ }
     ensures { λ n. ⌜ (n ≡ rowLeft (now (t .entry)) a r) × (n < 256) ⌝ }
 {
-    wide(t[a + 21387 + 12 * r])
+    wide(t[a + LEFTS_OFFSET + ROW_LENGTH * r])
 }
 
 pub fn row_right(t: &[u8], a: usize, r: usize) -> usize
-    requires { ⌜ (a + 34697 ≤ length (now t)) × (r < 1024) ⌝ }
+    requires { ⌜ (InTable (now t) a) × (r < 1024) ⌝ }
     ensures { λ n. ⌜ (n ≡ rowRight (now (t .entry)) a r) × (n < 256) ⌝ }
 {
-    wide(t[a + 21388 + 12 * r])
+    wide(t[a + RIGHTS_OFFSET + ROW_LENGTH * r])
 }
 
 pub fn load_number(t: &[u8], a: usize, r: usize) -> u64
-    requires { ⌜ (a + 34697 ≤ length (now t)) × (r < 1024) ⌝ }
+    requires { ⌜ (InTable (now t) a) × (r < 1024) ⌝ }
     ensures { λ n. ⌜ n ≡ loadNumber (now (t .entry)) a r ⌝ }
 {
-    eight_at(t, a + 21389 + 12 * r)
+    eight_at(t, a + OPERANDS_OFFSET + ROW_LENGTH * r)
 }
 
 pub fn jump_first(t: &[u8], a: usize, r: usize) -> usize
-    requires { ⌜ (a + 34697 ≤ length (now t)) × (r < 1024) ⌝ }
+    requires { ⌜ (InTable (now t) a) × (r < 1024) ⌝ }
     ensures { λ n. ⌜ (n ≡ jumpFirst (now (t .entry)) a r) × (n < 256) ⌝ }
 {
-    wide(t[a + 21389 + 12 * r])
+    wide(t[a + OPERANDS_OFFSET + ROW_LENGTH * r])
 }
 
 pub fn jump_second(t: &[u8], a: usize, r: usize) -> usize
-    requires { ⌜ (a + 34697 ≤ length (now t)) × (r < 1024) ⌝ }
+    requires { ⌜ (InTable (now t) a) × (r < 1024) ⌝ }
     ensures { λ n. ⌜ (n ≡ jumpSecond (now (t .entry)) a r) × (n < 256) ⌝ }
 {
-    wide(t[a + 21390 + 12 * r])
+    wide(t[a + (OPERANDS_OFFSET + 1) + ROW_LENGTH * r])
 }
 
 pub fn phi_first(t: &[u8], a: usize, r: usize) -> usize
-    requires { ⌜ (a + 34697 ≤ length (now t)) × (r < 1024) ⌝ }
+    requires { ⌜ (InTable (now t) a) × (r < 1024) ⌝ }
     ensures { λ n. ⌜ (n ≡ phiFirst (now (t .entry)) a r) × (n < 65536) ⌝ }
 {
-    two_at(t, a + 21389 + 12 * r)
+    two_at(t, a + OPERANDS_OFFSET + ROW_LENGTH * r)
 }
 
 pub fn phi_count(t: &[u8], a: usize, r: usize) -> usize
-    requires { ⌜ (a + 34697 ≤ length (now t)) × (r < 1024) ⌝ }
+    requires { ⌜ (InTable (now t) a) × (r < 1024) ⌝ }
     ensures { λ n. ⌜ (n ≡ phiCount (now (t .entry)) a r) × (n < 65536) ⌝ }
 {
-    two_at(t, a + 21391 + 12 * r)
+    two_at(t, a + (OPERANDS_OFFSET + 2) + ROW_LENGTH * r)
 }
 
 pub fn phi_entry(t: &[u8], a: usize, k: usize) -> usize
-    requires { ⌜ (a + 34697 ≤ length (now t)) × (k < 1024) ⌝ }
+    requires { ⌜ (InTable (now t) a) × (k < 1024) ⌝ }
     ensures { λ r. ⌜ (r ≡ phiEntry (now (t .entry)) a k) × (r < 256) ⌝ }
 {
-    wide(t[a + 33673 + k])
+    wide(t[a + ENTRIES_OFFSET + k])
 }

@@ -5,7 +5,12 @@ ghost use mathlib.Core.List.{[], _∷_};
 ghost use Prim.Native.Nat.{_+_, _*_, _<_, _≤_};
 ghost use lib.ListN.{length};
 ghost use lib.Seq.{sets};
-ghost use Rattle.language.specs.Table.{eightBytes};
+ghost use Rattle.language.specs.Table.{eightBytes, InTable, entriesOffset, registerLength, registersOffset, rowLength, rowsOffset};
+use crate::layout::ENTRIES_OFFSET;
+use crate::layout::REGISTER_LENGTH;
+use crate::layout::REGISTERS_OFFSET;
+use crate::layout::ROW_LENGTH;
+use crate::layout::ROWS_OFFSET;
 use numbers::put_bytes;
 use numbers::put_eight;
 
@@ -20,15 +25,15 @@ pub fn put_name(t: &mut [u8], k: usize, name: &[u8])
 
 // Register r: its type and its name.
 pub fn put_register(t: &mut [u8], a: usize, r: usize, kind: u8, name: &[u8])
-    requires { ⌜ (a + 34697 ≤ length (now t)) × (r < 256) × (length (now name) ≤ 64) ⌝ }
-    ensures { λ _. ⌜ now (t .exit) ≡ sets (now (t .entry)) (a + 73 + 66 * r) (kind ∷ length (now (name .entry)) ∷ now (name .entry)) ⌝ }
+    requires { ⌜ (InTable (now t) a) × (r < 256) × (length (now name) ≤ 64) ⌝ }
+    ensures { λ _. ⌜ now (t .exit) ≡ sets (now (t .entry)) (a + registersOffset + registerLength * r) (kind ∷ length (now (name .entry)) ∷ now (name .entry)) ⌝ }
 {
-    let k = a + 73 + 66 * r;
+    let k = a + REGISTERS_OFFSET + REGISTER_LENGTH * r;
     t[k] = kind;
     put_name(t, k + 1, name);
 }
 
-// Row r, all its 12 cells.
+// Row r, all its cells.
 pub fn put_row(
     t: &mut [u8],
     a: usize,
@@ -39,11 +44,11 @@ pub fn put_row(
     right: usize,
     operand: u64,
 )
-    requires { ⌜ (a + 34697 ≤ length (now t)) × (r < 1024) ⌝ }
+    requires { ⌜ (InTable (now t) a) × (r < 1024) ⌝ }
     requires { ⌜ (target < 256) × (left < 256) × (right < 256) ⌝ }
-    ensures { λ _. ⌜ now (t .exit) ≡ sets (now (t .entry)) (a + 21385 + 12 * r) (op ∷ target ∷ left ∷ right ∷ eightBytes operand) ⌝ }
+    ensures { λ _. ⌜ now (t .exit) ≡ sets (now (t .entry)) (a + rowsOffset + rowLength * r) (op ∷ target ∷ left ∷ right ∷ eightBytes operand) ⌝ }
 {
-    let k = a + 21385 + 12 * r;
+    let k = a + ROWS_OFFSET + ROW_LENGTH * r;
     t[k] = op;
     t[k + 1] = target as u8;
     t[k + 2] = left as u8;
@@ -53,8 +58,8 @@ pub fn put_row(
 
 // Phi entry k, a register.
 pub fn put_entry(t: &mut [u8], a: usize, k: usize, register: usize)
-    requires { ⌜ (a + 34697 ≤ length (now t)) × (k < 1024) × (register < 256) ⌝ }
-    ensures { λ _. ⌜ now (t .exit) ≡ sets (now (t .entry)) (a + 33673 + k) (register ∷ []) ⌝ }
+    requires { ⌜ (InTable (now t) a) × (k < 1024) × (register < 256) ⌝ }
+    ensures { λ _. ⌜ now (t .exit) ≡ sets (now (t .entry)) (a + entriesOffset + k) (register ∷ []) ⌝ }
 {
-    t[a + 33673 + k] = register as u8;
+    t[a + ENTRIES_OFFSET + k] = register as u8;
 }

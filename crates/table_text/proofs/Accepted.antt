@@ -6,7 +6,7 @@ use native.Mathlib.Omega.{arith}
 use borrow.Author.Tests.{eq-eqb}
 use lib.Dec.{ltb, ltb→lt}
 use lib.ListN.{length}
-use Rattle.laws.proofs.Appending.{all-at}
+use Rattle.laws.proofs.Indexing.{all-at}
 use Rattle.language.specs.Instructions.{typeCount}
 use Rattle.language.specs.Programs.{noRegister}
 use Rattle.language.specs.Table.{tableLength, functionCount, functionAt, decodeFunction, decode}
@@ -14,9 +14,9 @@ use Rattle.language.specs.Checking.{Verdict, check}
 use Rattle.language.specs.Answers.{checkAnswer}
 use Rattle.theorems.specs.Clean.{Clean}
 use Rattle.theorems.proofs.AcceptanceCheck.{sound-parts}
-use Rattle.theorems.proofs.TableView.{register-count, type-is}
-use Rattle.rules.specs.Prepared.{Sized}
-use Rattle.rules.proofs.Accepted.{accepted-count, accepted-clean, accepted-sized}
+use Rattle.language.proofs.TableView.{register-count, type-is}
+use Rattle.flow.specs.Sized.{Sized}
+use Rattle.flow.proofs.Accepted.{accepted-count, accepted-clean, accepted-sized}
 use Rattle.head_text.specs.Heads.{Declared}
 
 -- an accepted function's head and registers
@@ -32,7 +32,7 @@ declared {t} {a} sized clean =
       types =
           λ r h.
           subst (λ (k : ℕ). k < typeCount) (type-is t a r h)
-          (ltb→lt _ typeCount (all-at (λ x. ltb (x .type) typeCount) noRegister (decodeFunction t a .registers) (sound .types) r (omega (arith, h, register-count t a))));
+          (ltb→lt _ typeCount (all-at (λ x. ltb (x .type) typeCount) (decodeFunction t a .registers) r noRegister (sound .types) (omega (arith, h, register-count t a))));
     }
 
 -- ---- the functions of an accepted table

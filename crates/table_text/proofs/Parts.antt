@@ -5,14 +5,15 @@ use mathlib.Core.List.{List, [], _∷_, _++_, map, append-nil}
 use Prim.Native.Nat.{ℕ, _-_}
 use lib.ListN.{length, drop}
 use Rattle.laws.specs.Lists.{gather, from, below}
-use Rattle.laws.proofs.Sums.{gather-append, gather-map, gather-gather}
+use Rattle.laws.proofs.Sums.{gather-map, gather-gather}
+use Rattle.laws.proofs.Appending.{gather-append}
 use Rattle.laws.proofs.ByNumber.{gather-dropped}
 use Rattle.language.specs.Programs.{Func, noRegister}
 use Rattle.language.specs.Bytes.{bytesOf}
 use Rattle.language.specs.Writing.{bytesFor, lineBytes, closing, blockLines, registerLine, headLine, functionLines, linesOf, textOf}
 use Rattle.language.specs.Table.{functionCount, functionAt, functionParams, registerCount, decodeFunction, decode}
 use Rattle.language.specs.MadeNames.{namedFunction, named, written}
-use Rattle.theorems.proofs.TableView.{register-count}
+use Rattle.language.proofs.TableView.{register-count}
 use Rattle.naming.proofs.Filled.{filled-registers}
 use Rattle.head_text.specs.Heads.{registerBytes}
 

@@ -4,12 +4,12 @@ ghost use lib.ListN.{length};
 ghost use Rattle.laws.specs.Lists.{gather};
 ghost use Rattle.language.specs.Checking.{Verdict, check};
 ghost use Rattle.language.specs.MadeNames.{namedFunction, written};
-ghost use Rattle.language.specs.Table.{decodeFunction, decode};
+ghost use Rattle.language.specs.Table.{decodeFunction, decode, tableLength};
 ghost use Rattle.language.specs.Writing.{lineBytes, functionLines};
 ghost use Rattle.theorems.specs.Clean.{Clean};
-ghost use Rattle.rules.specs.Prepared.{Sized};
+ghost use Rattle.flow.specs.Sized.{Sized};
 ghost use Rattle.page.specs.Page.{page, puts};
-ghost use Rattle.row_text.specs.Ready.{Ready};
+ghost use Rattle.row_text.specs.Ready.{TextReady};
 ghost use Rattle.head_text.specs.Heads.{Declared};
 use head_text::put_head;
 use head_text::put_registers;
@@ -17,10 +17,8 @@ use naming::number_blocks;
 use naming::number_registers;
 use page::put_part;
 use row_text::put_blocks;
+use table::function_at;
 use table::function_count;
-
-// The cells of a function in a table.
-const FUNCTION: usize = 34697;
 
 // All lines of the function at cell a; `registers` and `blocks` hold the numbers of its made names.
 fn put_lines(
@@ -31,7 +29,7 @@ fn put_lines(
     out: &mut [u8],
     at: usize,
 ) -> usize
-    requires { ⌜ Declared (now t) a × Ready (now t) a (now registers) (now blocks) ⌝ }
+    requires { ⌜ Declared (now t) a × TextReady (now t) a (now registers) (now blocks) ⌝ }
     ensures { λ p. ⌜ page (now (out .exit)) p ≡ puts (page (now (out .entry)) at) (gather lineBytes (functionLines (namedFunction (decodeFunction (now (t .entry)) a)))) ⌝ }
 {
     let head = put_head(t, a, registers, out, at);
@@ -54,14 +52,14 @@ fn put_function(t: &[u8], a: usize, out: &mut [u8], at: usize) -> usize
 
 // The text of an accepted table.
 pub fn put_table(out: &mut [u8], at: usize, t: &[u8]) -> usize
-    requires { ⌜ (length (now t) ≡ 555153) × (check (decode (now t)) ≡ Verdict.accepted) ⌝ }
+    requires { ⌜ (length (now t) ≡ tableLength) × (check (decode (now t)) ≡ Verdict.accepted) ⌝ }
     ensures { λ p. ⌜ page (now (out .exit)) p ≡ puts (page (now (out .entry)) at) (written (decode (now (t .entry)))) ⌝ }
 {
     let n = function_count(t);
     let mut p = at;
     let mut i = 0;
     while i < n {
-        p = put_function(t, 1 + FUNCTION * i, out, p);
+        p = put_function(t, function_at(i), out, p);
         i += 1;
     }
     p

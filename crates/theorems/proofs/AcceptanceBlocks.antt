@@ -18,7 +18,8 @@ use Rattle.language.specs.Running.{phisOf, phiTarget, entryAt}
 use Rattle.language.specs.Translating.{keptOf, phiBlocks, newRegister, retargeted, retarget, copyRow, edgeRows, edgesTo, keptBlock, translation}
 use Rattle.theorems.specs.Clean.{Clean}
 use Rattle.theorems.proofs.AcceptanceRows.{names-last, kept-split, InRange, Ended, ended-last, Source, source-rows, source-ended, source-phis}
-use Rattle.theorems.proofs.AcceptanceNumbers.{type-kept, kept-lt, new-lt, type-new, block-lt, retargeted-lt}
+use Rattle.theorems.proofs.AcceptanceNumbers.{kept-lt, new-lt, type-new, block-lt, retargeted-lt}
+use Rattle.theorems.proofs.SimulationBlocks.{type-kept}
 
 -- A row that breaks neither 9 nor 11.
 pub record Fine (t : Func) (r : Row) : Type 0 where
@@ -88,13 +89,13 @@ module _ (f : Func) (x : ℕ) where
   retarget-phi r = ap (λ k. k .4) (retarget-keeps r)
 
 -- A row of block x that is kept: it is no phi, and names only targets of x.
-record Kept (f : Func) (x : ℕ) (r : Row) : Type 0 where
+record KeptRow (f : Func) (x : ℕ) (r : Row) : Type 0 where
   plain : T (not (isPhi r))
   source : Source f x r
   targets : Every (λ y. goesTo f x y ≡ true) (namedBy r)
 
 module _ (f : Func) (x : ℕ) (l : x < length (f .blocks)) where
-  kept-fine : (r : Row) → Kept f x r → Fine (translation f) (retarget f x r)
+  kept-fine : (r : Row) → KeptRow f x r → Fine (translation f) (retarget f x r)
   kept-fine r k =
       let same = retarget-keeps f x r in
       let range = k .source .range in

@@ -3,11 +3,11 @@
 use mathlib.Core.Path.{_≡_, refl, ap, _∙_, subst}
 use mathlib.Core.Bool.{Bool, true, false, cond, not}
 use mathlib.Core.List.{List, [], _∷_, map, map-eq-nil-iff}
-use Prim.Native.Nat.{ℕ, zero, suc, _+_, _≤_, _<_, suc-le-suc}
+use Prim.Native.Nat.{ℕ, zero, suc, _+_, _-_, _≤_, _<_, suc-le-suc}
 use native.Mathlib.Nat.{not-suc-le-zero, le-of-suc-le-suc, zero-add, add-zero, zero-lt-suc, add-suc, suc-add}
 use native.Mathlib.Omega.{arith}
 use native.Mathlib.Decide.{decLt}
-use lib.Dec.{T, eqb, ltb, leb→le, le→leb, lit<, lit≤}
+use lib.Dec.{T, eqb, ltb, ltb→lt, leb→le, le→leb, lit≤}
 use lib.Ieee.Bits.{is-true}
 use lib.Ieee.Fits.{and-l, and-r, and-i}
 use lib.ListN.{length, getD, List·getD-eq-default}
@@ -32,37 +32,12 @@ module _ (f : Func) (s : Spot) where
   unfolding breaksRow
   tests-pass h = every-none (λ b. b) (rowTests f s) h
 
-  pub passes9 : breaksRow f s ≡ false → breaks9 f s ≡ false
+  -- number n of 9 to 16
+  pub passes-each :
+      breaksRow f s ≡ false → (n : ℕ) → T (ltb (n - 9) 8)
+      → getD (breaks9 f s ∷ breaks10 f s ∷ breaks11 f s ∷ breaks12 f s ∷ breaks13 f s ∷ breaks14 f s ∷ breaks15 f s ∷ breaks16 f s ∷ []) (n - 9) false ≡ false
   unfolding rowTests
-  passes9 h = every-at (tests-pass h) false 0 (lit< tt)
-
-  pub passes10 : breaksRow f s ≡ false → breaks10 f s ≡ false
-  unfolding rowTests
-  passes10 h = every-at (tests-pass h) false 1 (lit< tt)
-
-  pub passes11 : breaksRow f s ≡ false → breaks11 f s ≡ false
-  unfolding rowTests
-  passes11 h = every-at (tests-pass h) false 2 (lit< tt)
-
-  pub passes12 : breaksRow f s ≡ false → breaks12 f s ≡ false
-  unfolding rowTests
-  passes12 h = every-at (tests-pass h) false 3 (lit< tt)
-
-  pub passes13 : breaksRow f s ≡ false → breaks13 f s ≡ false
-  unfolding rowTests
-  passes13 h = every-at (tests-pass h) false 4 (lit< tt)
-
-  pub passes14 : breaksRow f s ≡ false → breaks14 f s ≡ false
-  unfolding rowTests
-  passes14 h = every-at (tests-pass h) false 5 (lit< tt)
-
-  pub passes15 : breaksRow f s ≡ false → breaks15 f s ≡ false
-  unfolding rowTests
-  passes15 h = every-at (tests-pass h) false 6 (lit< tt)
-
-  pub passes16 : breaksRow f s ≡ false → breaks16 f s ≡ false
-  unfolding rowTests
-  passes16 h = every-at (tests-pass h) false 7 (lit< tt)
+  passes-each h n l = every-at (tests-pass h) false (n - 9) (ltb→lt (n - 9) 8 l)
 
   pub passes :
       breaks9 f s ≡ false
@@ -267,13 +242,13 @@ faults-of-clean : (f : Func) → Clean f → Every (λ l. l ≡ []) (faults f)
 unfolding faults
 faults-of-clean f c =
     let row : (b j : ℕ) → j < length (rowsAt f b) → breaksRow f (spotAt f b j) ≡ false = c .rows in
-    more (faults10-none f (c .filled) (λ b j l. passes10 f (spotAt f b j) (row b j l)))
-    (more (rows-none f (breaks11 f) (λ b j l. passes11 f (spotAt f b j) (row b j l)))
-    (more (rows-none f (breaks12 f) (λ b j l. passes12 f (spotAt f b j) (row b j l)))
-    (more (rows-none f (breaks13 f) (λ b j l. passes13 f (spotAt f b j) (row b j l)))
-    (more (rows-none f (breaks14 f) (λ b j l. passes14 f (spotAt f b j) (row b j l)))
-    (more (rows-none f (breaks15 f) (λ b j l. passes15 f (spotAt f b j) (row b j l)))
-    (more (rows-none f (breaks16 f) (λ b j l. passes16 f (spotAt f b j) (row b j l)))
+    more (faults10-none f (c .filled) (λ b j l. passes-each f (spotAt f b j) (row b j l) 10 tt))
+    (more (rows-none f (breaks11 f) (λ b j l. passes-each f (spotAt f b j) (row b j l) 11 tt))
+    (more (rows-none f (breaks12 f) (λ b j l. passes-each f (spotAt f b j) (row b j l) 12 tt))
+    (more (rows-none f (breaks13 f) (λ b j l. passes-each f (spotAt f b j) (row b j l) 13 tt))
+    (more (rows-none f (breaks14 f) (λ b j l. passes-each f (spotAt f b j) (row b j l) 14 tt))
+    (more (rows-none f (breaks15 f) (λ b j l. passes-each f (spotAt f b j) (row b j l) 15 tt))
+    (more (rows-none f (breaks16 f) (λ b j l. passes-each f (spotAt f b j) (row b j l) 16 tt))
     (more (rows-none f (breaks17 f) (c .paths)) none)))))))
 
 -- A verdict behind a test, or behind another verdict.

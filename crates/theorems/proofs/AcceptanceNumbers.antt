@@ -7,36 +7,28 @@ use Prim.Native.Nat.{ℕ, _+_, _≤_, _<_}
 use native.Mathlib.Nat.{add-assoc}
 use native.Mathlib.Omega.{arith}
 use lib.Dec.{eqb}
-use lib.ListN.{length, getD, List·getD-append}
+use lib.ListN.{length, getD}
 use lib.Seq.{getD-append-add}
 use Rattle.laws.specs.Lists.{keep, below, member}
-use Rattle.laws.proofs.Gather.{keep-gather, length-gather, getD-gather, sum-take-le}
+use Rattle.laws.proofs.Gather.{keep-gather, getD-gather}
 use Rattle.laws.proofs.Indexing.{position-lt, getD-map}
 use Rattle.laws.proofs.Every.{member-below, member-keep}
 use Rattle.laws.proofs.Sums.{sum-keep, sum-below-le}
 use Rattle.language.specs.Programs.{Row, Func, noRegister, noBlock, rowsAt, typeAt, rowsOf, isPhi, hasPhi}
 use Rattle.language.specs.Checking.{goesTo, predecessors}
 use Rattle.language.specs.Running.{phisOf, phiTarget}
-use Rattle.language.specs.Translating.{phiBlocks, phisBefore, pairsBefore, newRegister, edgeOf, retargeted, registerFor, translation, phiCount, pairCount, translatedRegisters, translatedBlocks}
+use Rattle.language.specs.Translating.{phiBlocks, phisBefore, pairsBefore, newRegister, edgeOf, retargeted, registerFor, translation, phiTotal, pairCount, translatedRegisters, translatedBlocks}
+use Rattle.theorems.proofs.SimulationBlocks.{phis-fit}
 use Rattle.theorems.proofs.Size.{size-registers, size-blocks}
 
 module _ (f : Func) where
   -- ---- registers
-
-  pub type-kept : (r : ℕ) → r < length (f .registers) → typeAt (translation f) r ≡ typeAt f r
-  unfolding translation
-  type-kept r l =
-      ap (λ k. k .type) (List·getD-append (f .registers) (map (registerFor f) (phisOf (rowsOf f))) noRegister r l)
 
   pub kept-lt : (r : ℕ) → r < length (f .registers) → r < length (translation f .registers)
   unfolding translatedRegisters
   kept-lt r l = omega (arith, size-registers f)
 
   module _ (y : ℕ) (l : y < length (f .blocks)) where
-    phis-fit : phisBefore f y + length (phisOf (rowsAt f y)) ≤ phiCount f
-    unfolding phisBefore phiCount phisOf rowsOf
-    phis-fit = rw (keep-gather, length-gather) (sum-take-le (λ b. length (phisOf (b .rows))) (f .blocks) y noBlock l)
-
     -- The i-th phi of block y.
     module _ (i : ℕ) (m : i < length (phisOf (rowsAt f y))) where
       phi-at : getD (phisOf (rowsOf f)) (phisBefore f y + i) Row.nop ≡ getD (phisOf (rowsAt f y)) i Row.nop
@@ -45,13 +37,13 @@ module _ (f : Func) where
 
       pub new-lt : newRegister f y + i < length (translation f .registers)
       unfolding newRegister translatedRegisters
-      new-lt = omega (arith, phis-fit, size-registers f)
+      new-lt = omega (arith, phis-fit f y l, size-registers f)
 
       pub type-new : typeAt (translation f) (newRegister f y + i) ≡ typeAt f (phiTarget (getD (phisOf (rowsAt f y)) i Row.nop))
-      unfolding newRegister translation registerFor phiCount
+      unfolding newRegister translation registerFor phiTotal
       type-new =
           let k = phisBefore f y + i in
-          let q : k < length (phisOf (rowsOf f)) = omega (arith, phis-fit) in
+          let q : k < length (phisOf (rowsOf f)) = omega (arith, phis-fit f y l) in
           let news = map (registerFor f) (phisOf (rowsOf f)) in
           ap (λ n. typeAt (translation f) n) (add-assoc (length (f .registers)) (phisBefore f y) i)
           ∙ ap (λ r. r .type) (getD-append-add (f .registers) news k noRegister)

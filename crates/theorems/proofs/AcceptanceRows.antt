@@ -6,22 +6,23 @@ use mathlib.Core.List.{List, [], _∷_, _++_}
 use Prim.Native.Nat.{ℕ, zero, suc, _<_, suc-le-suc}
 use native.Mathlib.Nat.{not-suc-le-zero, le-of-suc-le-suc, zero-lt-suc}
 use native.Mathlib.Omega.{arith}
-use borrow.Author.Tests.{ne-eqb, not-true}
+use borrow.Author.Tests.{ne-eqb}
 use lib.Dec.{T, eqb, ltb, ltb→lt, eqb→eq, eqb·suc-suc, not-T}
 use lib.Ieee.Bits.{is-true}
 use lib.Ieee.Fits.{and-l, and-r, and-i}
 use lib.ListN.{length, getD, length-append}
-use Rattle.laws.specs.Lists.{all, below, empty}
+use Rattle.laws.specs.Lists.{empty}
 use Rattle.laws.proofs.Tests.{of-not-false, beq-eq}
-use Rattle.laws.proofs.Every.{Every, none, more, every-append, every-of, every-imp, every-all, every-below-at, every-keep, every-under, all-under}
+use Rattle.laws.proofs.Every.{Every, none, more, every-append, every-of, every-imp, every-all, every-keep, every-under, all-under}
 use Rattle.laws.proofs.Gather.{keep-append}
-use Rattle.language.specs.Instructions.{Form, formOf, formNumber, instructionCount}
+use Rattle.language.specs.Instructions.{formOf, formNumber, instructionCount}
 use Rattle.language.specs.Programs.{Row, Func, rowsAt, typeAt, isPhi, isTerminator, targetsOf, sourcesOf, entriesOf, namedBy}
 use Rattle.language.specs.Checking.{Spot, spotAt, breaksRow, lastRow, predecessors, shaped, numberFits, inRange, typed, breaks9, breaks10, breaks11, breaks15}
 use Rattle.language.specs.Running.{phiTarget, phisOf}
 use Rattle.language.specs.Translating.{keptOf}
 use Rattle.theorems.specs.Clean.{Clean}
-use Rattle.theorems.proofs.AcceptanceCheck.{passes9, passes10, passes11, passes15}
+use Rattle.language.proofs.FormLaws.{form-within}
+use Rattle.theorems.proofs.AcceptanceCheck.{passes-each}
 
 -- ---- phi and terminators
 
@@ -69,19 +70,6 @@ entries-none Row.leave e = refl
 entries-none (Row.unknown op) e = refl
 
 -- ---- 9 of a row, in parts
-
--- An instruction's number is of a known form.
-known-forms : T (all (λ n. not (eqb (formNumber (formOf n)) 9)) (below 36))
-unfolding formOf
-known-forms = tt
-
-known-form : (op : ℕ) → op < 36 → eqb (formNumber (formOf op)) 9 ≡ false
-known-form op h =
-    let passes = every-below-at 36 (every-all (λ n. not (eqb (formNumber (formOf n)) 9)) (below 36) known-forms) op h in
-    not-true (eqb (formNumber (formOf op)) 9) (is-true (not (eqb (formNumber (formOf op)) 9)) passes)
-
-pub no-unknown : (op : ℕ) → op < 36 → formOf op ≡ Form.unknown → ⊥
-no-unknown op h e = true≢false (sym (ap (λ (g : Form). eqb (formNumber g) 9) e) ∙ known-form op h)
 
 pub record InRange (f : Func) (r : Row) : Type 0 where
   pub shape : T (shaped r)
@@ -196,24 +184,24 @@ counted-of false b c e h = absurd h
 module _ (f : Func) (s : Spot) (e : breaksRow f s ≡ false) where
   pub in-range : InRange f (s .row)
   unfolding breaks9
-  in-range = range-parts f (s .row) (of-not-false (inRange f (s .row)) (passes9 f s e))
+  in-range = range-parts f (s .row) (of-not-false (inRange f (s .row)) (passes-each f s e 9 tt))
 
   pub terminates : isTerminator (s .row) ≡ eqb (suc (s .index)) (length (rowsAt f (s .block)))
   unfolding breaks10
   terminates =
       let b = eqb (suc (s .index)) (length (rowsAt f (s .block))) in
-      beq-eq (isTerminator (s .row)) b (of-not-false (Bool·beq (isTerminator (s .row)) b) (passes10 f s e))
+      beq-eq (isTerminator (s .row)) b (of-not-false (Bool·beq (isTerminator (s .row)) b) (passes-each f s e 10 tt))
 
   pub well-typed : T (typed f (s .row))
   unfolding breaks11
-  well-typed = of-not-false (typed f (s .row)) (passes11 f s e)
+  well-typed = of-not-false (typed f (s .row)) (passes-each f s e 11 tt)
 
   pub entry-each : T (isPhi (s .row)) → length (entriesOf (s .row)) ≡ length (predecessors f (s .block))
   unfolding breaks15
   entry-each h =
       let es = entriesOf (s .row) in
       let n = length (predecessors f (s .block)) in
-      eqb→eq (length es) n (counted-of (isPhi (s .row)) (empty es) (eqb (length es) n) (passes15 f s e) h)
+      eqb→eq (length es) n (counted-of (isPhi (s .row)) (empty es) (eqb (length es) n) (passes-each f s e 15 tt) h)
 
 -- A row that is no instruction breaks 9.
 pub unknown-out : (f : Func) (op : ℕ) → T (inRange f (Row.unknown op)) → ⊥
@@ -222,7 +210,8 @@ unknown-out f op h =
     let form = eqb (formNumber (formOf op)) 9 in
     let s : T (ltb op instructionCount && form) = range-parts f (Row.unknown op) h .shape in
     let l = ltb→lt op instructionCount (and-l (ltb op instructionCount) form s) in
-    subst T (known-form op l) (and-r (ltb op instructionCount) form s)
+    let n = eqb→eq (formNumber (formOf op)) 9 (and-r (ltb op instructionCount) form s) in
+    omega (arith, form-within op l)
 
 -- A row of block y, by 9, 11 and 15.
 pub record Source (f : Func) (y : ℕ) (r : Row) : Type 0 where

@@ -15,7 +15,7 @@ use Rattle.language.specs.Answers.{checkAnswer, signatureAnswer}
 use Rattle.language.proofs.Paths.{missing-sound, missing-complete}
 use Rattle.theorems.specs.Clean.{Clean}
 use Rattle.theorems.specs.Accepted.{namesBefore, RulesHold, AcceptedExactly, TableAcceptedExactly, SignatureAccepted}
-use Rattle.theorems.proofs.TableView.{function-count}
+use Rattle.language.proofs.TableView.{function-count}
 use Rattle.theorems.proofs.Judged.{accepted-each}
 use Rattle.theorems.proofs.AcceptanceCheck.{in-blocks, sound-parts, parts-sound, tested, clean-of-check, sound-of-check, check-of-clean}
 

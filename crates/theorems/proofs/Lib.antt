@@ -5,7 +5,6 @@ pub mod TableBytes
 pub mod TableZero
 pub mod Table
 pub mod TableIgnored
-pub mod TableView
 pub mod Judged
 pub mod AcceptanceCheck
 pub mod Accepted

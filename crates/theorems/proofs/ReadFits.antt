@@ -16,12 +16,12 @@ use Rattle.laws.specs.Sections.{Bytes}
 use Rattle.laws.proofs.Every.{Every, none, more, every-append, every-left, every-at, every-map, every-all}
 use Rattle.laws.proofs.Positions.{position-le}
 use Rattle.laws.proofs.Sections.{bytes-append, byte-at}
-use Rattle.laws.proofs.Sums.{gather-append}
+use Rattle.laws.proofs.Appending.{gather-append}
 use Rattle.language.specs.Instructions.{Form, formOf, width, signed, loadType}
 use Rattle.language.specs.Programs.{Row, Register, Block, Func, Program, noRegister, noBlock, noFunction, rowsOf, entryCount, opOf, formIn, targetsOf, sourcesOf, entriesOf, maxText, maxFunctions, maxRegisters, maxBlocks, maxRows, maxEntries}
 use Rattle.language.specs.Tokens.{Token, Found, token, stray, tokensOf}
 use Rattle.language.specs.Grammar.{Stage, Act, gram}
-use Rattle.language.specs.Reading.{Parts, Mention, Draft, Outcome, Parse, Reading, openFunction, rowCount, phiEntries, functionNumber, registerNumber, blockNumber, inRange, bitsOf, rowAs, rowOf, resolveRow, resolveBlock, resolve, undeclared, ifResolved, beginFunction, markSsa, setResult, nameFunction, beginRegister, nameRegister, beginBlock, nameBlock, endBlock, beginInstruction, setTarget, setInstruction, addSource, addEntry, addMention, setNumber, endInstruction, endFunction, perform, onward, take, parse₀, finish, read}
+use Rattle.language.specs.Reading.{Parts, Mention, Draft, ActOutcome, Parse, Reading, openFunction, draftRows, phiEntries, functionNumber, registerNumber, blockNumber, numberInRange, bitsOf, rowAs, rowOf, resolveRow, resolveBlock, resolve, undeclared, ifResolved, beginFunction, markSsa, setResult, nameFunction, beginRegister, nameRegister, beginBlock, nameBlock, endBlock, beginInstruction, setTarget, setInstruction, addSource, addEntry, addMention, setNumber, endInstruction, endFunction, performAct, afterAct, takeToken, parse₀, finish, read}
 use Rattle.language.proofs.NameLaws.{isSpelled, names-spelled}
 use Rattle.language.proofs.ReadingLaws.{read-by-tokens}
 use Rattle.theorems.specs.Statements.{ReadBack}
@@ -75,21 +75,21 @@ record DraftFits (d : Draft) : Type 0 where
   parts : PartsFit (d .parts)
 
 -- The draft that an act proceeds to fits.
-abbrev After : Outcome → Type 0
-After (Outcome.refuse n p) = Unit {0}
-After (Outcome.proceed d) = DraftFits d
+abbrev After : ActOutcome → Type 0
+After (ActOutcome.refuse n p) = Unit {0}
+After (ActOutcome.proceed d) = DraftFits d
 
 -- ---- tests before an act
 
-room : (b : Bool) (o : Outcome) (n p : ℕ) → (b ≡ true → After o) → After (cond b o (Outcome.refuse n p))
+room : (b : Bool) (o : ActOutcome) (n p : ℕ) → (b ≡ true → After o) → After (cond b o (ActOutcome.refuse n p))
 room true o n p h = h refl
 room false o n p h = tt
 
-new : (b : Bool) (o : Outcome) (n p : ℕ) → After o → After (cond b (Outcome.refuse n p) o)
+new : (b : Bool) (o : ActOutcome) (n p : ℕ) → After o → After (cond b (ActOutcome.refuse n p) o)
 new true o n p h = tt
 new false o n p h = h
 
-resolved : (ms : List Mention) (o : Outcome) → After o → After (ifResolved ms o)
+resolved : (ms : List Mention) (o : ActOutcome) → After o → After (ifResolved ms o)
 resolved [] o h = h
 resolved (m ∷ ms) o h = tt
 
@@ -105,8 +105,8 @@ one-byte x h = (h, tt)
 -- ---- the instruction in hand
 
 -- A number in a load's range is kept in 64 bits.
-bits-small : (t : ℕ) (s : Bool) (v : ℕ) → inRange t s v ≡ true → bitsOf t s v < 2 ^ 64
-unfolding inRange bitsOf
+bits-small : (t : ℕ) (s : Bool) (v : ℕ) → numberInRange t s v ≡ true → bitsOf t s v < 2 ^ 64
+unfolding numberInRange bitsOf
 bits-small t true v e = lt-of-lt-of-le (mod-lt (2 ^ width t - v) (pow-pos (width t))) (pow-mono (width-most t))
 bits-small t false v e = by (signed t) e
   where
@@ -272,8 +272,8 @@ module _ (d : Draft) (h : DraftFits d) where
   unfolding entryCount
   entries-now = ap entriesIn (open-rows d)
 
-  rows-now : rowCount d ≡ length (rowsIn d)
-  unfolding rowCount
+  rows-now : draftRows d ≡ length (rowsIn d)
+  unfolding draftRows
   rows-now = ap length (open-rows d)
 
   fewer : entriesIn (rowsIn d) + length {A = ℕ} [] ≤ maxEntries
@@ -404,13 +404,13 @@ module _ (d : Draft) (h : DraftFits d) where
 
   after-beginInstruction : (op : ℕ) → op < 256 → (p : ℕ) → After (beginInstruction op p d)
   unfolding beginInstruction
-  after-beginInstruction op l p = room (ltb (rowCount d) maxRows) _ 5 p (λ e. with-parts _ (d .mentions) (no-parts op l 0 (lit< tt)) fewer)
+  after-beginInstruction op l p = room (ltb (draftRows d) maxRows) _ 5 p (λ e. with-parts _ (d .mentions) (no-parts op l 0 (lit< tt)) fewer)
 
   after-setTarget : (n : List ℕ) (p : ℕ) → After (setTarget n p d)
   unfolding setTarget
   after-setTarget n p =
       let r = registerNumber (d .function) n in
-      room (ltb (rowCount d) maxRows) _ 5 p
+      room (ltb (draftRows d) maxRows) _ 5 p
       (λ e. room (ltb r (length (d .function .registers))) _ 7 p
       (λ g. with-parts _ (d .mentions) (no-parts 0 (lit< tt) r (register-small n g)) fewer))
 
@@ -466,7 +466,7 @@ module _ (d : Draft) (h : DraftFits d) where
   after-setNumber s v p =
       let x = h .parts in
       let t = loadType (d .parts .op) in
-      room (inRange t s v) _ 4 p
+      room (numberInRange t s v) _ 4 p
       (λ e. with-parts _ (d .mentions)
       (record { op = x .op; target = x .target; sources = x .sources; entries = x .entries; number = bits-small t s v e })
       (h .entryCount))
@@ -477,13 +477,13 @@ module _ (d : Draft) (h : DraftFits d) where
       let row = rowOf (d .parts) in
       let rs = rowsIn d in
       let longer : closed (d .function) ++ (d .block .rows ++ (row ∷ [])) ≡ rs ++ (row ∷ []) = sym (append-assoc (closed (d .function)) (d .block .rows) (row ∷ [])) in
-      room (ltb (rowCount d) maxRows) _ 5 p
+      room (ltb (draftRows d) maxRows) _ 5 p
       (λ e. record {
         count = h .count;
         functions = h .functions;
         function = h .function;
         block = h .block;
-        rowCount = rw longer (omega (arith, ltb-true (rowCount d) maxRows e, rows-now, length-append rs (row ∷ [])));
+        rowCount = rw longer (omega (arith, ltb-true (draftRows d) maxRows e, rows-now, length-append rs (row ∷ [])));
         rows = rw longer (every-append (h .rows) (more (row-held (d .parts) (h .parts)) none));
         entryCount = rw longer (omega (arith, h .entryCount, entries-append rs (row ∷ []), row-entries (d .parts)));
         parts = no-parts 0 (lit< tt) 0 (lit< tt);
@@ -524,8 +524,8 @@ module _ (d : Draft) (h : DraftFits d) where
 
   -- ---- every act, every token
 
-  after-perform : (a : Act) → ActFits a → (p : ℕ) → After (perform a p d)
-  unfolding perform beginFunction beginRegister beginBlock
+  after-perform : (a : Act) → ActFits a → (p : ℕ) → After (performAct a p d)
+  unfolding performAct beginFunction beginRegister beginBlock
   after-perform Act.wrong k p = tt
   after-perform Act.pass k p = h
   after-perform Act.beginFunction k p = room (ltb (length (d .functions)) maxFunctions) _ 5 p (λ e. h)
@@ -552,9 +552,9 @@ abbrev ParseFits : Parse → Type 0
 ParseFits (Parse.refused n p) = Unit {0}
 ParseFits (Parse.reading s d) = StageFits s × DraftFits d
 
-after-onward : (s : Stage) → StageFits s → (o : Outcome) → After o → ParseFits (onward s o)
-after-onward s k (Outcome.refuse n p) h = tt
-after-onward s k (Outcome.proceed d) h = (k, h)
+after-onward : (s : Stage) → StageFits s → (o : ActOutcome) → After o → ParseFits (afterAct s o)
+after-onward s k (ActOutcome.refuse n p) h = tt
+after-onward s k (ActOutcome.proceed d) h = (k, h)
 
 -- A name that is found is spelled, so that it fits.
 token-fits : (p : ℕ) (t : Token) → T (isSpelled (token p t)) → TokenFits t
@@ -564,17 +564,17 @@ token-fits p (Token.number s v) h = tt
 token-fits p (Token.mark b) h = tt
 token-fits p Token.end h = tt
 
-after-take : (x : Parse) → ParseFits x → (f : Found) → T (isSpelled f) → ParseFits (take x f)
-unfolding take
+after-take : (x : Parse) → ParseFits x → (f : Found) → T (isSpelled f) → ParseFits (takeToken x f)
+unfolding takeToken
 after-take (Parse.refused n p) k f t = tt
 after-take (Parse.reading s d) k (token p t) e =
     let m = moves-fit s (k .0) t (token-fits p t e) in
-    after-onward (gram s t .stage) (m .stage) (perform (gram s t .act) p d) (after-perform d (k .1) (gram s t .act) (m .act) p)
+    after-onward (gram s t .stage) (m .stage) (performAct (gram s t .act) p d) (after-perform d (k .1) (gram s t .act) (m .act) p)
 after-take (Parse.reading s d) k (stray p) e = tt
 
-after-tokens : (x : Parse) → ParseFits x → {fs : List Found} → Every (λ f. T (isSpelled f)) fs → ParseFits (foldl take x fs)
+after-tokens : (x : Parse) → ParseFits x → {fs : List Found} → Every (λ f. T (isSpelled f)) fs → ParseFits (foldl takeToken x fs)
 after-tokens x k none = k
-after-tokens x k (more {x = f} e h) = after-tokens (take x f) (after-take x k f e) h
+after-tokens x k (more {x = f} e h) = after-tokens (takeToken x f) (after-take x k f e) h
 
 start-fits : ParseFits parse₀
 start-fits = (
@@ -613,7 +613,7 @@ after-finish (Parse.reading s d) k = record { functionCount = k .1 .count; funct
 reading-fits : (text : List ℕ) → Bytes text → length text ≤ maxText → ReadingFits (read text)
 reading-fits text b l =
     subst⁻¹ ReadingFits (read-by-tokens text l)
-    (after-finish (foldl take parse₀ (tokensOf text)) (after-tokens parse₀ start-fits (every-all isSpelled (tokensOf text) (names-spelled text b))))
+    (after-finish (foldl takeToken parse₀ (tokensOf text)) (after-tokens parse₀ start-fits (every-all isSpelled (tokensOf text) (names-spelled text b))))
 
 pub read-fits : (text : List ℕ) → Bytes text → (p : Program) → read text ≡ Reading.program p → Fits p
 read-fits text b p e = by (decLt maxText (length text))

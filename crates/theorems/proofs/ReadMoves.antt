@@ -6,7 +6,7 @@ use mathlib.Core.List.{List, []}
 use Prim.Native.Nat.{ℕ, zero, suc, _-_, _<_}
 use native.Mathlib.Omega.{arith}
 use lib.Dec.{T, eqb, leb, ltb, ltb→lt, lit<, lit≤}
-use lib.Ieee.Fits.{and-l, and-r}
+use lib.Ieee.Fits.{and-r}
 use Rattle.laws.proofs.Tests.{of-true}
 use Rattle.language.specs.Instructions.{Operand, formOf, hasTarget, sourceCount, operandOf}
 use Rattle.language.specs.Bytes.{leftParen, rightParen, leftBrace, rightBrace, comma, semicolon, equals}

@@ -12,7 +12,6 @@ use Rattle.language.specs.Programs.{Row, Func, Program, noFunction, isPhi}
 use Rattle.language.specs.Checking.{Verdict}
 use Rattle.language.specs.Table.{tableLength, decode}
 use Rattle.language.specs.Running.{Outcome, Ends, NotEnded, argumentsFit}
-use Rattle.language.specs.Translating.{translation}
 use Rattle.language.specs.MadeNames.{namedFunction, named}
 use Rattle.language.specs.Answers.{Filled, Wrote, runAnswer, translateAnswer, writeAnswer}
 use Rattle.theorems.specs.Demand3.{RunsAlike}

@@ -10,7 +10,7 @@ use lib.ListN.{length, replicate, length-replicate}
 use lib.Ieee.Fits.{and-l}
 use Rattle.language.specs.Programs.{Row, Func, rowsAt, isPhi, isTerminator, hasPhi}
 use Rattle.language.specs.Running.{Place, Outcome, Next, Run, Ends, NotEnded, phisOf, step, runOf, rowHere, start, startRegisters, phiSteps, edgeSteps, firstUnfit, argumentsFit}
-use Rattle.language.specs.Translating.{translation, stepFormula, phiCount}
+use Rattle.language.specs.Translating.{translation, stepFormula, phiTotal}
 use Rattle.theorems.specs.Demand3.{RunsAlike}
 use Rattle.theorems.specs.Clean.{Clean}
 use Rattle.theorems.proofs.SimulationRuns.{First, first, Goes, goes-more, goes-less, goes-after, after-goes, Stops, stops-once, ended-stops, stops-ends, ends-stops}
@@ -169,8 +169,8 @@ module _ (f : Func) (args : List ℕ) (c : Clean f) (fit : T (argumentsFit f arg
       let b : Beside f (startRegisters f args) (startRegisters (translation f) args) =
       record {
         size = start-length f args args-known;
-        extra = replicate (phiCount f) 0;
-        room = length-replicate (phiCount f) 0;
+        extra = replicate (phiTotal f) 0;
+        room = length-replicate (phiTotal f) 0;
         is = start-registers f args args-known;
       } in
       let known = entry-known f c in

@@ -13,7 +13,8 @@ use Rattle.laws.proofs.Gather.{length-gather, getD-gather, gather-keep, keep-ga
 use Rattle.language.specs.Programs.{Register, Block, Func, noRegister, noBlock, blockAt, rowsAt, typeAt, rowsOf, isPhi, hasPhi}
 use Rattle.language.specs.Checking.{predecessors}
 use Rattle.language.specs.Running.{phisOf, startRegisters}
-use Rattle.language.specs.Translating.{keptOf, phiBlocks, phisBefore, pairsBefore, newRegister, retarget, edgeRows, edgesTo, keptBlock, registerFor, translation, phiCount}
+use Rattle.language.specs.Translating.{keptOf, phiBlocks, phisBefore, pairsBefore, newRegister, retarget, edgeRows, edgesTo, keptBlock, registerFor, translation, phiTotal, translatedRegisters}
+use Rattle.theorems.proofs.Size.{size-registers, length-edgesTo}
 
 module _ (f : Func) where
   -- ---- blocks
@@ -46,16 +47,12 @@ module _ (f : Func) where
   edgesOf : ℕ → List Block
   edgesOf y = cond (hasPhi f y) (edgesTo f y) []
 
-  edgesTo-count : (y : ℕ) → length (edgesTo f y) ≡ length (predecessors f y)
-  unfolding edgesTo
-  edgesTo-count y = length-map (below (length (predecessors f y))) _ ∙ length-below (length (predecessors f y))
-
   edgesOf-count : (y : ℕ) → length (edgesOf y) ≡ cond (hasPhi f y) (length (predecessors f y)) 0
   unfolding edgesOf
   edgesOf-count y = case (hasPhi f y)
     where
       case : (b : Bool) → length (cond b (edgesTo f y) []) ≡ cond b (length (predecessors f y)) 0
-      case true = edgesTo-count y
+      case true = length-edgesTo f y
       case false = refl
 
   edges-gathered : edgeBlocks ≡ gather edgesOf numbers
@@ -76,7 +73,7 @@ module _ (f : Func) where
     -- among the edge blocks
     edge-at : getD edgeBlocks (pairsBefore f y + k) noBlock ≡ getD (edgesTo f y) k noBlock
     edge-at =
-        let inside : k < length (edgesOf (getD numbers y 0)) = rw (part-is, edgesTo-count) m in
+        let inside : k < length (edgesOf (getD numbers y 0)) = rw (part-is, length-edgesTo f) m in
         rw (edges-gathered, ← (edges-before y (omega arith)))
         (getD-gather edgesOf numbers y k 0 noBlock (rw length-below l) inside ∙ ap (λ (bs : List Block). getD bs k noBlock) part-is)
 
@@ -110,20 +107,14 @@ module _ (f : Func) where
   abbrev newRegisters : List Register
   newRegisters = map (registerFor f) (phisOf (rowsOf f))
 
-  pub register-count : length (translation f .registers) ≡ length (f .registers) + phiCount f
-  unfolding translation phiCount
-  register-count =
-      length-append (f .registers) newRegisters
-      ∙ ap (λ (n : ℕ). length (f .registers) + n) (length-map (phisOf (rowsOf f)) (registerFor f))
-
   -- the kept registers keep their types
   pub type-kept : (r : ℕ) → r < length (f .registers) → typeAt (translation f) r ≡ typeAt f r
   unfolding translation
   type-kept r l = ap (λ (x : Register). x .type) (List·getD-append (f .registers) newRegisters noRegister r l)
 
   -- the new registers of a block are among those of all phi
-  pub phis-fit : (y : ℕ) → y < length (f .blocks) → phisBefore f y + length (phisOf (rowsAt f y)) ≤ phiCount f
-  unfolding phisBefore phiCount rowsOf phisOf
+  pub phis-fit : (y : ℕ) → y < length (f .blocks) → phisBefore f y + length (phisOf (rowsAt f y)) ≤ phiTotal f
+  unfolding phisBefore phiTotal rowsOf phisOf
   phis-fit y l =
       rw (keep-gather isPhi (λ b. b .rows) (f .blocks), length-gather (λ (b : Block). keep isPhi (b .rows)) (f .blocks))
       (sum-take-le (λ (b : Block). length (keep isPhi (b .rows))) (f .blocks) y noBlock l)
@@ -136,9 +127,9 @@ module _ (f : Func) where
   pub start-registers :
       (args : List ℕ)
       → length args ≤ length (f .registers)
-      → startRegisters (translation f) args ≡ startRegisters f args ++ replicate (phiCount f) 0
-  unfolding startRegisters
+      → startRegisters (translation f) args ≡ startRegisters f args ++ replicate (phiTotal f) 0
+  unfolding startRegisters translatedRegisters
   start-registers args l =
       let n = length (f .registers) - length args in
-      let e : length (translation f .registers) - length args ≡ n + phiCount f = omega (arith, register-count) in
-      rw (e, ← (replicate-append-replicate {A = ℕ} n (phiCount f) 0), append-assoc)
+      let e : length (translation f .registers) - length args ≡ n + phiTotal f = omega (arith, size-registers f) in
+      rw (e, ← (replicate-append-replicate {A = ℕ} n (phiTotal f) 0), append-assoc)

@@ -16,7 +16,7 @@ use Rattle.language.specs.Arithmetic.{unaryOf}
 use Rattle.language.specs.Programs.{Row, Func, noRow, rowsAt, hasPhi}
 use Rattle.language.specs.Checking.{predecessors}
 use Rattle.language.specs.Running.{Place, Next, onward, valueAt, phisOf, phiTarget, entryAt, writeAll, perform, step, rowHere}
-use Rattle.language.specs.Translating.{copyRow, edgeRows, translation, newRegister, pairsBefore, phisBefore, phiCount}
+use Rattle.language.specs.Translating.{copyRow, edgeRows, translation, newRegister, pairsBefore, phisBefore, phiTotal}
 use Rattle.theorems.specs.Clean.{Clean}
 use Rattle.theorems.proofs.SimulationRuns.{Goes, goes-one, goes-more}
 use Rattle.theorems.proofs.SimulationRows.{phi-target, phi-entry}
@@ -26,7 +26,7 @@ use Rattle.theorems.proofs.SimulationBlocks.{edge-rows, phis-fit}
 pub record Beside (f : Func) (g h : List ℕ) : Type 0 where
   pub size : length g ≡ length (f .registers)
   pub extra : List ℕ
-  pub room : length extra ≡ phiCount f
+  pub room : length extra ≡ phiTotal f
   pub is : h ≡ g ++ extra
 
 -- n steps lead to row j of block b with the registers h'.
@@ -206,7 +206,7 @@ module _ (f : Func) (c : Clean f) (y k : ℕ) (l : y < length (f .blocks)) where
   moved :
       (g e : List ℕ)
       → length g ≡ length (f .registers)
-      → length e ≡ phiCount f
+      → length e ≡ phiTotal f
       → movedOut ms ps (movedIn k ms ps (g ++ e)) ≡ writeAll g k g ps ++ sets e (phisBefore f y) (valuesOf g k ps)
   moved g e size room =
       let vs = valuesOf g k ps in

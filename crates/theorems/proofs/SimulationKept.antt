@@ -11,7 +11,7 @@ use lib.ListN.{length, getD, set, length-map, length-set, List·getD-append, Lis
 use lib.Seq.{set-append-left}
 use Rattle.laws.specs.Lists.{keep, position, member, below}
 use Rattle.laws.proofs.Indexing.{any-at, position-lt, length-below, getD-below}
-use Rattle.laws.proofs.Keep.{any-none, any-keep, any-kept}
+use Rattle.laws.proofs.Keep.{any-none, any-keep, any-kept-at}
 use Rattle.language.specs.Arithmetic.{Computed, binaryOf, unaryOf}
 use Rattle.language.specs.Programs.{Row, Func, rowsAt, typeAt, isPhi, isTerminator, hasPhi, namedBy}
 use Rattle.language.specs.Checking.{goesTo, predecessors, inRange, lastRow}
@@ -54,7 +54,7 @@ came-from f x y l e =
     let at : getD bs x 0 ≡ x = getD-below (length (f .blocks)) x 0 l in
     let goes : goesTo f (getD bs x 0) y ≡ true = ap (λ (z : ℕ). goesTo f z y) at ∙ e in
     position-lt (λ z. eqb z x) (keep (λ z. goesTo f z y) bs)
-    (any-kept (λ z. goesTo f z y) (λ z. eqb z x) bs x 0 (rw length-below l) goes (eq-eqb (getD bs x 0) x at))
+    (any-kept-at (λ z. goesTo f z y) (λ z. eqb z x) bs x 0 (rw length-below l) goes (eq-eqb (getD bs x 0) x at))
 
 -- ---- by the row's form
 

@@ -11,7 +11,8 @@ use lib.ListN.{length, getD, take, length-append, List·getD-append}
 use lib.Seq.{getD-append-add}
 use lib.Ieee.Fits.{and-l, and-r}
 use Rattle.laws.specs.Lists.{any, all}
-use Rattle.laws.proofs.Indexing.{or-first, or-rest, none-at, all-append-left, all-append-right, getD-lt, getD-inside}
+use Rattle.laws.proofs.Indexing.{none-at, all-append-left, all-append-right, getD-lt, getD-inside}
+use Rattle.laws.proofs.Tests.{or-left, or-right}
 use Rattle.laws.proofs.Keep.{keep-none, keep-leads, keep-passes}
 use Rattle.language.specs.Programs.{Row, Func, noRow, rowsAt, isPhi, isTerminator, targetsOf, sourcesOf, entriesOf, namedBy}
 use Rattle.language.specs.Checking.{spotAt, inRange, rowTests, breaksRow, breaks9, breaks10, breaks14, sound, numbersRight, entryRight, lastRow}
@@ -155,7 +156,7 @@ module _ (f : Func) (c : Clean f) where
   unfolding phisOf keptOf
   rows-split b =
       keep-leads isPhi (rowsAt f b) Row.nop
-      (λ j l e. or-rest (eqb b (f .entry)) (any (λ r. not (isPhi r)) (take j (rowsAt f b))) (phi-fits b j l e))
+      (λ j l e. or-right (eqb b (f .entry)) (any (λ r. not (isPhi r)) (take j (rowsAt f b))) (phi-fits b j l e))
 
   pub rows-count : (b : ℕ) → length (rowsAt f b) ≡ length (phisAt f b) + length (keptAt f b)
   rows-count b = ap length (rows-split b) ∙ length-append (phisAt f b) (keptAt f b)
@@ -169,7 +170,7 @@ module _ (f : Func) (c : Clean f) where
 
       plain : (j : ℕ) → j < length (rowsAt f b) → (t : Bool) → isPhi (rowOf f b j) ≡ t → t ≡ false
       plain j l true e =
-          absurd (eqb-false b b (or-first (eqb b b) (any (λ r. not (isPhi r)) (take j (rowsAt f b))) (phi-fits b j l e)) refl)
+          absurd (eqb-false b b (or-left (eqb b b) (any (λ r. not (isPhi r)) (take j (rowsAt f b))) (phi-fits b j l e)) refl)
       plain j l false e = refl
 
   -- the rows by place

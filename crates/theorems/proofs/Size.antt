@@ -7,16 +7,17 @@ use native.Mathlib.Omega.{arith}
 use lib.ListN.{length, length-append, length-map}
 use Rattle.laws.specs.Lists.{gather, below, sum}
 use Rattle.laws.proofs.Gather.{length-gather, keep-gather}
-use Rattle.laws.proofs.Indexing.{length-from, length-below}
-use Rattle.laws.proofs.Sums.{gather-append, gather-map, gather-gather, length-keeps, length-together, sum-const, sum-same, map-getD}
+use Rattle.laws.proofs.Indexing.{length-below, length-together-from}
+use Rattle.laws.proofs.Sums.{gather-map, gather-gather, length-keeps, sum-const, sum-same, map-getD}
+use Rattle.laws.proofs.Appending.{gather-append}
 use Rattle.theorems.specs.Statements.{SizeLaw}
 use Rattle.language.specs.Programs.{Row, Func, noBlock, rowsAt, rowsOf, isPhi}
 use Rattle.language.specs.Checking.{predecessors}
 use Rattle.language.specs.Running.{phisOf}
-use Rattle.language.specs.Translating.{keptOf, phiBlocks, edgeRows, edgesTo, keptBlock, registerFor, translation, phiCount, pairCount, sizeOfEdges, translatedRegisters, translatedBlocks, translatedRows}
+use Rattle.language.specs.Translating.{keptOf, phiBlocks, edgeRows, edgesTo, keptBlock, registerFor, translation, phiTotal, pairCount, sizeOfEdges, translatedRegisters, translatedBlocks, translatedRows}
 
 pub size-registers : (f : Func) → length (translation f .registers) ≡ translatedRegisters f
-unfolding translation translatedRegisters phiCount
+unfolding translation translatedRegisters phiTotal
 size-registers f =
     length-append (f .registers) (map (registerFor f) (phisOf (rowsOf f)))
     ∙ ap (λ n. length (f .registers) + n) (length-map (phisOf (rowsOf f)) (registerFor f))
@@ -36,7 +37,7 @@ size-blocks f =
 -- "2p + 1 for each pair, p being the phi of that block"
 pub length-edgeRows : (n k y : ℕ) (phis : List Row) → length (edgeRows n k y phis) ≡ 2 * length phis + 1
 unfolding edgeRows
-length-edgeRows n k y phis = simp (length-append, length-together, length-from) (omega arith)
+length-edgeRows n k y phis = simp (length-append, length-together-from) (omega arith)
 
 edgesTo-rows :
     (f : Func) (y : ℕ)
@@ -57,8 +58,8 @@ kept-rows f =
     let lengths = map-getD (λ b. length (keptOf (b .rows))) noBlock (f .blocks) in
     rw keep-gather (simp (gather-map, length-gather, length-map) (ap sum lengths))
 
-phis-apart : (f : Func) → length (keptOf (rowsOf f)) + phiCount f ≡ length (rowsOf f)
-unfolding keptOf phiCount phisOf
+phis-apart : (f : Func) → length (keptOf (rowsOf f)) + phiTotal f ≡ length (rowsOf f)
+unfolding keptOf phiTotal phisOf
 phis-apart f = length-keeps isPhi (rowsOf f)
 
 pub size-rows : (f : Func) → length (rowsOf (translation f)) ≡ translatedRows f

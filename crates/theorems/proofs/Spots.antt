@@ -2,7 +2,7 @@
 -- Assumes nothing.
 use mathlib.Core.Path.{_≡_, refl, sym, ap, ap₂, _∙_}
 use mathlib.Core.List.{List, [], _∷_, _++_, map}
-use Prim.Native.Nat.{ℕ, zero, suc, _+_, _<_}
+use Prim.Native.Nat.{ℕ, zero, suc, _+_, _≤_, _<_}
 use native.Mathlib.Nat.{not-suc-le-zero, le-of-suc-le-suc, zero-add, add-zero, add-suc, suc-add}
 use native.Mathlib.Omega.{arith}
 use lib.ListN.{length, getD, take, length-map}
@@ -10,12 +10,28 @@ use lib.Seq.{take-suc}
 use Rattle.laws.specs.Lists.{gather, below, from, sum}
 use Rattle.laws.proofs.Indexing.{length-below, getD-below, take-below, getD-map}
 use Rattle.laws.proofs.Appending.{sum-append}
-use Rattle.laws.proofs.Gather.{getD-gather, length-gather, map-gather}
+use Rattle.laws.proofs.Gather.{getD-gather, length-gather, map-gather, sum-take-le}
 use Rattle.laws.proofs.Ranges.{length-map-from, getD-map-from, gather-from, map-from-take}
 use Rattle.laws.proofs.Sums.{map-getD, sum-same}
 use Rattle.language.specs.Programs.{Row, Block, Func, noBlock, blockAt, rowsAt, rowsOf, firstRow}
 use Rattle.language.specs.Checking.{Spot, spotAt, spotsFrom, spotsIn, spotsOf, rowNumber}
 use Rattle.theorems.proofs.AcceptanceCheck.{in-blocks}
+
+-- ---- the rows of a function by block
+
+pub first-within : (f : Func) (b : ℕ) → b < length (f .blocks) → firstRow f b + length (rowsAt f b) ≤ length (rowsOf f)
+unfolding rowsOf firstRow
+first-within f b l =
+    rw (length-gather (λ x. x .rows) (f .blocks)) (sum-take-le (λ x. length (x .rows)) (f .blocks) b noBlock l)
+
+module _ (f : Func) (b j : ℕ) (h : j < length (rowsAt f b)) where
+  -- the row at place j of block b
+  pub row-at : getD (rowsOf f) (firstRow f b + j) Row.nop ≡ getD (rowsAt f b) j Row.nop
+  unfolding rowsOf firstRow
+  row-at = getD-gather (λ x. x .rows) (f .blocks) b j noBlock Row.nop (in-blocks f b j h) h
+
+  pub row-below : firstRow f b + j < length (rowsOf f)
+  row-below = omega (arith, first-within f b (in-blocks f b j h))
 
 -- ---- the rows of one block, from place k on
 

@@ -14,6 +14,7 @@ use Rattle.language.specs.Arithmetic.{Computed, binaryOf, div, rem, within, ove
 use Rattle.language.specs.Programs.{Row, Func, rowsAt, typeAt, isPhi}
 use Rattle.language.specs.Running.{Place, Outcome, Next, Run, NotEnded, onward, valueAt, writeAll, phisOf, cameBy, phiStep, assign, perform, step, start, startRegisters, runOf, rowHere}
 use Rattle.language.specs.Answers.{ranNumbers, refusedRun, ranAs}
+use Rattle.language.specs.Instructions.{ariAddOp, ariDivOp, ariMulOp, ariRemOp, ariSubOp, bitAndOp, bitOrOp, bitXorOp, cmpEqOp, cmpGtOp, cmpGteqOp, cmpLtOp, cmpLteqOp, cmpNeqOp, rolOp, rorOp, shlOp, shrOp}
 use Rattle.theorems.specs.OverTables.{stopNumbers, StopsWithThese, NoEndIs43, AnsweredIs43, functionInTable, runRefusals, runNumbers, RunAnswersThese, Never27}
 use Rattle.theorems.proofs.RunAnswers.{answer-by}
 use Rattle.theorems.proofs.Budgets.{going-counts}
@@ -44,21 +45,21 @@ stops-within w k x = stops-cond (ltb k w) _ _ tt tt
 stops-binary : (op t a b : ℕ) → StopsAs (binaryOf op t a b)
 unfolding binaryOf
 stops-binary op t a b =
-    stops-cond (eqb op 9) _ _ tt
-    (stops-cond (eqb op 10) _ _ tt
-    (stops-cond (eqb op 11) _ _ tt
-    (stops-cond (eqb op 12) _ _ (stops-div t a b)
-    (stops-cond (eqb op 13) _ _ (stops-rem t a b)
-    (stops-cond (eqb op 15) _ _ tt
-    (stops-cond (eqb op 16) _ _ tt
-    (stops-cond (eqb op 17) _ _ tt
-    (stops-cond (eqb op 19) _ _ (stops-within _ b _)
-    (stops-cond (eqb op 20) _ _ (stops-within _ b _)
-    (stops-cond (eqb op 21) _ _ (stops-within _ b _)
-    (stops-cond (eqb op 22) _ _ (stops-within _ b _)
-    (stops-cond (eqb op 23) _ _ tt
-    (stops-cond (eqb op 24) _ _ tt
-    (stops-cond (eqb op 25) _ _ tt (stops-cond (eqb op 26) _ _ tt (stops-cond (eqb op 27) _ _ tt tt))))))))))))))))
+    stops-cond (eqb op ariAddOp) _ _ tt
+    (stops-cond (eqb op ariSubOp) _ _ tt
+    (stops-cond (eqb op ariMulOp) _ _ tt
+    (stops-cond (eqb op ariDivOp) _ _ (stops-div t a b)
+    (stops-cond (eqb op ariRemOp) _ _ (stops-rem t a b)
+    (stops-cond (eqb op bitAndOp) _ _ tt
+    (stops-cond (eqb op bitOrOp) _ _ tt
+    (stops-cond (eqb op bitXorOp) _ _ tt
+    (stops-cond (eqb op shlOp) _ _ (stops-within _ b _)
+    (stops-cond (eqb op shrOp) _ _ (stops-within _ b _)
+    (stops-cond (eqb op rolOp) _ _ (stops-within _ b _)
+    (stops-cond (eqb op rorOp) _ _ (stops-within _ b _)
+    (stops-cond (eqb op cmpEqOp) _ _ tt
+    (stops-cond (eqb op cmpNeqOp) _ _ tt
+    (stops-cond (eqb op cmpGtOp) _ _ tt (stops-cond (eqb op cmpLtOp) _ _ tt (stops-cond (eqb op cmpGteqOp) _ _ tt (stops-cond (eqb op cmpLteqOp) _ _ tt tt)))))))))))))))))
 
 abbrev EndsAs : Next → Type 0
 EndsAs (Next.go p g) = Unit {0}

@@ -13,7 +13,7 @@ use Rattle.laws.proofs.Ranges.{map-from}
 use Rattle.laws.proofs.Sections.{at-self, at-right, at-pad, at-stride, gather-is-from, length-gatherFrom, length-pad, bytes-pad}
 use Rattle.laws.proofs.Sections.{bytes-gatherFrom, zero-or-at, zero-or-pad, zero-or-stride, zero-or-map}
 use Rattle.language.specs.Programs.{Program, noFunction}
-use Rattle.language.specs.Table.{tableLength, functionCount, functionAt, functionCells, cells, decodeFunction, decode}
+use Rattle.language.specs.Table.{tableLength, functionCount, functionAt, functionCells, cells, decodeFunction, decode, functionLength, functionsLength}
 use Rattle.theorems.specs.TableLaw.{Fits, TableLaw}
 use Rattle.theorems.specs.TableNeeds.{NeededIn, Needed, ZeroLaw}
 use Rattle.theorems.proofs.TableFunction.{length-function, function-back}
@@ -21,17 +21,17 @@ use Rattle.theorems.proofs.TableBytes.{function-bytes}
 use Rattle.theorems.proofs.TableZero.{function-zero}
 
 module _ (p : Program) (fits : Fits p) where
-  functions-stride : (m i : ℕ) → i < length p → length (functionCells (getD p i noFunction)) ≡ 34697
+  functions-stride : (m i : ℕ) → i < length p → length (functionCells (getD p i noFunction)) ≡ functionLength
   functions-stride m i b = length-function (getD p i noFunction) (fits .functions i b)
 
   functions-at : At (cells p) 1 (gather functionCells p)
   unfolding cells
-  functions-at = at-pad 555152 (gather functionCells p) (at-right (length p ∷ []) (pad 555152 (gather functionCells p)) at-self)
+  functions-at = at-pad functionsLength (gather functionCells p) (at-right (length p ∷ []) (pad functionsLength (gather functionCells p)) at-self)
 
   -- function i begins at its cell
   function-at : (i : ℕ) → i < length p → At (cells p) (functionAt i) (functionCells (getD p i noFunction))
   function-at i b =
-      at-stride (λ f. 0) (λ m. functionCells) 34697 noFunction 0 p functions-stride i b (rw (gather-is-from functionCells 0 p) at functions-at)
+      at-stride (λ f. 0) (λ m. functionCells) functionLength noFunction 0 p functions-stride i b (rw (gather-is-from functionCells 0 p) at functions-at)
 
   function-count-back : functionCount (cells p) ≡ length p
   unfolding cells
@@ -48,15 +48,15 @@ module _ (p : Program) (fits : Fits p) where
   unfolding cells
   count =
       ap suc
-      (length-pad 555152 (gather functionCells p)
-      (rw (gather-is-from functionCells 0 p, length-gatherFrom (λ f. 0) (λ m. functionCells) 34697 noFunction 0 p functions-stride)
+      (length-pad functionsLength (gather functionCells p)
+      (rw (gather-is-from functionCells 0 p, length-gatherFrom (λ f. 0) (λ m. functionCells) functionLength noFunction 0 p functions-stride)
       (omega (arith, fits .functionCount))))
 
   bytes : Bytes (cells p)
   unfolding cells
   bytes = (
     omega (arith, fits .functionCount),
-    bytes-pad 555152 (gather functionCells p)
+    bytes-pad functionsLength (gather functionCells p)
         (rw (gather-is-from functionCells 0 p)
         (bytes-gatherFrom (λ f. 0) (λ m. functionCells) noFunction 0 p (λ m i b. function-bytes (getD p i noFunction) (fits .functions i b)))),
   )
@@ -71,11 +71,11 @@ module _ (p : Program) (fits : Fits p) where
   functions-zero-or-needed : ZeroOr (Needed (cells p)) 1 (gather functionCells p)
   functions-zero-or-needed =
       rw (gather-is-from functionCells 0 p)
-      (zero-or-stride (Needed (cells p)) 1 (λ f. 0) (λ m. functionCells) 34697 noFunction 0 p functions-stride (λ m i b q e. rw e (function-zero-or-needed i b)))
+      (zero-or-stride (Needed (cells p)) 1 (λ f. 0) (λ m. functionCells) functionLength noFunction 0 p functions-stride (λ m i b q e. rw e (function-zero-or-needed i b)))
 
   zero-or-needed : ZeroOr (Needed (cells p)) 0 (cells p)
   unfolding cells
-  zero-or-needed = (inr (Needed.count refl), zero-or-pad (Needed (cells p)) 1 555152 (gather functionCells p) functions-zero-or-needed)
+  zero-or-needed = (inr (Needed.count refl), zero-or-pad (Needed (cells p)) 1 functionsLength (gather functionCells p) functions-zero-or-needed)
 
 pub table : TableLaw
 table p fits = record { back = back p fits; count = count p fits; bytes = bytes p fits }

@@ -8,8 +8,9 @@ use Rattle.laws.specs.Lists.{gather}
 use Rattle.laws.specs.Sections.{Bytes, gatherFrom}
 use Rattle.laws.proofs.Sections.{bytes-append, bytes-pad, bytes-gatherFrom, gather-is-from}
 use Rattle.language.specs.Programs.{Row, Register, Block, Func, entriesOf, rowsOf, noRegister, noBlock}
-use Rattle.language.specs.Table.{twoBytes, nameCells, registerCells, blockCells, rowCells, headCells, registerSection, blockSection}
-use Rattle.language.specs.Table.{rowSection, entrySection, functionCells}
+use Rattle.language.specs.Table.{twoBytes, nameCells, registerCells, blockCells, rowCells, headCells, registerSection, blockSection, rowLength}
+use Rattle.language.specs.Table.{rowSection, entrySection, functionCells, blocksLength, registersLength, rowsLength}
+use Rattle.language.specs.Instructions.{jumpCondOp, jumpOp, leaveOp, phiOp, returnOp}
 use Rattle.theorems.specs.TableLaw.{NameFits, RegisterFits, RowFits, FunctionFits}
 
 two-bytes : (n : ℕ) → Bytes (twoBytes n)
@@ -31,16 +32,16 @@ block-bytes n b h =
 
 row-bytes : (n : ℕ) (row : Row) → RowFits row → Bytes (rowCells n row)
 unfolding rowCells
-row-bytes n Row.nop h = bytes-pad 12 (0 ∷ []) (omega arith)
+row-bytes n Row.nop h = bytes-pad rowLength (0 ∷ []) (omega arith)
 row-bytes n (Row.load op t x) h = omega arith
-row-bytes n (Row.unary op t s) h = bytes-pad 12 (op ∷ t ∷ s ∷ []) (omega arith)
-row-bytes n (Row.binary op t l r) h = bytes-pad 12 (op ∷ t ∷ l ∷ r ∷ []) (omega arith)
-row-bytes n (Row.phi t es) h = bytes-pad 12 (31 ∷ t ∷ 0 ∷ 0 ∷ (twoBytes n ++ twoBytes (length es))) (omega arith)
-row-bytes n (Row.jump b) h = bytes-pad 12 (32 ∷ 0 ∷ 0 ∷ 0 ∷ b ∷ []) (omega arith)
-row-bytes n (Row.branch s x y) h = bytes-pad 12 (33 ∷ 0 ∷ s ∷ 0 ∷ x ∷ y ∷ []) (omega arith)
-row-bytes n (Row.return s) h = bytes-pad 12 (34 ∷ 0 ∷ s ∷ []) (omega arith)
-row-bytes n Row.leave h = bytes-pad 12 (35 ∷ []) (omega arith)
-row-bytes n (Row.unknown op) h = bytes-pad 12 (op ∷ []) (omega arith)
+row-bytes n (Row.unary op t s) h = bytes-pad rowLength (op ∷ t ∷ s ∷ []) (omega arith)
+row-bytes n (Row.binary op t l r) h = bytes-pad rowLength (op ∷ t ∷ l ∷ r ∷ []) (omega arith)
+row-bytes n (Row.phi t es) h = bytes-pad rowLength (phiOp ∷ t ∷ 0 ∷ 0 ∷ (twoBytes n ++ twoBytes (length es))) (omega arith)
+row-bytes n (Row.jump b) h = bytes-pad rowLength (jumpOp ∷ 0 ∷ 0 ∷ 0 ∷ b ∷ []) (omega arith)
+row-bytes n (Row.branch s x y) h = bytes-pad rowLength (jumpCondOp ∷ 0 ∷ s ∷ 0 ∷ x ∷ y ∷ []) (omega arith)
+row-bytes n (Row.return s) h = bytes-pad rowLength (returnOp ∷ 0 ∷ s ∷ []) (omega arith)
+row-bytes n Row.leave h = bytes-pad rowLength (leaveOp ∷ []) (omega arith)
+row-bytes n (Row.unknown op) h = bytes-pad rowLength (op ∷ []) (omega arith)
 
 module _ (f : Func) (fits : FunctionFits f) where
   head-bytes : Bytes (headCells f)
@@ -52,20 +53,20 @@ module _ (f : Func) (fits : FunctionFits f) where
   registers-bytes : Bytes (registerSection f)
   unfolding registerSection
   registers-bytes =
-      bytes-pad 16896 (gather registerCells (f .registers))
+      bytes-pad registersLength (gather registerCells (f .registers))
       (rw (gather-is-from registerCells 0 (f .registers))
       (bytes-gatherFrom (λ x. 0) (λ m. registerCells) noRegister 0 (f .registers) (λ m i b. register-bytes (getD (f .registers) i noRegister) (fits .registers i b))))
 
   blocks-bytes : Bytes (blockSection f)
   unfolding blockSection
   blocks-bytes =
-      bytes-pad 4416 (gatherFrom (λ b. length (b .rows)) blockCells 0 (f .blocks))
+      bytes-pad blocksLength (gatherFrom (λ b. length (b .rows)) blockCells 0 (f .blocks))
       (bytes-gatherFrom (λ b. length (b .rows)) blockCells noBlock 0 (f .blocks) (λ m i b. block-bytes m (getD (f .blocks) i noBlock) (fits .blockNames i b)))
 
   rows-bytes : Bytes (rowSection f)
   unfolding rowSection
   rows-bytes =
-      bytes-pad 12288 (gatherFrom (λ r. length (entriesOf r)) rowCells 0 (rowsOf f))
+      bytes-pad rowsLength (gatherFrom (λ r. length (entriesOf r)) rowCells 0 (rowsOf f))
       (bytes-gatherFrom (λ r. length (entriesOf r)) rowCells Row.nop 0 (rowsOf f) (λ m i b. row-bytes m (getD (rowsOf f) i Row.nop) (fits .rows i b)))
 
   entries-bytes : Bytes (entrySection f)

@@ -13,17 +13,20 @@ use borrow.Author.Tests.{eq-eqb}
 use Rattle.laws.specs.Lists.{gather, sum, below}
 use Rattle.laws.specs.Sections.{At, gatherFrom}
 use Rattle.laws.proofs.Ranges.{map-from, map-from-take, all-from}
-use Rattle.laws.proofs.Gather.{sum-take-le}
-use Rattle.laws.proofs.Sections.{at-move, at-self, at-left, at-right, at-cell, at-pad, at-gather, at-stride, gather-is-from, length-gather}
+use Rattle.laws.proofs.Gather.{sum-take-le, length-gather}
+use Rattle.laws.proofs.Sections.{at-move, at-self, at-left, at-right, at-cell, at-pad, at-gather, at-stride, gather-is-from}
 use Rattle.laws.proofs.Sections.{length-gatherFrom, length-pad}
-use Rattle.language.specs.Programs.{Row, Register, Block, Func, entriesOf, rowsOf, entryCount, blockAt, noRegister, noBlock}
+use Rattle.language.specs.Programs.{Row, Block, Func, entriesOf, rowsOf, entryCount, blockAt, noRegister, noBlock}
 use Rattle.language.specs.Table.{twoBytes, nameCells, registerCells, blockCells, rowCells, headCells, registerSection, blockSection}
 use Rattle.language.specs.Table.{rowSection, entrySection, functionCells, decodeRegister, decodeRow, decodeBlock, decodeFunction}
 use Rattle.language.specs.Table.{blocksPlaced, phisPlaced, functionName, functionSsa, functionResult, functionParams, functionEntry}
 use Rattle.language.specs.Table.{registerCount, blockCount, blockFirst, blockRows, rowsBefore, rowCount, rowOp, phiFirst, rowEntries}
 use Rattle.language.specs.Table.{entriesBefore}
+use Rattle.language.specs.Table.{blockLength, blocksLength, blocksOffset, entriesOffset, functionLength, registerLength, registersLength, registersOffset, rowLength, rowsLength, rowsOffset}
+use Rattle.language.specs.Instructions.{phiOp}
+use Rattle.language.proofs.TableLaws.{length-name, length-register, length-block, name-back}
 use Rattle.theorems.specs.TableLaw.{FunctionFits}
-use Rattle.theorems.proofs.TableParts.{two-back, name-back, register-back, length-row, row-back, row-entries-back, phi-placed-back}
+use Rattle.theorems.proofs.TableParts.{two-back, register-back, length-row, row-back, row-entries-back, phi-placed-back}
 use Rattle.theorems.proofs.TableParts.{block-first-back, block-rows-back, block-back}
 
 -- ---- places, by the counts, from 0 on
@@ -44,47 +47,35 @@ rowStart f b = 0 + sum (map height (take b (f .blocks)))
 
 -- ---- lengths
 
-length-name : (name : List ℕ) → length name ≤ 64 → length (nameCells name) ≡ 65
-unfolding nameCells
-length-name name h = ap suc (length-pad 64 name h)
-
-length-register : (r : Register) → length (r .name) ≤ 64 → length (registerCells r) ≡ 66
-unfolding registerCells
-length-register r h = ap suc (length-name (r .name) h)
-
-length-block : (n : ℕ) (b : Block) → length (b .name) ≤ 64 → length (blockCells n b) ≡ 69
-unfolding blockCells
-length-block n b h = ap (λ k. suc (suc (suc (suc k)))) (length-name (b .name) h)
-
 module _ (f : Func) (fits : FunctionFits f) where
-  pub length-head : length (headCells f) ≡ 73
+  pub length-head : length (headCells f) ≡ registersOffset
   unfolding headCells
   length-head = ap (λ k. suc (suc (suc (suc (suc (suc (suc (suc k)))))))) (length-name (f .name) (fits .name .short))
 
-  pub registers-stride : (m i : ℕ) → i < length (f .registers) → length (registerCells (getD (f .registers) i noRegister)) ≡ 66
+  pub registers-stride : (m i : ℕ) → i < length (f .registers) → length (registerCells (getD (f .registers) i noRegister)) ≡ registerLength
   registers-stride m i b = length-register (getD (f .registers) i noRegister) (fits .registers i b .name .short)
 
-  pub blocks-stride : (m i : ℕ) → i < length (f .blocks) → length (blockCells m (getD (f .blocks) i noBlock)) ≡ 69
+  pub blocks-stride : (m i : ℕ) → i < length (f .blocks) → length (blockCells m (getD (f .blocks) i noBlock)) ≡ blockLength
   blocks-stride m i b = length-block m (getD (f .blocks) i noBlock) (fits .blockNames i b .short)
 
-  pub length-registers : length (registerSection f) ≡ 16896
+  pub length-registers : length (registerSection f) ≡ registersLength
   unfolding registerSection
   length-registers =
-      length-pad 16896 (gather registerCells (f .registers))
-      (rw (gather-is-from registerCells 0 (f .registers), length-gatherFrom (λ x. 0) (λ m. registerCells) 66 noRegister 0 (f .registers) registers-stride)
+      length-pad registersLength (gather registerCells (f .registers))
+      (rw (gather-is-from registerCells 0 (f .registers), length-gatherFrom (λ x. 0) (λ m. registerCells) registerLength noRegister 0 (f .registers) registers-stride)
       (omega (arith, fits .registerCount)))
 
-  pub length-blocks : length (blockSection f) ≡ 4416
+  pub length-blocks : length (blockSection f) ≡ blocksLength
   unfolding blockSection
   length-blocks =
-      length-pad 4416 (gatherFrom height blockCells 0 (f .blocks))
-      (rw (length-gatherFrom height blockCells 69 noBlock 0 (f .blocks) blocks-stride) (omega (arith, fits .blockCount)))
+      length-pad blocksLength (gatherFrom height blockCells 0 (f .blocks))
+      (rw (length-gatherFrom height blockCells blockLength noBlock 0 (f .blocks) blocks-stride) (omega (arith, fits .blockCount)))
 
-  pub length-rows : length (rowSection f) ≡ 12288
+  pub length-rows : length (rowSection f) ≡ rowsLength
   unfolding rowSection
   length-rows =
-      length-pad 12288 (gatherFrom entries rowCells 0 (rowsOf f))
-      (rw (length-gatherFrom entries rowCells 12 Row.nop 0 (rowsOf f) (λ m i b. length-row m (getD (rowsOf f) i Row.nop)))
+      length-pad rowsLength (gatherFrom entries rowCells 0 (rowsOf f))
+      (rw (length-gatherFrom entries rowCells rowLength Row.nop 0 (rowsOf f) (λ m i b. length-row m (getD (rowsOf f) i Row.nop)))
       (omega (arith, fits .rowCount)))
 
   pub length-entries : length (entrySection f) ≡ 1024
@@ -92,7 +83,7 @@ module _ (f : Func) (fits : FunctionFits f) where
   length-entries =
       length-pad 1024 (gather entriesOf (rowsOf f)) (rw (length-gather entriesOf (rowsOf f)) (omega (arith, fits .entryCount)))
 
-  pub length-function : length (functionCells f) ≡ 34697
+  pub length-function : length (functionCells f) ≡ functionLength
   unfolding functionCells
   length-function = simp length-append (omega (arith, length-head, length-registers, length-blocks, length-rows, length-entries))
 
@@ -112,26 +103,26 @@ module _ (f : Func) (fits : FunctionFits f) where
     unfolding functionCells
     head-at = at-left (headCells f) behindHead h
 
-    from-registers : At t (a + 73) behindHead
+    from-registers : At t (a + registersOffset) behindHead
     unfolding functionCells
     from-registers = at-move (omega (arith, length-head)) (at-right (headCells f) behindHead h)
 
-    from-blocks : At t (a + 16969) behindRegisters
+    from-blocks : At t (a + blocksOffset) behindRegisters
     from-blocks = at-move (omega (arith, length-registers)) (at-right (registerSection f) behindRegisters from-registers)
 
-    from-rows : At t (a + 21385) behindBlocks
+    from-rows : At t (a + rowsOffset) behindBlocks
     from-rows = at-move (omega (arith, length-blocks)) (at-right (blockSection f) behindBlocks from-blocks)
 
-    from-entries : At t (a + 33673) (entrySection f)
+    from-entries : At t (a + entriesOffset) (entrySection f)
     from-entries = at-move (omega (arith, length-rows)) (at-right (rowSection f) (entrySection f) from-rows)
 
     -- ---- registers
 
-    pub register-at : (i : ℕ) → i < length (f .registers) → At t (a + 73 + 66 * i) (registerCells (getD (f .registers) i noRegister))
+    pub register-at : (i : ℕ) → i < length (f .registers) → At t (a + registersOffset + registerLength * i) (registerCells (getD (f .registers) i noRegister))
     unfolding registerSection
     register-at i b =
-        at-stride (λ x. 0) (λ m. registerCells) 66 noRegister 0 (f .registers) registers-stride i b
-        (rw (gather-is-from registerCells 0 (f .registers)) at (at-pad 16896 (gather registerCells (f .registers)) (at-left (registerSection f) behindRegisters from-registers)))
+        at-stride (λ x. 0) (λ m. registerCells) registerLength noRegister 0 (f .registers) registers-stride i b
+        (rw (gather-is-from registerCells 0 (f .registers)) at (at-pad registersLength (gather registerCells (f .registers)) (at-left (registerSection f) behindRegisters from-registers)))
 
     registers-back : map (decodeRegister t a) (below (length (f .registers))) ≡ f .registers
     registers-back =
@@ -140,13 +131,13 @@ module _ (f : Func) (fits : FunctionFits f) where
 
     -- ---- rows
 
-    pub row-at : (r : ℕ) → r < length (rowsOf f) → At t (a + 21385 + 12 * r) (rowCells (entryStart f r) (getD (rowsOf f) r Row.nop))
+    pub row-at : (r : ℕ) → r < length (rowsOf f) → At t (a + rowsOffset + rowLength * r) (rowCells (entryStart f r) (getD (rowsOf f) r Row.nop))
     unfolding rowSection
     row-at r b =
-        at-stride entries rowCells 12 Row.nop 0 (rowsOf f) (λ m i c. length-row m (getD (rowsOf f) i Row.nop)) r b
-        (at-pad 12288 (gatherFrom entries rowCells 0 (rowsOf f)) (at-left (rowSection f) (entrySection f) from-rows))
+        at-stride entries rowCells rowLength Row.nop 0 (rowsOf f) (λ m i c. length-row m (getD (rowsOf f) i Row.nop)) r b
+        (at-pad rowsLength (gatherFrom entries rowCells 0 (rowsOf f)) (at-left (rowSection f) (entrySection f) from-rows))
 
-    pub entries-at : (r : ℕ) → r < length (rowsOf f) → At t (a + 33673 + sum (map entries (take r (rowsOf f)))) (entriesOf (getD (rowsOf f) r Row.nop))
+    pub entries-at : (r : ℕ) → r < length (rowsOf f) → At t (a + entriesOffset + sum (map entries (take r (rowsOf f)))) (entriesOf (getD (rowsOf f) r Row.nop))
     unfolding entrySection
     entries-at r b = at-gather entriesOf Row.nop (rowsOf f) r b (at-pad 1024 (gather entriesOf (rowsOf f)) from-entries)
 
@@ -161,11 +152,11 @@ module _ (f : Func) (fits : FunctionFits f) where
 
     -- ---- blocks
 
-    pub block-at : (b : ℕ) → b < length (f .blocks) → At t (a + 16969 + 69 * b) (blockCells (rowStart f b) (blockAt f b))
+    pub block-at : (b : ℕ) → b < length (f .blocks) → At t (a + blocksOffset + blockLength * b) (blockCells (rowStart f b) (blockAt f b))
     unfolding blockSection
     block-at b c =
-        at-stride height blockCells 69 noBlock 0 (f .blocks) blocks-stride b c
-        (at-pad 4416 (gatherFrom height blockCells 0 (f .blocks)) (at-left (blockSection f) behindBlocks from-blocks))
+        at-stride height blockCells blockLength noBlock 0 (f .blocks) blocks-stride b c
+        (at-pad blocksLength (gatherFrom height blockCells 0 (f .blocks)) (at-left (blockSection f) behindBlocks from-blocks))
 
     rows-total : sum (map height (f .blocks)) ≡ length (rowsOf f)
     unfolding rowsOf
@@ -219,7 +210,7 @@ module _ (f : Func) (fits : FunctionFits f) where
     unfolding phisPlaced
     phis-placed-back =
         rw row-count-back
-        (all-from (λ r. cond (eqb (rowOp t a r) 31) (eqb (phiFirst t a r) (entriesBefore t a r)) true) 0 (length (rowsOf f))
+        (all-from (λ r. cond (eqb (rowOp t a r) phiOp) (eqb (phiFirst t a r) (entriesBefore t a r)) true) 0 (length (rowsOf f))
         (λ i c.
         let before : entriesBefore t a i ≡ entryStart f i = omega (arith, entries-before-back i (le-of-lt c)) in
         rw (zero-add i, before) (phi-placed-back a (entryStart f i) (getD (rowsOf f) i Row.nop) i (fits .rows i c .form) (row-at i c) refl (omega (arith, entries-fit i c)))))

@@ -12,13 +12,14 @@ use borrow.Author.Tests.{eqb-true}
 use Rattle.laws.specs.Lists.{member, from, below, sum}
 use Rattle.laws.proofs.Ranges.{map-from-same, all-from-same}
 use Rattle.laws.proofs.Sections.{part-same}
-use Rattle.language.specs.Instructions.{Form, formOf}
+use Rattle.language.specs.Instructions.{Form, formOf, phiOp}
 use Rattle.language.specs.Programs.{Row}
-use Rattle.language.specs.Table.{two, nameAt, functionCount, functionAt, functionName, functionSsa, functionResult, functionParams}
+use Rattle.language.specs.Table.{two, nameAt, functionCount, functionAt, functionName, functionSsa, functionResult, functionParams, nameOffset}
 use Rattle.language.specs.Table.{functionEntry, registerCount, blockCount, registerType, registerName, blockFirst, blockRows, blockName}
 use Rattle.language.specs.Table.{rowOp, rowTarget, rowLeft, rowRight, jumpFirst, jumpSecond, phiFirst, phiCount, phiEntry, rowsBefore}
 use Rattle.language.specs.Table.{rowCount, rowEntries, entriesBefore, decodeRegister, decodeRow, decodeAs, decodeBlock, decodeFunction}
 use Rattle.language.specs.Table.{decode, blocksPlaced, phisPlaced}
+use Rattle.language.specs.Table.{blockLength, blockNamesOffset, blockRowsOffset, blocksOffset, entriesOffset, operandsOffset, registerLength, registerNamesOffset, registersOffset, rowLength, rowsOffset}
 use Rattle.language.specs.Answers.{checkAnswer, signatureAnswer, runAnswer, runEach, runEachAnswer, translateAnswer, writeAnswer}
 use Rattle.theorems.specs.TableNeeds.{usedCells, NeededRow, NeededIn, Needed, IgnoredLaw, IgnoredInAnswers}
 
@@ -43,13 +44,13 @@ module _ (t u : List ℕ) (l : length t ≡ length u) (a : ℕ) (h : (k : ℕ) �
 
   module _ (r : ℕ) (n : NeededRow t a r) where
     op-same : rowOp t a r ≡ rowOp u a r
-    op-same = h (a + 21385 + 12 * r) (NeededIn.row r 0 n (op-used (formOf (rowOp t a r))) (omega arith))
+    op-same = h (a + rowsOffset + rowLength * r) (NeededIn.row r 0 n (op-used (formOf (rowOp t a r))) (omega arith))
 
     module _ (f : Form) (e : formOf (rowOp t a r) ≡ f) where
-      same : (j : ℕ) → T (member j (usedCells f)) → {m : ℕ} → m ≡ a + 21385 + 12 * r + j → getD t m 0 ≡ getD u m 0
+      same : (j : ℕ) → T (member j (usedCells f)) → {m : ℕ} → m ≡ a + rowsOffset + rowLength * r + j → getD t m 0 ≡ getD u m 0
       same j b {m} d = h m (NeededIn.row r j n (rw e b) d)
 
-      two-same : (j : ℕ) → T (member j (usedCells f)) → T (member (suc j) (usedCells f)) → {m : ℕ} → m ≡ a + 21385 + 12 * r + j → two t m ≡ two u m
+      two-same : (j : ℕ) → T (member j (usedCells f)) → T (member (suc j) (usedCells f)) → {m : ℕ} → m ≡ a + rowsOffset + rowLength * r + j → two t m ≡ two u m
       two-same j b c d = ap₂ (λ x y. x + 256 * y) (same j b d) (same (suc j) c (omega arith))
 
     as-same : (f : Form) → formOf (rowOp t a r) ≡ f → decodeAs f t a r ≡ decodeAs f u a r
@@ -57,10 +58,10 @@ module _ (t u : List ℕ) (l : length t ≡ length u) (a : ℕ) (h : (k : ℕ) �
     as-same Form.nop e = refl
     as-same Form.load e =
         let target : rowTarget t a r ≡ rowTarget u a r = same Form.load e 1 tt (omega arith) in
-        let p : two t (a + 21389 + 12 * r) ≡ two u (a + 21389 + 12 * r) = two-same Form.load e 4 tt tt (omega arith) in
-        let q : two t (a + 21389 + 12 * r + 2) ≡ two u (a + 21389 + 12 * r + 2) = two-same Form.load e 6 tt tt (omega arith) in
-        let v : two t (a + 21389 + 12 * r + 4) ≡ two u (a + 21389 + 12 * r + 4) = two-same Form.load e 8 tt tt (omega arith) in
-        let w : two t (a + 21389 + 12 * r + 4 + 2) ≡ two u (a + 21389 + 12 * r + 4 + 2) = two-same Form.load e 10 tt tt (omega arith) in
+        let p : two t (a + operandsOffset + rowLength * r) ≡ two u (a + operandsOffset + rowLength * r) = two-same Form.load e 4 tt tt (omega arith) in
+        let q : two t (a + operandsOffset + rowLength * r + 2) ≡ two u (a + operandsOffset + rowLength * r + 2) = two-same Form.load e 6 tt tt (omega arith) in
+        let v : two t (a + operandsOffset + rowLength * r + 4) ≡ two u (a + operandsOffset + rowLength * r + 4) = two-same Form.load e 8 tt tt (omega arith) in
+        let w : two t (a + operandsOffset + rowLength * r + 4 + 2) ≡ two u (a + operandsOffset + rowLength * r + 4 + 2) = two-same Form.load e 10 tt tt (omega arith) in
         λ i. Row.load (op-same i) (target i) (p i + 65536 * q i + 4294967296 * (v i + 65536 * w i))
     as-same Form.unary e =
         let target : rowTarget t a r ≡ rowTarget u a r = same Form.unary e 1 tt (omega arith) in
@@ -77,7 +78,7 @@ module _ (t u : List ℕ) (l : length t ≡ length u) (a : ℕ) (h : (k : ℕ) �
         let count : phiCount t a r ≡ phiCount u a r = two-same Form.phi e 6 tt tt (omega arith) in
         let entries : map (phiEntry t a) (from (phiFirst t a r) (phiCount t a r)) ≡ map (phiEntry u a) (from (phiFirst u a r) (phiCount u a r)) =
         rw (← first, ← count)
-        (map-from-same (phiEntry t a) (phiEntry u a) (phiFirst t a r) (phiCount t a r) (λ j b. h (a + 33673 + (phiFirst t a r + j)) (NeededIn.entry r j n e b refl))) in
+        (map-from-same (phiEntry t a) (phiEntry u a) (phiFirst t a r) (phiCount t a r) (λ j b. h (a + entriesOffset + (phiFirst t a r + j)) (NeededIn.entry r j n e b refl))) in
         λ i. Row.phi (target i) (entries i)
     as-same Form.jump e = ap Row.jump (same Form.jump e 4 tt (omega arith))
     as-same Form.branch e =
@@ -94,20 +95,20 @@ module _ (t u : List ℕ) (l : length t ≡ length u) (a : ℕ) (h : (k : ℕ) �
     row-same = as-same (formOf (rowOp t a r)) refl ∙ ap (λ o. decodeAs (formOf o) u a r) op-same
 
     -- the test of positions reads a phi alone
-    is-phi : eqb (rowOp t a r) 31 ≡ true → formOf (rowOp t a r) ≡ Form.phi
+    is-phi : eqb (rowOp t a r) phiOp ≡ true → formOf (rowOp t a r) ≡ Form.phi
     unfolding formOf
-    is-phi e = ap formOf (eqb-true (rowOp t a r) 31 e)
+    is-phi e = ap formOf (eqb-true (rowOp t a r) phiOp e)
 
     entries-same : rowEntries t a r ≡ rowEntries u a r
     entries-same =
         rw (← op-same)
-        (cond-same (eqb (rowOp t a r) 31) (phiCount t a r) (phiCount u a r) 0 (λ e. two-same Form.phi (is-phi e) 6 tt tt (omega arith)))
+        (cond-same (eqb (rowOp t a r) phiOp) (phiCount t a r) (phiCount u a r) 0 (λ e. two-same Form.phi (is-phi e) 6 tt tt (omega arith)))
 
     position-same : (x : ℕ)
-        → cond (eqb (rowOp t a r) 31) (eqb (phiFirst t a r) x) true ≡ cond (eqb (rowOp u a r) 31) (eqb (phiFirst u a r) x) true
+        → cond (eqb (rowOp t a r) phiOp) (eqb (phiFirst t a r) x) true ≡ cond (eqb (rowOp u a r) phiOp) (eqb (phiFirst u a r) x) true
     position-same x =
         rw (← op-same)
-        (cond-same (eqb (rowOp t a r) 31) (eqb (phiFirst t a r) x) (eqb (phiFirst u a r) x) true
+        (cond-same (eqb (rowOp t a r) phiOp) (eqb (phiFirst t a r) x) (eqb (phiFirst u a r) x) true
         (λ e. ap (λ k. eqb k x) (two-same Form.phi (is-phi e) 4 tt tt (omega arith))))
 
   -- ---- names, registers, blocks
@@ -120,25 +121,25 @@ module _ (t u : List ℕ) (l : length t ≡ length u) (a : ℕ) (h : (k : ℕ) �
   register-same : (r : ℕ) → r < registerCount t a → decodeRegister t a r ≡ decodeRegister u a r
   unfolding decodeRegister
   register-same r b =
-      let type : registerType t a r ≡ registerType u a r = h (a + 73 + 66 * r) (NeededIn.registerType r b refl) in
-      let name : registerName t a r ≡ registerName u a r = name-same (a + 74 + 66 * r) (λ j c k e. h k (NeededIn.registerName r j b c e)) in
+      let type : registerType t a r ≡ registerType u a r = h (a + registersOffset + registerLength * r) (NeededIn.registerType r b refl) in
+      let name : registerName t a r ≡ registerName u a r = name-same (a + registerNamesOffset + registerLength * r) (λ j c k e. h k (NeededIn.registerName r j b c e)) in
       λ i. record { type = type i; name = name i }
 
   module _ (b : ℕ) (c : b < blockCount t a) where
     first-same : blockFirst t a b ≡ blockFirst u a b
     first-same =
-        ap₂ (λ x y. x + 256 * y) (h (a + 16969 + 69 * b) (NeededIn.blockPlace b 0 c (lit< tt) (omega arith)))
-        (h (a + 16969 + 69 * b + 1) (NeededIn.blockPlace b 1 c (lit< tt) refl))
+        ap₂ (λ x y. x + 256 * y) (h (a + blocksOffset + blockLength * b) (NeededIn.blockPlace b 0 c (lit< tt) (omega arith)))
+        (h (a + blocksOffset + blockLength * b + 1) (NeededIn.blockPlace b 1 c (lit< tt) refl))
 
     rows-same : blockRows t a b ≡ blockRows u a b
     rows-same =
-        ap₂ (λ x y. x + 256 * y) (h (a + 16971 + 69 * b) (NeededIn.blockPlace b 2 c (lit< tt) (omega arith)))
-        (h (a + 16971 + 69 * b + 1) (NeededIn.blockPlace b 3 c (lit< tt) (omega arith)))
+        ap₂ (λ x y. x + 256 * y) (h (a + blockRowsOffset + blockLength * b) (NeededIn.blockPlace b 2 c (lit< tt) (omega arith)))
+        (h (a + blockRowsOffset + blockLength * b + 1) (NeededIn.blockPlace b 3 c (lit< tt) (omega arith)))
 
     block-same : decodeBlock t a b ≡ decodeBlock u a b
     unfolding decodeBlock
     block-same =
-        let name : blockName t a b ≡ blockName u a b = name-same (a + 16973 + 69 * b) (λ j d k e. h k (NeededIn.blockName b j c d e)) in
+        let name : blockName t a b ≡ blockName u a b = name-same (a + blockNamesOffset + blockLength * b) (λ j d k e. h k (NeededIn.blockName b j c d e)) in
         let rows : map (decodeRow t a) (from (blockFirst t a b) (blockRows t a b)) ≡ map (decodeRow u a) (from (blockFirst u a b) (blockRows u a b)) =
         rw (← first-same, ← rows-same)
         (map-from-same (decodeRow t a) (decodeRow u a) (blockFirst t a b) (blockRows t a b)
@@ -171,19 +172,19 @@ module _ (t u : List ℕ) (l : length t ≡ length u) (a : ℕ) (h : (k : ℕ) �
   unfolding phisPlaced
   phis-placed-same =
       rw (← row-count-same)
-      (all-from-same (λ r. cond (eqb (rowOp t a r) 31) (eqb (phiFirst t a r) (entriesBefore t a r)) true)
-      (λ r. cond (eqb (rowOp u a r) 31) (eqb (phiFirst u a r) (entriesBefore u a r)) true) 0 (rowCount t a)
+      (all-from-same (λ r. cond (eqb (rowOp t a r) phiOp) (eqb (phiFirst t a r) (entriesBefore t a r)) true)
+      (λ r. cond (eqb (rowOp u a r) phiOp) (eqb (phiFirst u a r) (entriesBefore u a r)) true) 0 (rowCount t a)
       (λ i c. let d : 0 + i < rowCount t a = omega arith in
       rw (← entries-before-same (0 + i) (le-of-lt d)) (position-same (0 + i) (NeededRow.counted d) (entriesBefore t a (0 + i)))))
 
-  head-two-same : (j : ℕ) → suc j < 8 → two t (a + j) ≡ two u (a + j)
+  head-two-same : (j : ℕ) → suc j < nameOffset → two t (a + j) ≡ two u (a + j)
   head-two-same j b =
       ap₂ (λ x y. x + 256 * y) (h (a + j) (NeededIn.head j (omega arith) refl)) (h (a + j + 1) (NeededIn.head (suc j) b (omega arith)))
 
   function-same : decodeFunction t a ≡ decodeFunction u a
   unfolding decodeFunction
   function-same =
-      let name : functionName t a ≡ functionName u a = name-same (a + 8) (λ j c k e. h k (NeededIn.name j c e)) in
+      let name : functionName t a ≡ functionName u a = name-same (a + nameOffset) (λ j c k e. h k (NeededIn.name j c e)) in
       let ssa : functionSsa t a ≡ functionSsa u a = h a (NeededIn.head 0 (lit< tt) (omega arith)) in
       let result : functionResult t a ≡ functionResult u a = h (a + 1) (NeededIn.head 1 (lit< tt) refl) in
       let params : functionParams t a ≡ functionParams u a = head-two-same 2 (lit< tt) in

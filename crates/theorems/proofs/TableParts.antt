@@ -12,18 +12,19 @@ use lib.ListN.{length, getD}
 use Rattle.laws.specs.Lists.{from}
 use Rattle.laws.specs.Sections.{At, pad}
 use Rattle.laws.proofs.Ranges.{map-from}
-use Rattle.laws.proofs.Sections.{at-left, at-right, at-cell, at-part, at-pad}
-use Rattle.language.specs.Instructions.{Form, formOf}
+use Rattle.laws.proofs.Sections.{at-left, at-right, at-cell, at-pad}
+use Rattle.language.specs.Instructions.{Form, formOf, phiOp}
 use Rattle.language.specs.Programs.{Row, Register, Block, entriesOf, opOf, formIn, isPhi}
-use Rattle.language.specs.Table.{two, four, eight, nameAt, twoBytes, fourBytes, eightBytes, nameCells, registerCells, blockCells, rowCells}
+use Rattle.language.specs.Table.{two, four, eight, twoBytes, fourBytes, eightBytes, nameCells, registerCells, blockCells, rowCells}
 use Rattle.language.specs.Table.{decodeRegister, decodeRow, decodeAs, decodeBlock, registerType, registerName, blockFirst, blockRows}
 use Rattle.language.specs.Table.{blockName, rowEntries, rowOp, rowTarget, rowLeft, rowRight, loadNumber, jumpFirst, jumpSecond, phiFirst}
-use Rattle.language.specs.Table.{phiCount, phiEntry}
+use Rattle.language.specs.Table.{phiCount, phiEntry, blockLength, blocksOffset, entriesOffset, registerLength, registersOffset, rowLength, rowsOffset}
+use Rattle.language.proofs.TableLaws.{name-back}
 use Rattle.theorems.specs.TableLaw.{RowFits, numberOf}
 
 -- ---- the cells of a row
 
-pub length-row : (n : ℕ) (row : Row) → length (rowCells n row) ≡ 12
+pub length-row : (n : ℕ) (row : Row) → length (rowCells n row) ≡ rowLength
 unfolding pad rowCells
 length-row n Row.nop = refl
 length-row n (Row.load op t x) = refl
@@ -64,11 +65,11 @@ by-phi P p q Row.leave = q Row.leave refl refl
 by-phi P p q (Row.unknown op) = q (Row.unknown op) refl refl
 
 -- only phi has phi's number
-not-phi : (op : ℕ) → (formOf op ≡ Form.phi → true ≡ false) → eqb op 31 ≡ false
+not-phi : (op : ℕ) → (formOf op ≡ Form.phi → true ≡ false) → eqb op phiOp ≡ false
 unfolding formOf
-not-phi op h = ne-eqb op 31 (λ e. true≢false (h (ap formOf e)))
+not-phi op h = ne-eqb op phiOp (λ e. true≢false (h (ap formOf e)))
 
-phi-op : (row : Row) → formOf (opOf row) ≡ formIn row → eqb (opOf row) 31 ≡ isPhi row
+phi-op : (row : Row) → formOf (opOf row) ≡ formIn row → eqb (opOf row) phiOp ≡ isPhi row
 phi-op Row.nop f = refl
 phi-op (Row.load op t x) f = not-phi op (λ q. cc)
 phi-op (Row.unary op t s) f = not-phi op (λ q. cc)
@@ -101,20 +102,8 @@ module _ {t : List ℕ} where
       let high : four t (m + 4) ≡ n / 4294967296 % 4294967296 = four-back (n / 4294967296) (at-right (fourBytes n) (fourBytes (n / 4294967296)) h) (omega arith) in
       omega arith
 
-  -- ---- names
-
-  pub name-length-back : {k : ℕ} (name : List ℕ) → At t k (nameCells name) → {m : ℕ} → m ≡ k → getD t m 0 ≡ length name
-  unfolding nameCells
-  name-length-back name h e = at-cell 0 h 0 (zero-lt-suc (length (pad 64 name))) (omega arith)
-
-  pub name-back : {k : ℕ} (name : List ℕ) → At t k (nameCells name) → {m : ℕ} → m ≡ k → nameAt t m ≡ name
-  unfolding nameCells
-  name-back {k} name h {m} e =
-      let bytes : At t (k + 1) name = at-pad 64 name (at-right (length name ∷ []) (pad 64 name) h) in
-      at-part bytes {m = m + 1} (omega arith) (name-length-back name h e)
-
 module _ {t : List ℕ} (a : ℕ) where
-  pub register-back : {k : ℕ} (r : Register) (i : ℕ) → At t k (registerCells r) → k ≡ a + 73 + 66 * i → decodeRegister t a i ≡ r
+  pub register-back : {k : ℕ} (r : Register) (i : ℕ) → At t k (registerCells r) → k ≡ a + registersOffset + registerLength * i → decodeRegister t a i ≡ r
   unfolding registerCells decodeRegister
   register-back r i h e =
       let type : registerType t a i ≡ r .type = at-cell 0 h 0 (zero-lt-suc (length (nameCells (r .name)))) (omega arith) in
@@ -123,22 +112,22 @@ module _ {t : List ℕ} (a : ℕ) where
 
   -- ---- rows
 
-  pub entries-back : {k : ℕ} (n : ℕ) (es : List ℕ) → At t k es → k ≡ a + 33673 + n → map (phiEntry t a) (from n (length es)) ≡ es
+  pub entries-back : {k : ℕ} (n : ℕ) (es : List ℕ) → At t k es → k ≡ a + entriesOffset + n → map (phiEntry t a) (from n (length es)) ≡ es
   entries-back n es h e = map-from (phiEntry t a) 0 n es (λ i b. at-cell 0 h i b (omega arith))
 
-  module _ {k : ℕ} (n : ℕ) (row : Row) (r : ℕ) (h : At t k (rowCells n row)) (e : k ≡ a + 21385 + 12 * r) where
-    row-cell : (j : ℕ) → j < 12 → {m : ℕ} → m ≡ k + j → getD t m 0 ≡ getD (rowCells n row) j 0
+  module _ {k : ℕ} (n : ℕ) (row : Row) (r : ℕ) (h : At t k (rowCells n row)) (e : k ≡ a + rowsOffset + rowLength * r) where
+    row-cell : (j : ℕ) → j < rowLength → {m : ℕ} → m ≡ k + j → getD t m 0 ≡ getD (rowCells n row) j 0
     row-cell j b d = at-cell 0 h j (rw (length-row n row) b) d
 
     pub op-back : rowOp t a r ≡ opOf row
     op-back = row-cell 0 (lit< tt) (omega arith) ∙ first-cell n row
 
-  module _ {k : ℕ} (n u : ℕ) (es : List ℕ) (r : ℕ) (h : At t k (rowCells n (Row.phi u es))) (e : k ≡ a + 21385 + 12 * r) where
+  module _ {k : ℕ} (n u : ℕ) (es : List ℕ) (r : ℕ) (h : At t k (rowCells n (Row.phi u es))) (e : k ≡ a + rowsOffset + rowLength * r) where
     positions : At t (k + 4) (twoBytes n ++ twoBytes (length es))
     unfolding rowCells
     positions =
         let all : List ℕ = 31 ∷ u ∷ 0 ∷ 0 ∷ (twoBytes n ++ twoBytes (length es)) in
-        at-right (31 ∷ u ∷ 0 ∷ 0 ∷ []) (twoBytes n ++ twoBytes (length es)) (at-pad 12 all h)
+        at-right (phiOp ∷ u ∷ 0 ∷ 0 ∷ []) (twoBytes n ++ twoBytes (length es)) (at-pad rowLength all h)
 
     pub phi-first-back : n < 65536 → phiFirst t a r ≡ n
     phi-first-back b = two-back n (at-left (twoBytes n) (twoBytes (length es)) positions) (omega arith) ∙ mod-eq-of-lt b
@@ -147,8 +136,8 @@ module _ {t : List ℕ} (a : ℕ) where
     phi-count-back b = two-back (length es) (at-right (twoBytes n) (twoBytes (length es)) positions) (omega arith) ∙ mod-eq-of-lt b
 
   -- each form reads the cells that it writes
-  as-back : {k l : ℕ} (n : ℕ) (row : Row) (r : ℕ) → At t k (rowCells n row) → k ≡ a + 21385 + 12 * r → numberOf row < 2 ^ 64
-      → At t l (entriesOf row) → l ≡ a + 33673 + n → n < 65536 → length (entriesOf row) < 65536 → decodeAs (formIn row) t a r ≡ row
+  as-back : {k l : ℕ} (n : ℕ) (row : Row) (r : ℕ) → At t k (rowCells n row) → k ≡ a + rowsOffset + rowLength * r → numberOf row < 2 ^ 64
+      → At t l (entriesOf row) → l ≡ a + entriesOffset + n → n < 65536 → length (entriesOf row) < 65536 → decodeAs (formIn row) t a r ≡ row
   unfolding pad rowCells decodeAs
   as-back n Row.nop r h e x g d b c = refl
   as-back {k} n (Row.load op u y) r h e x g d b c =
@@ -186,13 +175,13 @@ module _ {t : List ℕ} (a : ℕ) where
   as-back n Row.leave r h e x g d b c = refl
   as-back {k} n (Row.unknown op) r h e x g d b c = ap Row.unknown (op-back n (Row.unknown op) r h e)
 
-  pub row-back : {k l : ℕ} (n : ℕ) (row : Row) (r : ℕ) → RowFits row → At t k (rowCells n row) → k ≡ a + 21385 + 12 * r
-      → At t l (entriesOf row) → l ≡ a + 33673 + n → n < 65536 → length (entriesOf row) < 65536 → decodeRow t a r ≡ row
+  pub row-back : {k l : ℕ} (n : ℕ) (row : Row) (r : ℕ) → RowFits row → At t k (rowCells n row) → k ≡ a + rowsOffset + rowLength * r
+      → At t l (entriesOf row) → l ≡ a + entriesOffset + n → n < 65536 → length (entriesOf row) < 65536 → decodeRow t a r ≡ row
   unfolding decodeRow
   row-back n row r f h e g d b c =
       ap (λ o. decodeAs (formOf o) t a r) (op-back n row r h e) ∙ ap (λ o. decodeAs o t a r) (f .form) ∙ as-back n row r h e (f .number) g d b c
 
-  pub row-entries-back : {k : ℕ} (n : ℕ) (row : Row) (r : ℕ) → formOf (opOf row) ≡ formIn row → At t k (rowCells n row) → k ≡ a + 21385 + 12 * r
+  pub row-entries-back : {k : ℕ} (n : ℕ) (row : Row) (r : ℕ) → formOf (opOf row) ≡ formIn row → At t k (rowCells n row) → k ≡ a + rowsOffset + rowLength * r
       → length (entriesOf row) < 65536 → rowEntries t a r ≡ length (entriesOf row)
   row-entries-back {k} n row r f h e c =
       rw (op-back n row r h e, phi-op row f)
@@ -201,8 +190,8 @@ module _ {t : List ℕ} (a : ℕ) where
       (λ row p q h c. rw (p, q))
       row h c)
 
-  pub phi-placed-back : {k : ℕ} (n : ℕ) (row : Row) (r : ℕ) → formOf (opOf row) ≡ formIn row → At t k (rowCells n row) → k ≡ a + 21385 + 12 * r
-      → n < 65536 → cond (eqb (rowOp t a r) 31) (eqb (phiFirst t a r) n) true ≡ true
+  pub phi-placed-back : {k : ℕ} (n : ℕ) (row : Row) (r : ℕ) → formOf (opOf row) ≡ formIn row → At t k (rowCells n row) → k ≡ a + rowsOffset + rowLength * r
+      → n < 65536 → cond (eqb (rowOp t a r) phiOp) (eqb (phiFirst t a r) n) true ≡ true
   phi-placed-back {k} n row r f h e c =
       rw (op-back n row r h e, phi-op row f)
       (by-phi (λ row. At t k (rowCells n row) → cond (isPhi row) (eqb (phiFirst t a r) n) true ≡ true)
@@ -212,7 +201,7 @@ module _ {t : List ℕ} (a : ℕ) where
 
   -- ---- blocks
 
-  module _ {k : ℕ} (n : ℕ) (b : Block) (i : ℕ) (h : At t k (blockCells n b)) (e : k ≡ a + 16969 + 69 * i) where
+  module _ {k : ℕ} (n : ℕ) (b : Block) (i : ℕ) (h : At t k (blockCells n b)) (e : k ≡ a + blocksOffset + blockLength * i) where
     pub block-first-back : n < 65536 → blockFirst t a i ≡ n
     unfolding blockCells
     block-first-back c = two-back n (at-left (twoBytes n) (twoBytes (length (b .rows)) ++ nameCells (b .name)) h) (omega arith) ∙ mod-eq-of-lt c

@@ -1,40 +1,32 @@
 -- A program that the check accepts fits its cells, so that decoding its cells gives it back.
 -- Assumes nothing.
 use mathlib.Core.Path.{_≡_, refl, sym, _∙_, ap, subst, subst⁻¹}
-use mathlib.Core.Bool.{Bool, true, false, cond, _&&_}
+use mathlib.Core.Bool.{Bool, true, false, cond}
 use mathlib.Core.List.{List, [], _∷_, _++_, foldl}
-use mathlib.Core.Logic.{_⊎_, inl, inr}
-use Prim.Native.Nat.{ℕ, zero, suc, _+_, _*_, _%_, _^_, _≤_, _<_}
+use mathlib.Core.Logic.{inl, inr}
+use Prim.Native.Nat.{ℕ, zero, _+_, _*_, _%_, _^_, _≤_, _<_}
 use native.Mathlib.Nat.{lt-of-lt-of-le, mod-lt, zero-lt-suc}
 use native.Mathlib.Omega.{arith}
-use lib.Dec.{T, ltb, leb, eqb, ltb→lt, leb→le, eqb→eq, lit<, lit≤}
+use lib.Dec.{T, ltb, leb, ltb→lt, leb→le, eqb→eq, lit<, lit≤}
 use lib.ListN.{length, getD}
 use lib.Pow.{pow-mono}
 use lib.Ieee.Fits.{and-l, and-r}
 use mir.Facts.{or-yes}
-use Rattle.laws.specs.Lists.{all, empty}
+use Rattle.laws.specs.Lists.{empty}
 use Rattle.laws.specs.Sections.{Bytes}
 use Rattle.laws.proofs.Every.{Every, none, more, every-all, every-at, every-left, every-right}
-use Rattle.language.specs.Instructions.{Form, formOf, formNumber, width, loadType}
+use Rattle.language.specs.Instructions.{Form, formOf, formNumber, width, loadType, instructionCount}
 use Rattle.language.specs.Names.{Spelling, spell, nextSpelled, whole, spelled}
-use Rattle.language.specs.Programs.{Row, Register, Block, Func, Program, noRegister, noBlock, noFunction, blockAt, rowsOf, opOf, formIn, targetsOf, sourcesOf, entriesOf, namedBy}
+use Rattle.language.proofs.SpelledNames.{spoiled}
+use Rattle.language.specs.Programs.{Row, Func, Program, noRegister, noBlock, noFunction, rowsOf, opOf, formIn, targetsOf, sourcesOf, entriesOf}
 use Rattle.language.specs.Checking.{Verdict, check, judgeFrom, shaped, inRange, numberFits, spelledOrNone}
 use Rattle.theorems.specs.Statements.{AcceptedBack}
-use Rattle.theorems.specs.TableLaw.{NameFits, RegisterFits, RowFits, FunctionFits, Fits, Held, numberOf}
+use Rattle.theorems.specs.TableLaw.{NameFits, RowFits, FunctionFits, Fits, Held, numberOf}
 use Rattle.theorems.proofs.AcceptanceCheck.{clean-of-check, Sound, sound-parts}
-use Rattle.theorems.proofs.AcceptanceRows.{InRange, range-parts}
-use Rattle.theorems.specs.Clean.{Clean}
+use Rattle.theorems.proofs.AcceptanceRows.{range-parts}
 use Rattle.theorems.proofs.Table.{table}
 
 -- ---- names
-
-wrong-stays : (n : List ℕ) → foldl spell Spelling.wrong n ≡ Spelling.wrong
-wrong-stays [] = refl
-wrong-stays (b ∷ n) = ap (λ (s : Spelling). foldl spell s n) (same (ltb b 256)) ∙ wrong-stays n
-  where
-    same : (c : Bool) → cond c Spelling.wrong Spelling.wrong ≡ Spelling.wrong
-    same true = refl
-    same false = refl
 
 spelled-bytes : (s : Spelling) (n : List ℕ) → T (whole (foldl spell s n)) → Bytes n
 spelled-bytes s [] h = tt
@@ -47,7 +39,7 @@ spelled-bytes s (b ∷ n) h = by (ltb b 256) refl h (spelled-bytes (nextSpelled 
         → (T (whole (foldl spell (nextSpelled s b) n)) → Bytes n)
         → Bytes (b ∷ n)
     by true e h ih = (ltb→lt b 256 (subst⁻¹ (λ (c : Bool). T c) e tt), ih h)
-    by false e h ih = absurd (subst (λ (x : Spelling). T (whole x)) (wrong-stays n) h)
+    by false e h ih = absurd (subst (λ (x : Spelling). T (whole x)) (spoiled n) h)
 
 pub spelled-fits : (n : List ℕ) → T (spelled n) → NameFits n
 unfolding spelled
@@ -120,8 +112,8 @@ row-fits f r s h =
     let rest = sourcesOf r ++ entriesOf r in
     let l = bytes-under {xs = rest} (s .registers) (every-right ts rest (q .registers)) in
     record {
-      form = same-form (formOf (opOf r)) (formIn r) (eqb→eq _ _ (and-r (ltb (opOf r) 36) _ (q .shape)));
-      op = lt-of-lt-of-le (ltb→lt (opOf r) 36 (and-l (ltb (opOf r) 36) _ (q .shape))) (lit≤ tt);
+      form = same-form (formOf (opOf r)) (formIn r) (eqb→eq _ _ (and-r (ltb (opOf r) instructionCount) _ (q .shape)));
+      op = lt-of-lt-of-le (ltb→lt (opOf r) instructionCount (and-l (ltb (opOf r) instructionCount) _ (q .shape))) (lit≤ tt);
       targets = bytes-under (s .registers) (every-left ts rest (q .registers));
       sources = bytes-under (s .registers) (every-left (sourcesOf r) (entriesOf r) (every-right ts rest (q .registers)));
       entries = bytes-under (s .registers) (every-right (sourcesOf r) (entriesOf r) (every-right ts rest (q .registers)));

@@ -12,13 +12,15 @@ use Rattle.laws.specs.Lists.{gather, sum, member}
 use Rattle.laws.specs.Sections.{At, ZeroOr, gatherFrom}
 use Rattle.laws.proofs.Sections.{at-right, gather-is-from, zero-or-append, zero-or-pad, zero-or-all, zero-or-gather, zero-or-stride}
 use Rattle.laws.proofs.Sections.{zero-or-map}
-use Rattle.language.specs.Instructions.{formOf}
+use Rattle.language.specs.Instructions.{formOf, jumpCondOp, jumpOp, leaveOp, phiOp, returnOp}
 use Rattle.language.specs.Programs.{Row, Register, Func, entriesOf, formIn, rowsOf, blockAt, noRegister, noBlock}
-use Rattle.language.specs.Table.{twoBytes, nameCells, registerCells, blockCells, rowCells, headCells, registerSection, blockSection}
+use Rattle.language.specs.Table.{twoBytes, nameCells, registerCells, blockCells, rowCells, headCells, registerSection, blockSection, nameOffset}
 use Rattle.language.specs.Table.{rowSection, entrySection, functionCells, rowOp, registerCount, blockCount, phiFirst, phiCount}
+use Rattle.language.specs.Table.{blockLength, blockNamesOffset, blocksLength, blocksOffset, entriesOffset, registerLength, registerNamesOffset, registersLength, registersOffset, rowLength, rowsLength, rowsOffset}
 use Rattle.theorems.specs.TableLaw.{FunctionFits}
 use Rattle.theorems.specs.TableNeeds.{usedCells, NeededRow, NeededIn}
-use Rattle.theorems.proofs.TableParts.{by-phi, length-row, op-back, phi-first-back, phi-count-back, name-length-back}
+use Rattle.theorems.proofs.TableParts.{by-phi, length-row, op-back, phi-first-back, phi-count-back}
+use Rattle.language.proofs.TableLaws.{name-length-back}
 use Rattle.theorems.proofs.TableFunction.{entries, entryStart, height, rowStart, registers-stride, blocks-stride, length-head}
 use Rattle.theorems.proofs.TableFunction.{length-registers, length-blocks, length-rows, register-at, row-at, entries-fit, block-at}
 use Rattle.theorems.proofs.TableFunction.{block-count-back, row-count-back, from-name, register-count-back}
@@ -37,20 +39,20 @@ Used row j = T (member j (usedCells (formIn row)))
 -- the cells that a row does not use
 row-zero : (n : ℕ) (row : Row) → ZeroOr (Used row) 0 (rowCells n row)
 unfolding rowCells
-row-zero n Row.nop = zero-or-pad (Used Row.nop) 0 12 (0 ∷ []) (inr tt, tt)
+row-zero n Row.nop = zero-or-pad (Used Row.nop) 0 rowLength (0 ∷ []) (inr tt, tt)
 row-zero n (Row.load op t x) =
     (inr tt, (inr tt, (inl refl, (inl refl, (inr tt, (inr tt, (inr tt, (inr tt, (inr tt, (inr tt, (inr tt, (inr tt, tt))))))))))))
-row-zero n (Row.unary op t s) = zero-or-pad (Used (Row.unary op t s)) 0 12 (op ∷ t ∷ s ∷ []) (inr tt, (inr tt, (inr tt, tt)))
-row-zero n (Row.binary op t l r) = zero-or-pad (Used (Row.binary op t l r)) 0 12 (op ∷ t ∷ l ∷ r ∷ []) (inr tt, (inr tt, (inr tt, (inr tt, tt))))
+row-zero n (Row.unary op t s) = zero-or-pad (Used (Row.unary op t s)) 0 rowLength (op ∷ t ∷ s ∷ []) (inr tt, (inr tt, (inr tt, tt)))
+row-zero n (Row.binary op t l r) = zero-or-pad (Used (Row.binary op t l r)) 0 rowLength (op ∷ t ∷ l ∷ r ∷ []) (inr tt, (inr tt, (inr tt, (inr tt, tt))))
 row-zero n (Row.phi t es) =
-    zero-or-pad (Used (Row.phi t es)) 0 12 (31 ∷ t ∷ 0 ∷ 0 ∷ (twoBytes n ++ twoBytes (length es)))
+    zero-or-pad (Used (Row.phi t es)) 0 rowLength (phiOp ∷ t ∷ 0 ∷ 0 ∷ (twoBytes n ++ twoBytes (length es)))
     (inr tt, (inr tt, (inl refl, (inl refl, (inr tt, (inr tt, (inr tt, (inr tt, tt))))))))
-row-zero n (Row.jump b) = zero-or-pad (Used (Row.jump b)) 0 12 (32 ∷ 0 ∷ 0 ∷ 0 ∷ b ∷ []) (inr tt, (inl refl, (inl refl, (inl refl, (inr tt, tt)))))
+row-zero n (Row.jump b) = zero-or-pad (Used (Row.jump b)) 0 rowLength (jumpOp ∷ 0 ∷ 0 ∷ 0 ∷ b ∷ []) (inr tt, (inl refl, (inl refl, (inl refl, (inr tt, tt)))))
 row-zero n (Row.branch s x y) =
-    zero-or-pad (Used (Row.branch s x y)) 0 12 (33 ∷ 0 ∷ s ∷ 0 ∷ x ∷ y ∷ []) (inr tt, (inl refl, (inr tt, (inl refl, (inr tt, (inr tt, tt))))))
-row-zero n (Row.return s) = zero-or-pad (Used (Row.return s)) 0 12 (34 ∷ 0 ∷ s ∷ []) (inr tt, (inl refl, (inr tt, tt)))
-row-zero n Row.leave = zero-or-pad (Used Row.leave) 0 12 (35 ∷ []) (inr tt, tt)
-row-zero n (Row.unknown op) = zero-or-pad (Used (Row.unknown op)) 0 12 (op ∷ []) (inr tt, tt)
+    zero-or-pad (Used (Row.branch s x y)) 0 rowLength (jumpCondOp ∷ 0 ∷ s ∷ 0 ∷ x ∷ y ∷ []) (inr tt, (inl refl, (inr tt, (inl refl, (inr tt, (inr tt, tt))))))
+row-zero n (Row.return s) = zero-or-pad (Used (Row.return s)) 0 rowLength (returnOp ∷ 0 ∷ s ∷ []) (inr tt, (inl refl, (inr tt, tt)))
+row-zero n Row.leave = zero-or-pad (Used Row.leave) 0 rowLength (leaveOp ∷ []) (inr tt, tt)
+row-zero n (Row.unknown op) = zero-or-pad (Used (Row.unknown op)) 0 rowLength (op ∷ []) (inr tt, tt)
 
 module _ (f : Func) (fits : FunctionFits f) {t : List ℕ} (a : ℕ) (h : At t a (functionCells f)) where
   abbrev P : ℕ → Type 0
@@ -61,47 +63,47 @@ module _ (f : Func) (fits : FunctionFits f) {t : List ℕ} (a : ℕ) (h : At t a
   head-zero =
       zero-or-append P a (f .ssa ∷ f .result ∷ (twoBytes (f .params) ++ (twoBytes (length (f .registers)) ++ (length (f .blocks) ∷ f .entry ∷ [])))) (nameCells (f .name))
       (zero-or-all P a (f .ssa ∷ f .result ∷ (twoBytes (f .params) ++ (twoBytes (length (f .registers)) ++ (length (f .blocks) ∷ f .entry ∷ [])))) (λ j b m e. NeededIn.head j b e))
-      (name-zero P (a + 8) (f .name) (λ j b m e. NeededIn.name j (rw (name-length-back (f .name) (from-name f fits a h) {m = a + 8} (omega arith)) b) e))
+      (name-zero P (a + nameOffset) (f .name) (λ j b m e. NeededIn.name j (rw (name-length-back (f .name) (from-name f fits a h) {m = a + nameOffset} (omega arith)) b) e))
       refl
 
   -- ---- registers
 
-  register-zero : (i : ℕ) → i < length (f .registers) → (q : ℕ) → q ≡ a + 73 + 66 * i → ZeroOr P q (registerCells (getD (f .registers) i noRegister))
+  register-zero : (i : ℕ) → i < length (f .registers) → (q : ℕ) → q ≡ a + registersOffset + registerLength * i → ZeroOr P q (registerCells (getD (f .registers) i noRegister))
   unfolding registerCells
   register-zero i b q e =
       let r : Register = getD (f .registers) i noRegister in
       let inside : i < registerCount t a = omega (arith, register-count-back f fits a h) in
-      let long : getD t (a + 74 + 66 * i) 0 ≡ length (r .name) =
+      let long : getD t (a + registerNamesOffset + registerLength * i) 0 ≡ length (r .name) =
       name-length-back (r .name) (at-right (r .type ∷ []) (nameCells (r .name)) (register-at f fits a h i b)) (omega arith) in
       (inr (NeededIn.registerType i inside e), name-zero P (suc q) (r .name) (λ j c m d. NeededIn.registerName i j inside (rw long c) (omega arith)))
 
-  registers-zero : ZeroOr P (a + 73) (registerSection f)
+  registers-zero : ZeroOr P (a + registersOffset) (registerSection f)
   unfolding registerSection
   registers-zero =
-      zero-or-pad P (a + 73) 16896 (gather registerCells (f .registers))
+      zero-or-pad P (a + registersOffset) registersLength (gather registerCells (f .registers))
       (rw (gather-is-from registerCells 0 (f .registers))
-      (zero-or-stride P (a + 73) (λ x. 0) (λ m. registerCells) 66 noRegister 0 (f .registers) (registers-stride f fits) (λ m i b q e. register-zero i b q e)))
+      (zero-or-stride P (a + registersOffset) (λ x. 0) (λ m. registerCells) registerLength noRegister 0 (f .registers) (registers-stride f fits) (λ m i b q e. register-zero i b q e)))
 
   -- ---- blocks
 
-  block-zero : (m i : ℕ) → i < length (f .blocks) → (q : ℕ) → q ≡ a + 16969 + 69 * i → ZeroOr P q (blockCells m (blockAt f i))
+  block-zero : (m i : ℕ) → i < length (f .blocks) → (q : ℕ) → q ≡ a + blocksOffset + blockLength * i → ZeroOr P q (blockCells m (blockAt f i))
   unfolding blockCells
   block-zero m i b q e =
       let count : List ℕ = twoBytes (height (blockAt f i)) in
       let name : List ℕ = blockAt f i .name in
       let inside : i < blockCount t a = omega (arith, block-count-back f fits a h) in
-      let long : getD t (a + 16973 + 69 * i) 0 ≡ length name =
+      let long : getD t (a + blockNamesOffset + blockLength * i) 0 ≡ length name =
       name-length-back name (at-right (twoBytes (rowStart f i) ++ count) (nameCells name) (block-at f fits a h i b)) (omega arith) in
       zero-or-append P q (twoBytes m ++ count) (nameCells name)
       (zero-or-all P q (twoBytes m ++ count) (λ j c k d. NeededIn.blockPlace i j inside c (omega arith)))
       (name-zero P (q + 4) name (λ j c k d. NeededIn.blockName i j inside (rw long c) (omega arith)))
       refl
 
-  blocks-zero : ZeroOr P (a + 16969) (blockSection f)
+  blocks-zero : ZeroOr P (a + blocksOffset) (blockSection f)
   unfolding blockSection
   blocks-zero =
-      zero-or-pad P (a + 16969) 4416 (gatherFrom height blockCells 0 (f .blocks))
-      (zero-or-stride P (a + 16969) height blockCells 69 noBlock 0 (f .blocks) (blocks-stride f fits) block-zero)
+      zero-or-pad P (a + blocksOffset) blocksLength (gatherFrom height blockCells 0 (f .blocks))
+      (zero-or-stride P (a + blocksOffset) height blockCells blockLength noBlock 0 (f .blocks) (blocks-stride f fits) block-zero)
 
   -- ---- rows and their entries
 
@@ -115,14 +117,14 @@ module _ (f : Func) (fits : FunctionFits f) {t : List ℕ} (a : ℕ) (h : At t a
     form : formOf (rowOp t a i) ≡ formIn row
     form = ap formOf (op-back a (entryStart f i) row i (row-at f fits a h i b) refl) ∙ fits .rows i b .form
 
-    row-cells-zero : (m q : ℕ) → q ≡ a + 21385 + 12 * i → ZeroOr P q (rowCells m row)
+    row-cells-zero : (m q : ℕ) → q ≡ a + rowsOffset + rowLength * i → ZeroOr P q (rowCells m row)
     row-cells-zero m q e =
         rw (add-zero q) at (zero-or-map (Used row) P q (λ j k d u. NeededIn.row i j inside (rw form u) (omega arith)) 0 (rowCells m row) (row-zero m row))
 
-    entries-cells-zero : (q : ℕ) → q ≡ a + 33673 + sum (map entries (take i (rowsOf f))) → ZeroOr P q (entriesOf row)
+    entries-cells-zero : (q : ℕ) → q ≡ a + entriesOffset + sum (map entries (take i (rowsOf f))) → ZeroOr P q (entriesOf row)
     entries-cells-zero q e =
         by-phi
-        (λ x. At t (a + 21385 + 12 * i) (rowCells (entryStart f i) x) → formOf (rowOp t a i) ≡ formIn x → entryStart f i + entries x ≤ 1024 → ZeroOr P q (entriesOf x))
+        (λ x. At t (a + rowsOffset + rowLength * i) (rowCells (entryStart f i) x) → formOf (rowOp t a i) ≡ formIn x → entryStart f i + entries x ≤ 1024 → ZeroOr P q (entriesOf x))
         (λ u es g d c.
         let first : phiFirst t a i ≡ entryStart f i = phi-first-back a (entryStart f i) u es i g refl (omega arith) in
         let count : phiCount t a i ≡ length es = phi-count-back a (entryStart f i) u es i g refl (omega arith) in
@@ -130,25 +132,25 @@ module _ (f : Func) (fits : FunctionFits f) {t : List ℕ} (a : ℕ) (h : At t a
         (λ x u none g d c. rw none tt)
         row (row-at f fits a h i b) form (omega (arith, entries-fit f fits a h i b))
 
-  rows-zero : ZeroOr P (a + 21385) (rowSection f)
+  rows-zero : ZeroOr P (a + rowsOffset) (rowSection f)
   unfolding rowSection
   rows-zero =
-      zero-or-pad P (a + 21385) 12288 (gatherFrom entries rowCells 0 (rowsOf f))
-      (zero-or-stride P (a + 21385) entries rowCells 12 Row.nop 0 (rowsOf f) (λ m i b. length-row m (getD (rowsOf f) i Row.nop)) (λ m i b q e. row-cells-zero i b m q e))
+      zero-or-pad P (a + rowsOffset) rowsLength (gatherFrom entries rowCells 0 (rowsOf f))
+      (zero-or-stride P (a + rowsOffset) entries rowCells rowLength Row.nop 0 (rowsOf f) (λ m i b. length-row m (getD (rowsOf f) i Row.nop)) (λ m i b q e. row-cells-zero i b m q e))
 
-  entries-zero : ZeroOr P (a + 33673) (entrySection f)
+  entries-zero : ZeroOr P (a + entriesOffset) (entrySection f)
   unfolding entrySection
   entries-zero =
-      zero-or-pad P (a + 33673) 1024 (gather entriesOf (rowsOf f))
-      (zero-or-gather P (a + 33673) entriesOf Row.nop (rowsOf f) entries-cells-zero)
+      zero-or-pad P (a + entriesOffset) 1024 (gather entriesOf (rowsOf f))
+      (zero-or-gather P (a + entriesOffset) entriesOf Row.nop (rowsOf f) entries-cells-zero)
 
   pub function-zero : ZeroOr P a (functionCells f)
   unfolding functionCells
   function-zero =
       zero-or-append P a (headCells f) (registerSection f ++ (blockSection f ++ (rowSection f ++ entrySection f))) head-zero
-      (zero-or-append P (a + 73) (registerSection f) (blockSection f ++ (rowSection f ++ entrySection f)) registers-zero
-      (zero-or-append P (a + 16969) (blockSection f) (rowSection f ++ entrySection f) blocks-zero
-      (zero-or-append P (a + 21385) (rowSection f) (entrySection f) rows-zero entries-zero (omega (arith, length-rows f fits)))
+      (zero-or-append P (a + registersOffset) (registerSection f) (blockSection f ++ (rowSection f ++ entrySection f)) registers-zero
+      (zero-or-append P (a + blocksOffset) (blockSection f) (rowSection f ++ entrySection f) blocks-zero
+      (zero-or-append P (a + rowsOffset) (rowSection f) (entrySection f) rows-zero entries-zero (omega (arith, length-rows f fits)))
       (omega (arith, length-blocks f fits)))
       (omega (arith, length-registers f fits)))
       (omega (arith, length-head f fits))

@@ -2,7 +2,7 @@
 -- Assumes nothing.
 use mathlib.Core.Bool.{Bool, true, false, not, _&&_, _||_, true≢false}
 use mathlib.Core.List.{List, [], _∷_, _++_, map}
-use mathlib.Core.Path.{_≡_, refl, sym, _∙_, ap, subst}
+use mathlib.Core.Path.{_≡_, sym, _∙_, ap, subst}
 use Prim.Native.Nat.{ℕ, _+_, _<_}
 use native.Mathlib.Omega.{arith}
 use lib.Dec.{T, eqb, ltb, ltb→lt, eqb→eq}
@@ -13,7 +13,7 @@ use Rattle.laws.specs.Lists.{any, empty, same, gather}
 use Rattle.laws.proofs.Every.{Every, every-all, every-imp, every-at, every-of, every-left, every-right, every-gather, every-unmap}
 use Rattle.laws.proofs.Indexing.{any-at}
 use Rattle.laws.proofs.Positions.{same-is}
-use Rattle.language.specs.Instructions.{formOf, formNumber, typeCount}
+use Rattle.language.specs.Instructions.{formOf, formNumber, typeCount, instructionCount}
 use Rattle.language.specs.Names.{spelled}
 use Rattle.language.specs.Programs.{Row, Func, Program, noRegister, noBlock, noFunction, functionIn, blockAt, rowsAt, rowsOf, entryCount, opOf, formIn, targetsOf, sourcesOf, entriesOf, namedBy, isPhi}
 use Rattle.language.specs.Checking.{Verdict, check, shaped, inRange, spelledOrNone, predecessors, spotAt, breaks15}
@@ -22,7 +22,7 @@ use Rattle.theorems.specs.Clean.{Clean}
 use Rattle.theorems.specs.Accepted.{namesBefore}
 use Rattle.theorems.specs.RoundTrip.{TokensFound, ReadsBack}
 use Rattle.theorems.proofs.Judged.{accepted-each}
-use Rattle.theorems.proofs.AcceptanceCheck.{clean-of-check, sound-of-check, Sound, sound-parts, sound-apart, passes15}
+use Rattle.theorems.proofs.AcceptanceCheck.{clean-of-check, sound-of-check, Sound, sound-parts, sound-apart, passes-each}
 use Rattle.theorems.proofs.AcceptanceRows.{Source, source-rows, range-parts}
 use Rattle.theorems.proofs.TableSound.{same-form, true-of}
 use Rattle.theorems.proofs.WritingDeclared.{Apart, apart-at}
@@ -44,8 +44,8 @@ module _ (f : Func) (c : Clean f) (n : AllNamed f) where
       let k = h .range in
       let rest = every-right (targetsOf r) (sourcesOf r ++ entriesOf r) (k .registers) in
       record {
-        form = same-form (formOf (opOf r)) (formIn r) (eqb→eq _ _ (and-r (ltb (opOf r) 36) _ (k .shape)));
-        op = ltb→lt (opOf r) 36 (and-l (ltb (opOf r) 36) (eqb (formNumber (formOf (opOf r))) (formNumber (formIn r))) (k .shape));
+        form = same-form (formOf (opOf r)) (formIn r) (eqb→eq _ _ (and-r (ltb (opOf r) instructionCount) _ (k .shape)));
+        op = ltb→lt (opOf r) instructionCount (and-l (ltb (opOf r) instructionCount) (eqb (formNumber (formOf (opOf r))) (formNumber (formIn r))) (k .shape));
         targets = every-left (targetsOf r) (sourcesOf r ++ entriesOf r) (k .registers);
         sources = every-left (sourcesOf r) (entriesOf r) rest;
         entries = every-right (sourcesOf r) (entriesOf r) rest;
@@ -57,7 +57,7 @@ module _ (f : Func) (c : Clean f) (n : AllNamed f) where
   unfolding breaks15
   phi-some b j l t =
       let r = spotAt f b j .row in
-      by (isPhi r) t (entriesOf r) (passes15 f (spotAt f b j) (c .rows b j l))
+      by (isPhi r) t (entriesOf r) (passes-each f (spotAt f b j) (c .rows b j l) 15 tt)
     where
       by : (p : Bool) → T p → (es : List ℕ) → (p && (empty es || not (eqb (length es) (length (predecessors f b))))) ≡ false → 0 < length es
       by true t [] e = absurd (true≢false e)

@@ -7,11 +7,10 @@ use native.Mathlib.Omega.{arith}
 use lib.Dec.{T}
 use lib.ListN.{length, getD, length-map, List·getD-map}
 use lib.Seq.{ext-getD}
-use Rattle.laws.specs.Lists.{empty, together}
+use Rattle.laws.specs.Lists.{together}
 use Rattle.laws.proofs.Every.{every-at, every-of, map-fixed}
 use Rattle.language.specs.Names.{spelled}
-use Rattle.language.specs.Programs.{Register, Block, Func, Program, noBlock, noFunction, functionIn, blockAt}
-use Rattle.language.specs.Checking.{Verdict, check}
+use Rattle.language.specs.Programs.{Register, Block, Func, noBlock, noFunction, functionIn, blockAt}
 use Rattle.language.specs.Writing.{textOf}
 use Rattle.language.specs.MadeNames.{registerNames, blockNames, namedFunction, named, written}
 use Rattle.theorems.specs.Accepted.{namesBefore}

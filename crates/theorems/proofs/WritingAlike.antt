@@ -7,7 +7,7 @@ use Prim.Native.Nat.{ℕ, zero, suc, _+_, _-_, _^_}
 use lib.Dec.{T, eqb, ltb}
 use lib.ListN.{length, getD, set, take, drop, replicate, length-map, List·getD-map}
 use Rattle.laws.specs.Lists.{any, all, keep, position, empty, gather, sum, below, member, together}
-use Rattle.language.specs.Instructions.{width, loadType, uint, void}
+use Rattle.language.specs.Instructions.{width, loadType, uint, void, cmpEqOp, convOp, shlOp}
 use Rattle.language.specs.Arithmetic.{unaryOf, binaryOf}
 use Rattle.language.specs.Programs.{Row, Register, Block, Func, noRegister, noBlock, noRow, rowsAt, typeAt, rowsOf, firstRow, isPhi, isTerminator, targetsOf, sourcesOf, entriesOf, namedBy, opOf, maxBlocks}
 use Rattle.language.specs.Checking.{Spot, lastRow, goesTo, predecessors, rowNumber, assignedIn, shaped, numberFits, inRange, typed, breaks9, breaks10, breaks11, breaks12, breaks13, breaks14, breaks15, breaks16, rowTests, breaksRow, Path, Late, Missing}
@@ -84,11 +84,11 @@ module _ (f g : Func) (h : AlikeButNames f g) where
   unfolding typed
   typed-alike Row.nop = refl
   typed-alike (Row.load op t n) = λ i. eqb (type-alike t i) (loadType op)
-  typed-alike (Row.unary op t s) = λ i. eqb op 29 || eqb (type-alike t i) (type-alike s i)
+  typed-alike (Row.unary op t s) = λ i. eqb op convOp || eqb (type-alike t i) (type-alike s i)
   typed-alike (Row.binary op t l r) =
       λ i.
-      cond (ltb op 19) (eqb (type-alike t i) (type-alike l i) && eqb (type-alike l i) (type-alike r i))
-      (cond (ltb op 23) (eqb (type-alike t i) (type-alike l i) && eqb (type-alike r i) uint) (eqb (type-alike l i) (type-alike r i) && eqb (type-alike t i) uint))
+      cond (ltb op shlOp) (eqb (type-alike t i) (type-alike l i) && eqb (type-alike l i) (type-alike r i))
+      (cond (ltb op cmpEqOp) (eqb (type-alike t i) (type-alike l i) && eqb (type-alike r i) uint) (eqb (type-alike l i) (type-alike r i) && eqb (type-alike t i) uint))
   typed-alike (Row.phi t es) = λ i. all (λ e. eqb (type-alike e i) (type-alike t i)) es
   typed-alike (Row.jump b) = refl
   typed-alike (Row.branch s x y) = λ i. eqb (type-alike s i) uint

@@ -8,16 +8,16 @@ use lib.ListN.{length, length-append, length-map}
 use borrow.Author.Tests.{lt-ltb, le-ltb}
 use Rattle.laws.specs.Lists.{gather}
 use Rattle.laws.proofs.Every.{Every, more as every-cons}
-use Rattle.laws.proofs.Sums.{gather-append}
-use Rattle.language.specs.Bytes.{leftBrace, rightBrace}
+use Rattle.laws.proofs.Appending.{gather-append}
+use Rattle.language.specs.Bytes.{rightBrace}
 use Rattle.language.specs.Words.{blockWord}
 use Rattle.language.specs.Programs.{Row, Block, Func, blockAt, entriesOf, namedBy, maxRows, maxEntries, maxBlocks}
 use Rattle.language.specs.Tokens.{Token}
 use Rattle.language.specs.Grammar.{Stage, Act, to, gram}
-use Rattle.language.specs.Reading.{noParts, blockNumber, maxMentions, beginBlock, nameBlock, endBlock, perform}
+use Rattle.language.specs.Reading.{noParts, blockNumber, maxMentions, beginBlock, nameBlock, endBlock, performAct}
 use Rattle.language.specs.Writing.{blockToken, rowLine, blockLines, closing}
 use Rattle.language.proofs.Rooms.{entriesIn, entries-append}
-use Rattle.theorems.proofs.WritingStates.{State, Takes, nothing, then, after, step, passes, pass-then}
+use Rattle.theorems.proofs.WritingStates.{State, Takes, nothing, then, after, step, pass-then}
 use Rattle.theorems.proofs.WritingDeclared.{New, Apart, numbered, new-number}
 use Rattle.theorems.proofs.WritingHeads.{nameOf}
 use Rattle.theorems.proofs.WritingRows.{drafted, RowReady, rowing, Starts, mentioned, row-read}
@@ -197,7 +197,7 @@ module _ (fs : List Func) (F : Func) (apart : Apart nameOf [] (F .registers)) wh
       → New (λ n. n) (b .name) (map blockName bs)
       → length bs < maxBlocks → Room bs (b .name) [] ns (b .rows)
       → Takes (atBlock s bs ns) (gather (λ l. l) (blockLines F b)) (atBlock Stage.blocks (bs ++ (asDrafted (length ns) b ∷ [])) (ns ++ mentions F (b .rows)))
-  unfolding blockLines gram perform beginBlock nameBlock endBlock blockNumber
+  unfolding blockLines gram performAct beginBlock nameBlock endBlock blockNumber
   block-read s g bs ns b k new few room =
       let n = b .name in
       let count : numbered blockName bs n ≡ length bs = by-names bs n ∙ new-number (λ n. n) n (map blockName bs) new ∙ length-map bs blockName in

@@ -10,13 +10,13 @@ use lib.ListN.{length, length-append}
 use borrow.Author.Tests.{lt-ltb, le-ltb, ne-eqb, eqb-true, eqb-false}
 use Rattle.laws.specs.Lists.{gather}
 use Rattle.laws.proofs.Every.{Every, more as every-cons}
-use Rattle.language.specs.Bytes.{comma, leftParen, rightParen, leftBrace, semicolon}
+use Rattle.language.specs.Bytes.{comma, leftBrace, semicolon}
 use Rattle.language.specs.Words.{firstType, functionWord, ssaWord, voidWord, registerWord}
 use Rattle.language.specs.Instructions.{void}
 use Rattle.language.specs.Programs.{Register, Func, noBlock, maxFunctions, maxRegisters}
 use Rattle.language.specs.Tokens.{Token}
 use Rattle.language.specs.Grammar.{Stage, Act, to, aType, aResult, gram}
-use Rattle.language.specs.Reading.{Mention, noParts, functionOf, functionNumber, registerNumber, beginFunction, markSsa, setResult, nameFunction, beginRegister, nameRegister, perform}
+use Rattle.language.specs.Reading.{Mention, noParts, functionOf, functionNumber, registerNumber, beginFunction, markSsa, setResult, nameFunction, beginRegister, nameRegister, performAct}
 use Rattle.language.specs.Writing.{registerLine, parameterPart, parted, typeToken, resultToken, inParens}
 use Rattle.theorems.proofs.WritingStates.{State, Takes, nothing, then, after, step, passes, pass-then, type-word, draft}
 use Rattle.theorems.proofs.WritingDeclared.{New, Apart, new-number}
@@ -36,7 +36,7 @@ module _ (fs : List Func) (name : List ℕ) (ssa result : ℕ) where
   named :
       (j k : ℕ) (s s′ : Stage) (rs : List Register) (r : Register) (a : Act)
       → gram s (Token.name (r .name)) ≡ to s′ a
-      → ((p : ℕ) (ms : List Mention) → perform a p (draft (headed s k rs) ms) ≡ nameRegister j (r .type) (r .name) p (draft (headed s k rs) ms))
+      → ((p : ℕ) (ms : List Mention) → performAct a p (draft (headed s k rs) ms) ≡ nameRegister j (r .type) (r .name) p (draft (headed s k rs) ms))
       → length rs < maxRegisters → New nameOf (r .name) rs
       → Takes (headed s k rs) (Token.name (r .name) ∷ []) (headed s′ (k + j) (rs ++ (r ∷ [])))
   unfolding nameRegister registerNumber
@@ -47,11 +47,11 @@ module _ (fs : List Func) (name : List ℕ) (ssa result : ℕ) where
 
   module _ (k : ℕ) (rs : List Register) (r : Register) (room : length rs < maxRegisters) (type : r .type < 10) (new : New nameOf (r .name) rs) where
     begins : (s s′ : Stage) (t : Token) → gram s t ≡ to s′ Act.beginRegister → Takes (headed s k rs) (t ∷ []) (headed s′ k rs)
-    unfolding perform beginRegister
+    unfolding performAct beginRegister
     begins s s′ t e = step (headed s k rs) (headed s′ k rs) t Act.beginRegister e (λ p ms h. rw (lt-ltb (length rs) maxRegisters room)) refl
 
     register-read : Takes (headed Stage.declarations k rs) (registerLine r) (headed Stage.declarations k (rs ++ (r ∷ [])))
-    unfolding gram perform
+    unfolding gram performAct
     register-read =
         then _ (headed Stage.registerType k rs) _ _ _ (begins Stage.declarations Stage.registerType (Token.word registerWord) refl)
         (then _ (headed (Stage.registerName (r .type)) k rs) _ _ _
@@ -66,7 +66,7 @@ module _ (fs : List Func) (name : List ℕ) (ssa result : ℕ) where
         (s : Stage)
         → gram s (typeToken (r .type)) ≡ to (Stage.parameterName (r .type)) Act.beginRegister
         → Takes (headed s k rs) (parameterPart r) (headed Stage.parameterEnd (k + 1) (rs ++ (r ∷ [])))
-    unfolding gram perform
+    unfolding gram performAct
     parameter-read s e =
         then _ (headed (Stage.parameterName (r .type)) k rs) _ _ _ (begins s (Stage.parameterName (r .type)) (typeToken (r .type)) e)
         (named 1 k (Stage.parameterName (r .type)) Stage.parameterEnd rs r (Act.nameParameter (r .type) (r .name)) refl (λ p ms. refl) room new)
@@ -163,7 +163,7 @@ module _ (fs : List Func) (name : List ℕ) (ssa result : ℕ) (room : length fs
   named-function :
       (s : ℕ)
       → Takes (heading Stage.functionName fs (functionOf [] s result 0 [] [] 0)) (Token.name name ∷ []) (heading Stage.parameters fs (functionOf name s result 0 [] [] 0))
-  unfolding gram perform nameFunction functionNumber
+  unfolding gram performAct nameFunction functionNumber
   named-function s =
       step (heading Stage.functionName fs (functionOf [] s result 0 [] [] 0)) (heading Stage.parameters fs (functionOf name s result 0 [] [] 0)) (Token.name name) (Act.nameFunction name) refl
       (λ p ms h. rw (lt-ltb (length fs) maxFunctions room, new-number functionName name fs new, le-ltb (length fs) (length fs) (omega arith))) refl
@@ -172,13 +172,13 @@ module _ (fs : List Func) (name : List ℕ) (ssa result : ℕ) (room : length fs
       (s : ℕ) (g : Stage)
       → ((w : ℕ) → (w ≡ ssaWord → ⊥) → gram g (Token.word w) ≡ aResult w)
       → Takes (heading g fs (functionOf [] s 0 0 [] [] 0)) (resultToken result ∷ []) (heading Stage.functionName fs (functionOf [] s result 0 [] [] 0))
-  unfolding perform setResult
+  unfolding performAct setResult
   resulted s g e =
       step (heading g fs (functionOf [] s 0 0 [] [] 0)) (heading Stage.functionName fs (functionOf [] s result 0 [] [] 0)) (resultToken result) (Act.setResult result)
       (result-word result typed g e) (λ p ms h. refl) refl
 
   begun : Takes (between fs) (Token.word functionWord ∷ []) (heading Stage.header fs (functionOf [] 0 0 0 [] [] 0))
-  unfolding gram perform beginFunction
+  unfolding gram performAct beginFunction
   begun =
       step (between fs) (heading Stage.header fs (functionOf [] 0 0 0 [] [] 0)) (Token.word functionWord) Act.beginFunction refl
       (λ p ms h. rw (lt-ltb (length fs) maxFunctions room)) refl
@@ -188,7 +188,7 @@ module _ (fs : List Func) (name : List ℕ) (ssa result : ℕ) (room : length fs
       (ts : List Token) (τ : State)
       → Takes (heading Stage.parameters fs (functionOf name ssa result 0 [] [] 0)) ts τ
       → Takes (between fs) (Token.word functionWord ∷ (cond (eqb ssa 1) (Token.word ssaWord ∷ []) [] ++ (resultToken result ∷ Token.name name ∷ ts))) τ
-  unfolding gram perform markSsa
+  unfolding gram performAct markSsa
   titled ts τ later = then _ (heading Stage.header fs (functionOf [] 0 0 0 [] [] 0)) _ _ _ begun (by (eqb ssa 1) refl)
     where
       unmarked : (b : Bool) → eqb ssa 1 ≡ b → b ≡ false → 0 ≡ ssa

@@ -161,11 +161,6 @@ module _ (prefix : List ℕ) (used : List (List ℕ)) where
   numberAt k (wanted ∷ ts) zero = nextFree prefix used k
   numberAt k (wanted ∷ ts) (suc i) = numberAt (suc (nextFree prefix used k)) ts i
 
-  pub entitled-length : (k : ℕ) (ts : List Title) → length (entitled prefix used k ts) ≡ length ts
-  entitled-length k [] = refl
-  entitled-length k (given n ∷ ts) = ap suc (entitled-length k ts)
-  entitled-length k (wanted ∷ ts) = ap suc (entitled-length (suc (nextFree prefix used k)) ts)
-
   pub name-given : (k : ℕ) (ts : List Title) (i : ℕ) (n : List ℕ) → Gives ts i n → getD (entitled prefix used k ts) i [] ≡ n
   name-given k [] i n e = same-given [] n e
   name-given k (given m ∷ ts) zero n e = same-given m n e

@@ -4,7 +4,7 @@ use mathlib.Core.Bool.{Bool, true, false, cond, not, _&&_, false≢true}
 use mathlib.Core.List.{List, [], _∷_, map}
 use mathlib.Core.Logic.{_⊎_, inl, inr, ⊎-elim}
 use mathlib.Core.Path.{_≡_, refl, sym, _∙_, ap, subst, subst⁻¹}
-use Prim.Native.Nat.{ℕ, zero, suc, _+_, _*_, _≤_, _<_, zero-le}
+use Prim.Native.Nat.{ℕ, zero, suc, _≤_, _<_, zero-le}
 use native.Mathlib.Nat.{not-suc-le-zero}
 use native.Mathlib.Decide.{decLt}
 use native.Mathlib.Omega.{arith}
@@ -28,7 +28,8 @@ use Rattle.theorems.proofs.AcceptanceCheck.{Sound, sound-parts, sound-a
 use Rattle.theorems.proofs.Accepted.{accepted-exactly}
 use Rattle.theorems.proofs.WritingAlike.{rows-alike, registers-alike, blocks-alike, all-rows-alike, range-alike, breaks-alike, missing-alike}
 use Rattle.theorems.proofs.WritingDeclared.{distinct-at, at-distinct}
-use Rattle.theorems.proofs.WritingMade.{Prefix, made-apart, made-spelled, Wants, Gives, wants-none, numberAt, entitled-length, name-given, name-made, number-free, number-rises, number-most, number-smallest}
+use Rattle.theorems.proofs.WritingMade.{Prefix, made-apart, made-spelled, Wants, Gives, wants-none, numberAt, name-given, name-made, number-free, number-rises, number-most, number-smallest}
+use Rattle.language.proofs.MadeNamesLaws.{entitled-length}
 
 -- ---- names of one kind, by their titles
 

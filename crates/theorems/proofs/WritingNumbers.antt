@@ -17,7 +17,7 @@ use Rattle.language.specs.Bytes.{digitZero}
 use Rattle.language.specs.Instructions.{width, signed}
 use Rattle.language.specs.Arithmetic.{meaning}
 use Rattle.language.specs.Tokens.{Token}
-use Rattle.language.specs.Reading.{inRange, bitsOf}
+use Rattle.language.specs.Reading.{numberInRange, bitsOf}
 use Rattle.language.specs.Listing.{digits}
 use Rattle.language.specs.Writing.{meantToken, numberToken}
 use Rattle.language.proofs.Digits.{digits-by, value-digits, digits-short}
@@ -66,7 +66,7 @@ pub record Meant (t n : ℕ) : Type 0 where
   pub negative : Bool
   pub magnitude : ℕ
   pub spelled : numberToken t n ≡ Token.number negative magnitude
-  pub fits : inRange t negative magnitude ≡ true
+  pub fits : numberInRange t negative magnitude ≡ true
   pub worth : bitsOf t negative magnitude ≡ n
 
 double : (w : ℕ) → 0 < w → 2 ^ w ≡ 2 * 2 ^ (w - 1)
@@ -87,7 +87,7 @@ minus-token zero h = absurd (omega arith)
 minus-token (suc m) h = refl
 
 pub meant : (t n : ℕ) → n < 2 ^ width t → Meant t n
-unfolding numberToken meaning inRange bitsOf
+unfolding numberToken meaning numberInRange bitsOf
 meant t n h = by (signed t) refl (leb (2 ^ (width t - 1)) n) refl
   where
     half : 2 ^ width t ≡ 2 * 2 ^ (width t - 1)

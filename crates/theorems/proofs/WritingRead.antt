@@ -11,7 +11,7 @@ use lib.Seq.{length-take-le}
 use borrow.Author.Tests.{eqb-false}
 use Rattle.laws.specs.Lists.{gather}
 use Rattle.laws.proofs.Every.{Every, none as every-nil, more as every-cons, every-append, every-left, every-right, every-map, every-imp, every-both, every-gather, every-at}
-use Rattle.laws.proofs.Sums.{gather-append}
+use Rattle.laws.proofs.Appending.{gather-append}
 use Rattle.language.specs.Bytes.{Class, classOf, leftParen, rightParen, leftBrace, rightBrace, comma, semicolon, equals}
 use Rattle.language.specs.Instructions.{void, loadType}
 use Rattle.language.specs.Arithmetic.{meaning}
@@ -20,7 +20,7 @@ use Rattle.language.specs.Programs.{Row, Register, Block, Func, Program, noRegi
 use Rattle.language.specs.Checking.{spelledOrNone}
 use Rattle.language.specs.Tokens.{Token, tokensOf}
 use Rattle.language.specs.Grammar.{Stage, gram}
-use Rattle.language.specs.Reading.{Reading, perform, take, parse₀, finish, read}
+use Rattle.language.specs.Reading.{Reading, performAct, takeToken, parse₀, finish, read}
 use Rattle.language.proofs.ReadingLaws.{read-by-tokens}
 use Rattle.language.specs.Writing.{parted, inParens, registerToken, blockToken, typeToken, resultToken, meantToken, numberToken, targetPart, operandPart, ssaPart, parameterPart, registerLine, rowLine, blockLines, headLine, functionLines, linesOf, tokens, textOf, closing}
 use Rattle.theorems.specs.RoundTrip.{Finds}
@@ -268,11 +268,11 @@ unfolding tokens textOf linesOf
 program-found p k = lexes (gather functionLines p) (program-spelled (k .functions))
 
 pub program-read : (p : Program) → ProgramReady p → length (textOf p) ≤ maxText → read (textOf p) ≡ Reading.program p
-unfolding tokens linesOf Takes take gram perform
+unfolding tokens linesOf Takes takeToken gram performAct
 program-read p k h =
     let whole : Takes (between []) (tokens p ++ (Token.end ∷ [])) (between p) =
     after (tokens p) (Token.end ∷ []) _ (between p) _ (functions-read p [] (k .functions) (k .names) (omega (arith, k .count)))
     (passes (between p) Stage.top Token.end refl) in
-    let at : At (between p) (foldl take parse₀ (tokensOf (textOf p))) =
+    let at : At (between p) (foldl takeToken parse₀ (tokensOf (textOf p))) =
     whole parse₀ (record { mentions = []; names = refl; reads = refl }) (tokensOf (textOf p)) (program-found p k) in
     read-by-tokens (textOf p) h ∙ ap finish (at .reads)

@@ -1,7 +1,7 @@
 -- At a function's closing brace the mentions become the blocks they name, and the draft the function. Assumes nothing.
 use mathlib.Core.Bool.{true}
 use mathlib.Core.List.{List, [], _∷_, _++_, map, append-assoc, append-nil, map-map}
-use mathlib.Core.Path.{_≡_, refl, sym, _∙_, ap, subst, subst⁻¹}
+use mathlib.Core.Path.{_≡_, refl, sym, _∙_, ap, subst⁻¹}
 use Prim.Native.Nat.{ℕ, _+_, _<_}
 use native.Mathlib.Nat.{zero-add}
 use native.Mathlib.Omega.{arith}
@@ -12,12 +12,12 @@ use borrow.Author.Tests.{lt-ltb, ne-eqb}
 use Rattle.laws.specs.Lists.{gather}
 use Rattle.laws.proofs.Every.{Every, every-imp, kept-every, every-unmap, map-fixed}
 use Rattle.laws.proofs.Gather.{map-gather}
-use Rattle.laws.proofs.Sums.{gather-append}
+use Rattle.laws.proofs.Appending.{gather-append}
 use Rattle.language.specs.Bytes.{rightBrace}
 use Rattle.language.specs.Programs.{Row, Block, Func, noBlock, blockAt, namedBy, maxFunctions}
 use Rattle.language.specs.Tokens.{Token, token}
 use Rattle.language.specs.Grammar.{Stage, gram}
-use Rattle.language.specs.Reading.{Mention, Parse, functionOf, blockNumber, resolveRow, resolveBlock, resolve, undeclared, endFunction, perform, take}
+use Rattle.language.specs.Reading.{Mention, Parse, functionOf, blockNumber, resolveRow, resolveBlock, resolve, undeclared, endFunction, performAct, takeToken}
 use Rattle.theorems.specs.RoundTrip.{none, more}
 use Rattle.theorems.proofs.WritingStates.{Takes, namesOf}
 use Rattle.theorems.proofs.WritingDeclared.{Apart, numbered, numbers}
@@ -150,13 +150,13 @@ module _ (fs : List Func) (F : Func) (registers : Apart nameOf [] (F .registers)
 
     -- the closing brace
     pub closed : Takes (atBlock fs F registers Stage.blocks drafts (mentions F (rowsIn (F .blocks)))) (Token.mark rightBrace ∷ []) (between (fs ++ (F ∷ [])))
-    unfolding Takes take gram perform endFunction
+    unfolding Takes takeToken gram performAct endFunction
     closed x a fs′ (more p none) =
         let ms = a .mentions in
         record {
           mentions = [];
           names = refl;
           reads =
-              ap (λ (x : Parse). take x (token p (Token.mark rightBrace))) (a .reads)
+              ap (λ (x : Parse). takeToken x (token p (Token.mark rightBrace))) (a .reads)
               ∙ rw (entry-number, lt-ltb (F .entry) (length drafts) (omega (arith, drafts-count, c .entry)), none-undeclared ms (a .names), lt-ltb (length fs) maxFunctions (c .room), resolved ms (a .names));
         }

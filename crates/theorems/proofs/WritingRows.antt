@@ -10,19 +10,19 @@ use lib.ListN.{length, getD, length-append, length-map}
 use borrow.Author.Tests.{lt-ltb, le-leb}
 use Rattle.laws.specs.Lists.{gather}
 use Rattle.laws.proofs.Every.{Every, more as every-cons}
-use Rattle.laws.proofs.Sums.{gather-append}
+use Rattle.laws.proofs.Appending.{gather-append}
 use Rattle.language.specs.Bytes.{comma, leftParen, rightParen, equals, semicolon}
 use Rattle.language.specs.Words.{isInstruction, firstInstruction, wordCount}
-use Rattle.language.specs.Instructions.{Form, Operand, formOf, hasTarget, sourceCount, operandOf, loadType, width}
+use Rattle.language.specs.Instructions.{Form, Operand, formOf, hasTarget, sourceCount, operandOf, loadType, width, instructionCount}
 use Rattle.language.specs.Programs.{Row, Block, Func, noRegister, blockAt, rowsOf, entryCount, opOf, formIn, targetsOf, sourcesOf, entriesOf, namedBy, isPhi, maxRows, maxEntries}
 use Rattle.language.specs.Checking.{numberFits}
 use Rattle.language.specs.Tokens.{Token, token}
 use Rattle.language.specs.Grammar.{Stage, Act, Move, to, afterSources, afterSource, afterMention, sources, afterWord, inOperand, wordWithTarget, wordAlone, gram}
-use Rattle.language.specs.Reading.{Mention, Parts, partsOf, noParts, Parse, functionOf, rowCount, phiEntries, registerNumber, maxMentions, beginInstruction, setTarget, setInstruction, addSource, addEntry, addMention, setNumber, rowAs, rowOf, endInstruction, perform, onward, take}
+use Rattle.language.specs.Reading.{Mention, Parts, partsOf, noParts, Parse, functionOf, draftRows, phiEntries, registerNumber, maxMentions, beginInstruction, setTarget, setInstruction, addSource, addEntry, addMention, setNumber, rowAs, rowOf, endInstruction, performAct, afterAct, takeToken}
 use Rattle.language.specs.Writing.{registerToken, blockToken, opToken, numberToken, inParens, registersPart, operandPart, rowLine}
 use Rattle.language.proofs.Rooms.{entriesIn}
 use Rattle.theorems.specs.RoundTrip.{none, more}
-use Rattle.theorems.proofs.AcceptanceRows.{no-unknown}
+use Rattle.language.proofs.FormLaws.{unknown-from}
 use Rattle.theorems.proofs.WritingStates.{State, Takes, nothing, then, after, step, passes, pass-then, draft}
 use Rattle.theorems.proofs.WritingDeclared.{Apart, numbers}
 use Rattle.theorems.proofs.WritingHeads.{nameOf}
@@ -53,7 +53,7 @@ pub record Starts (s : Stage) : Type 0 where
 -- What is known of a row of the function.
 pub record RowReady (f : Func) (r : Row) : Type 0 where
   pub form : formOf (opOf r) ≡ formIn r
-  pub op : opOf r < 36
+  pub op : opOf r < instructionCount
   pub targets : Every (λ u. u < length (f .registers)) (targetsOf r)
   pub sources : Every (λ u. u < length (f .registers)) (sourcesOf r)
   pub entries : Every (λ u. u < length (f .registers)) (entriesOf r)
@@ -91,8 +91,8 @@ module _ (fs : List Func) (F : Func) (apart : Apart nameOf [] (F .registers)) wh
 
     rows-now :
         (s : Stage) (ns : List (List ℕ)) (x : Parts) (ms : List Mention)
-        → rowCount (draft (rowing s bs ns nm rows x) ms) ≡ length (gather (λ b. b .rows) bs) + length rows
-    unfolding rowCount rowsOf
+        → draftRows (draft (rowing s bs ns nm rows x) ms) ≡ length (gather (λ b. b .rows) bs) + length rows
+    unfolding draftRows rowsOf
     rows-now s ns x ms = ap length open-rows ∙ length-append (gather (λ (b : Block). b .rows) bs) rows
 
     entries-now :
@@ -107,7 +107,7 @@ module _ (fs : List Func) (F : Func) (apart : Apart nameOf [] (F .registers)) wh
 
       -- ---- the instruction word, with or without a target
 
-      module _ (room : length (gather (λ b. b .rows) bs) + length rows < maxRows) (op : ℕ) (known : op < 36) where
+      module _ (room : length (gather (λ b. b .rows) bs) + length rows < maxRows) (op : ℕ) (known : op < instructionCount) where
         back : firstInstruction + op - firstInstruction ≡ op
         back = omega arith
 
@@ -127,7 +127,7 @@ module _ (fs : List Func) (F : Func) (apart : Apart nameOf [] (F .registers)) wh
             → ((w : ℕ) → gram s (Token.word w) ≡ wordAlone w)
             → hasTarget (formOf op) ≡ false
             → Takes (on s x) (opToken op ∷ []) (on (afterWord op) (partsOf op 0 [] 0 [] []))
-        unfolding perform beginInstruction
+        unfolding performAct beginInstruction
         word-alone s x g e =
             step (on s x) (on (afterWord op) (partsOf op 0 [] 0 [] [])) (opToken op) (Act.beginInstruction op) (g (firstInstruction + op) ∙ without e)
             (λ p ms h. rw (rows-now s ns x ms, lt-ltb (length (gather (λ b. b .rows) bs) + length rows) maxRows room)) refl
@@ -138,7 +138,7 @@ module _ (fs : List Func) (F : Func) (apart : Apart nameOf [] (F .registers)) wh
             → ((n : List ℕ) → gram s (Token.name n) ≡ to Stage.assignment (Act.setTarget n))
             → hasTarget (formOf op) ≡ true
             → Takes (on s x) (registerToken F t ∷ Token.mark equals ∷ opToken op ∷ []) (on (afterWord op) (partsOf op t [] 0 [] []))
-        unfolding perform setTarget setInstruction gram
+        unfolding performAct setTarget setInstruction gram
         word-after s x t h g e =
             let n = getD (F .registers) t noRegister .name in
             then _ (on Stage.assignment (partsOf 0 t [] 0 [] [])) _ _ _
@@ -158,7 +158,7 @@ module _ (fs : List Func) (F : Func) (apart : Apart nameOf [] (F .registers)) wh
             (k : ℕ) (o : Operand) (ss : List ℕ) (s : ℕ)
             → s < length (F .registers)
             → Takes (on (Stage.source k o) (having ss)) (registerToken F s ∷ []) (on (afterSource k o) (having (ss ++ (s ∷ []))))
-        unfolding perform addSource gram
+        unfolding performAct addSource gram
         source-read k o ss s h =
             step (on (Stage.source k o) (having ss)) (on (afterSource k o) (having (ss ++ (s ∷ [])))) (registerToken F s) (Act.addSource (getD (F .registers) s noRegister .name)) refl
             (λ p ms k. rw (found s h bs, lt-ltb s (length (F .registers)) h)) refl
@@ -193,7 +193,7 @@ module _ (fs : List Func) (F : Func) (apart : Apart nameOf [] (F .registers)) wh
           (op t n : ℕ)
           → n < 2 ^ width (loadType op)
           → Takes (on (Stage.operand Operand.number) (partsOf op t [] 0 [] [])) (inParens (numberToken (loadType op) n ∷ [])) (on Stage.instructionEnd (partsOf op t [] n [] []))
-      unfolding gram perform setNumber
+      unfolding gram performAct setNumber
       number-read op t n h =
           let m = meant (loadType op) n h in
           then _ (on Stage.number (partsOf op t [] 0 [] [])) _ _ _ (paren Operand.number (partsOf op t [] 0 [] []))
@@ -211,7 +211,7 @@ module _ (fs : List Func) (F : Func) (apart : Apart nameOf [] (F .registers)) wh
             → entriesIn (gather (λ b. b .rows) bs ++ rows) + length es < maxEntries
             → e < length (F .registers)
             → Takes (on Stage.entry (listing es)) (registerToken F e ∷ []) (on Stage.entryEnd (listing (es ++ (e ∷ []))))
-        unfolding gram perform addEntry
+        unfolding gram performAct addEntry
         entry-read es e room h =
             step (on Stage.entry (listing es)) (on Stage.entryEnd (listing (es ++ (e ∷ [])))) (registerToken F e) (Act.addEntry (getD (F .registers) e noRegister .name)) refl
             (λ p ms k. rw (entries-now Stage.entry ns (listing es) ms, lt-ltb (entriesIn (gather (λ b. b .rows) bs ++ rows) + length es) maxEntries room, found e h bs, lt-ltb e (length (F .registers)) h)) refl
@@ -258,7 +258,7 @@ module _ (fs : List Func) (F : Func) (apart : Apart nameOf [] (F .registers)) wh
         → length ns < maxMentions
         → Takes (rowing (Stage.mention k) bs ns nm rows (partsOf op 0 ss 0 [] ms)) (blockToken n ∷ [])
         (rowing (afterMention k) bs (ns ++ (n ∷ [])) nm rows (partsOf op 0 ss 0 [] (ms ++ (length ns ∷ []))))
-    unfolding Takes take perform addMention
+    unfolding Takes takeToken performAct addMention
     mention-read op ss ms ns k n room x a fs (more p none) =
         let old = a .mentions in
         let σ = rowing (Stage.mention k) bs ns nm rows (partsOf op 0 ss 0 [] ms) in
@@ -267,8 +267,8 @@ module _ (fs : List Func) (F : Func) (apart : Apart nameOf [] (F .registers)) wh
           mentions = old ++ (record { name = n; place = p } ∷ []);
           names = map-append (λ m. m .name) old (record { name = n; place = p } ∷ []) ∙ ap (λ (l : List (List ℕ)). l ++ (n ∷ [])) (a .names);
           reads =
-              ap (λ (x : Parse). take x (token p (blockToken n))) (a .reads)
-              ∙ ap (λ (m : Move). onward (m .stage) (perform (m .act) p (draft σ old))) (block-word k n)
+              ap (λ (x : Parse). takeToken x (token p (blockToken n))) (a .reads)
+              ∙ ap (λ (m : Move). afterAct (m .stage) (performAct (m .act) p (draft σ old))) (block-word k n)
               ∙ rw (count, lt-ltb (length ns) maxMentions room);
         }
 
@@ -278,7 +278,7 @@ module _ (fs : List Func) (F : Func) (apart : Apart nameOf [] (F .registers)) wh
         (ns : List (List ℕ)) (x : Parts)
         → length (gather (λ b. b .rows) bs) + length rows < maxRows
         → Takes (rowing Stage.instructionEnd bs ns nm rows x) (Token.mark semicolon ∷ []) (rowing Stage.nextInstruction bs ns nm (rows ++ (rowOf x ∷ [])) noParts)
-    unfolding gram perform endInstruction
+    unfolding gram performAct endInstruction
     end-read ns x room =
         step (rowing Stage.instructionEnd bs ns nm rows x) (rowing Stage.nextInstruction bs ns nm (rows ++ (rowOf x ∷ [])) noParts) (Token.mark semicolon) Act.endInstruction refl
         (λ p ms h. rw (rows-now bs nm rows Stage.instructionEnd ns x ms, lt-ltb (length (gather (λ b. b .rows) bs) + length rows) maxRows room)) refl
@@ -421,4 +421,4 @@ module _ (fs : List Func) (F : Func) (apart : Apart nameOf [] (F .registers)) wh
     row-read Row.leave k fits few =
         let y = partsOf 35 0 [] 0 [] [] in
         plain-read bs nm rows ns s starts x room Row.leave k y refl (record { counted = refl; word = refl; whole = refl; operand = no-operand y })
-    row-read (Row.unknown op) k fits few = absurd (no-unknown op (k .op) (k .form))
+    row-read (Row.unknown op) k fits few = absurd (omega (arith, unknown-from op (k .form), k .op))

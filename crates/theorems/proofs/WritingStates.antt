@@ -8,7 +8,7 @@ use Rattle.language.specs.Words.{firstType, firstInstruction}
 use Rattle.language.specs.Programs.{Block, Func}
 use Rattle.language.specs.Tokens.{Token, Found, token}
 use Rattle.language.specs.Grammar.{Stage, Act, Move, to, aType, gram}
-use Rattle.language.specs.Reading.{Parts, Mention, Draft, proceed, Parse, draftOf, perform, onward, take}
+use Rattle.language.specs.Reading.{Parts, Mention, Draft, proceed, Parse, draftOf, performAct, afterAct, takeToken}
 use Rattle.theorems.specs.RoundTrip.{Finds, none, more}
 
 -- What is read so far, without the places of the blocks mentioned.
@@ -33,7 +33,7 @@ pub record At (σ : State) (x : Parse) : Type 0 where
 
 -- These tokens lead from one state to the other.
 unfoldable pub Takes : State → List Token → State → Type 0
-Takes σ ts τ = (x : Parse) → At σ x → (fs : List Found) → Finds ts fs → At τ (foldl take x fs)
+Takes σ ts τ = (x : Parse) → At σ x → (fs : List Found) → Finds ts fs → At τ (foldl takeToken x fs)
 
 pub nothing : (σ : State) → Takes σ [] σ
 unfolding Takes
@@ -42,7 +42,7 @@ nothing σ x k fs none = k
 -- one token after the other
 pub then : (σ τ υ : State) (t : Token) (ts : List Token) → Takes σ (t ∷ []) τ → Takes τ ts υ → Takes σ (t ∷ ts) υ
 unfolding Takes
-then σ τ υ t ts f g x k fs (more {fs = gs} p h) = g (take x (token p t)) (f x k (token p t ∷ []) (more p none)) gs h
+then σ τ υ t ts f g x k fs (more {fs = gs} p h) = g (takeToken x (token p t)) (f x k (token p t ∷ []) (more p none)) gs h
 
 record Split (ts us : List Token) (fs : List Found) : Type 0 where
   left : List Found
@@ -61,25 +61,25 @@ pub after : (ts us : List Token) (σ τ υ : State) → Takes σ ts τ → Takes
 unfolding Takes
 after ts us σ τ υ f g x k fs h =
     let r = split ts us fs h in
-    subst (λ (fs : List Found). At υ (foldl take x fs)) (r .joined)
-    (subst⁻¹ (At υ) (foldl-append take x (r .left) (r .right)) (g (foldl take x (r .left)) (f x k (r .left) (r .first)) (r .right) (r .second)))
+    subst (λ (fs : List Found). At υ (foldl takeToken x fs)) (r .joined)
+    (subst⁻¹ (At υ) (foldl-append takeToken x (r .left) (r .right)) (g (foldl takeToken x (r .left)) (f x k (r .left) (r .first)) (r .right) (r .second)))
 
 -- a token whose act changes no mention
 pub step :
     (σ τ : State) (t : Token) (a : Act)
     → gram (σ .stage) t ≡ to (τ .stage) a
-    → ((p : ℕ) (ms : List Mention) → namesOf ms ≡ σ .names → perform a p (draft σ ms) ≡ proceed (draft τ ms))
+    → ((p : ℕ) (ms : List Mention) → namesOf ms ≡ σ .names → performAct a p (draft σ ms) ≡ proceed (draft τ ms))
     → σ .names ≡ τ .names
     → Takes σ (t ∷ []) τ
-unfolding Takes take
+unfolding Takes takeToken
 step σ τ t a e f d x k fs (more p none) =
     record {
       mentions = k .mentions;
       names = k .names ∙ d;
       reads =
-          ap (λ (x : Parse). take x (token p t)) (k .reads)
-          ∙ ap (λ (m : Move). onward (m .stage) (perform (m .act) p (draft σ (k .mentions)))) e
-          ∙ ap (onward (τ .stage)) (f p (k .mentions) (k .names));
+          ap (λ (x : Parse). takeToken x (token p t)) (k .reads)
+          ∙ ap (λ (m : Move). afterAct (m .stage) (performAct (m .act) p (draft σ (k .mentions)))) e
+          ∙ ap (afterAct (τ .stage)) (f p (k .mentions) (k .names));
     }
 
 -- a token that only leads to another stage
@@ -87,7 +87,7 @@ abbrev pub stage-to : State → Stage → State
 stage-to σ s = record { stage = s; functions = σ .functions; function = σ .function; names = σ .names; block = σ .block; parts = σ .parts }
 
 pub passes : (σ : State) (s : Stage) (t : Token) → gram (σ .stage) t ≡ to s Act.pass → Takes σ (t ∷ []) (stage-to σ s)
-unfolding perform
+unfolding performAct
 passes σ s t e = step σ (stage-to σ s) t Act.pass e (λ p ms h. refl) refl
 
 -- such a token, then the others

@@ -9,12 +9,13 @@ use lib.ListN.{length, getD}
 use Rattle.laws.specs.Lists.{member}
 use Rattle.language.specs.Instructions.{Form, formOf}
 use Rattle.language.specs.Programs.{Program}
-use Rattle.language.specs.Table.{functionCount, functionAt, registerCount, blockCount, blockFirst, blockRows, rowCount, rowOp, phiFirst}
+use Rattle.language.specs.Table.{functionCount, functionAt, registerCount, blockCount, blockFirst, blockRows, rowCount, rowOp, phiFirst, nameOffset}
 use Rattle.language.specs.Table.{phiCount, cells, decode}
+use Rattle.language.specs.Table.{blockLength, blockNamesOffset, blocksOffset, entriesOffset, registerLength, registerNamesOffset, registersOffset, rowLength, rowsOffset}
 use Rattle.language.specs.Answers.{checkAnswer, signatureAnswer, runAnswer, runEachAnswer, translateAnswer, writeAnswer}
 use Rattle.theorems.specs.TableLaw.{Fits}
 
--- The needed ones of a row's 12 cells, by its form.
+-- The needed ones of a row's cells, by its form.
 abbrev pub usedCells : Form → List ℕ
 usedCells Form.nop = 0 ∷ []
 usedCells Form.load = 0 ∷ 1 ∷ 4 ∷ 5 ∷ 6 ∷ 7 ∷ 8 ∷ 9 ∷ 10 ∷ 11 ∷ []
@@ -35,14 +36,18 @@ pub data NeededRow (t : List ℕ) (a r : ℕ) : Type 0 where
 
 -- Cell k is needed by the function at cell a. A name is its length cell and as many bytes.
 pub data NeededIn (t : List ℕ) (a k : ℕ) : Type 0 where
-  head : (j : ℕ) → j < 8 → k ≡ a + j → NeededIn t a k
-  name : (j : ℕ) → j < suc (getD t (a + 8) 0) → k ≡ a + 8 + j → NeededIn t a k
-  registerType : (r : ℕ) → r < registerCount t a → k ≡ a + 73 + 66 * r → NeededIn t a k
-  registerName : (r j : ℕ) → r < registerCount t a → j < suc (getD t (a + 74 + 66 * r) 0) → k ≡ a + 74 + 66 * r + j → NeededIn t a k
-  blockPlace : (b j : ℕ) → b < blockCount t a → j < 4 → k ≡ a + 16969 + 69 * b + j → NeededIn t a k
-  blockName : (b j : ℕ) → b < blockCount t a → j < suc (getD t (a + 16973 + 69 * b) 0) → k ≡ a + 16973 + 69 * b + j → NeededIn t a k
-  row : (r j : ℕ) → NeededRow t a r → T (member j (usedCells (formOf (rowOp t a r)))) → k ≡ a + 21385 + 12 * r + j → NeededIn t a k
-  entry : (r j : ℕ) → NeededRow t a r → formOf (rowOp t a r) ≡ Form.phi → j < phiCount t a r → k ≡ a + 33673 + (phiFirst t a r + j) → NeededIn t a k
+  head : (j : ℕ) → j < nameOffset → k ≡ a + j → NeededIn t a k
+  name : (j : ℕ) → j < suc (getD t (a + nameOffset) 0) → k ≡ a + nameOffset + j → NeededIn t a k
+  registerType : (r : ℕ) → r < registerCount t a → k ≡ a + registersOffset + registerLength * r → NeededIn t a k
+  registerName :
+      (r j : ℕ) → r < registerCount t a → j < suc (getD t (a + registerNamesOffset + registerLength * r) 0)
+      → k ≡ a + registerNamesOffset + registerLength * r + j → NeededIn t a k
+  blockPlace : (b j : ℕ) → b < blockCount t a → j < 4 → k ≡ a + blocksOffset + blockLength * b + j → NeededIn t a k
+  blockName :
+      (b j : ℕ) → b < blockCount t a → j < suc (getD t (a + blockNamesOffset + blockLength * b) 0)
+      → k ≡ a + blockNamesOffset + blockLength * b + j → NeededIn t a k
+  row : (r j : ℕ) → NeededRow t a r → T (member j (usedCells (formOf (rowOp t a r)))) → k ≡ a + rowsOffset + rowLength * r + j → NeededIn t a k
+  entry : (r j : ℕ) → NeededRow t a r → formOf (rowOp t a r) ≡ Form.phi → j < phiCount t a r → k ≡ a + entriesOffset + (phiFirst t a r + j) → NeededIn t a k
 
 pub data Needed (t : List ℕ) (k : ℕ) : Type 0 where
   count : k ≡ 0 → Needed t k

@@ -1,3 +1,3 @@
 pub mod Lines
+pub mod NamesLaws
 pub mod Spelled
-pub mod Named

@@ -9,7 +9,7 @@ use lib.ListN.{length, getD, take, replicate}
 use lib.IntN.{ℤ, pos, negsuc}
 use borrow.Author.Tests.{ne-eqb}
 use Rattle.laws.specs.Lists.{same}
-use Rattle.laws.proofs.Appending.{all-at}
+use Rattle.laws.proofs.Indexing.{all-at}
 use Rattle.laws.proofs.Cells.{at-sets}
 use Rattle.laws.proofs.Sections.{at-part}
 use Rattle.laws.proofs.Positions.{same-eq}
@@ -19,7 +19,7 @@ use Rattle.language.specs.Instructions.{void}
 use Rattle.language.specs.Listing.{digits}
 use Rattle.language.specs.MadeNames.{madeName}
 use Rattle.language.specs.Tokens.{Token}
-use Rattle.language.specs.Words.{words}
+use Rattle.language.specs.Words.{words, wordCount}
 use Rattle.language.specs.Writing.{spaceByte, bytesFor, typeToken, resultToken, meantToken, numberToken}
 use Rattle.decimal.specs.declared.ranges.Meant.{Meant}
 use Rattle.decimal.specs.Meanings.{meantBy}
@@ -39,20 +39,20 @@ spaced-one t = sym (append-nil (bytesFor t ++ (spaceByte ∷ [])))
 
 -- ---- the letters kept for a word, as many as its size says: one test of all words, by computation
 
-module _ {n : ℕ} {l : List ℕ} (w : ℕ) (h : w < 52) (size : n ≡ sizeOf w) (letters : l ≡ lettersOf w) where
+module _ {n : ℕ} {l : List ℕ} (w : ℕ) (h : w < wordCount) (size : n ≡ sizeOf w) (letters : l ≡ lettersOf w) where
   pub word-letters : take n l ≡ spaced (Token.word w ∷ [])
   unfolding bytesFor words sizeOf lettersOf
   word-letters =
       rw (size, letters)
       (same-eq (take (sizeOf w) (lettersOf w)) (getD words w [] ++ (spaceByte ∷ []))
-      (all-at (λ n. same (take (length n + 1) (take 10 (n ++ replicate 10 spaceByte))) (n ++ (spaceByte ∷ []))) [] words tt w h)
+      (all-at (λ n. same (take (length n + 1) (take 10 (n ++ replicate 10 spaceByte))) (n ++ (spaceByte ∷ []))) words w [] tt h)
       ∙ spaced-one (Token.word w))
 
   pub word-fits : n ≤ length l
   unfolding words sizeOf lettersOf
   word-fits =
       rw (size, letters)
-      (leb→le (sizeOf w) (length (lettersOf w)) (all-at (λ n. leb (length n + 1) (length (take 10 (n ++ replicate 10 spaceByte)))) [] words tt w h))
+      (leb→le (sizeOf w) (length (lettersOf w)) (all-at (λ n. leb (length n + 1) (length (take 10 (n ++ replicate 10 spaceByte)))) words w [] tt h))
 
 -- a result: void, or a type
 pub result-void : {k : ℕ} → k ≡ void → spaced (resultToken void ∷ []) ≡ spaced (resultToken k ∷ [])

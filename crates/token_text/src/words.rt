@@ -4,19 +4,18 @@ ghost use mathlib.Core.Path.{_≡_};
 ghost use Prim.Native.Nat.{_<_, _≤_};
 ghost use Rattle.language.specs.Tokens.{Token};
 ghost use Rattle.language.specs.Writing.{typeToken, resultToken};
+ghost use Rattle.language.specs.Instructions.{typeCount, void};
+ghost use Rattle.language.specs.Words.{wordCount};
 ghost use Rattle.page.specs.Page.{page, puts};
 ghost use Rattle.token_text.specs.Spaced.{spaced};
 ghost use Rattle.token_text.specs.Spellings.{lettersOf, sizeOf};
+use instructions::types;
+use instructions::words;
 use page::put_part;
-
-// The number of the first type among the words, and that of `void` among the types.
-const FIRST_TYPE: u8 = 6;
-
-const VOID: u8 = 10;
 
 // The bytes of word number w, with spaces to ten.
 fn letters(w: u8) -> [u8; 10]
-    requires { ⌜ w < 52 ⌝ }
+    requires { ⌜ w < wordCount ⌝ }
     ensures { λ r. ⌜ r ≡ lettersOf w ⌝ }
 {
     match w {
@@ -77,7 +76,7 @@ fn letters(w: u8) -> [u8; 10]
 
 // How many of them are the word and its space.
 fn size(w: u8) -> usize
-    requires { ⌜ w < 52 ⌝ }
+    requires { ⌜ w < wordCount ⌝ }
     ensures { λ r. ⌜ r ≡ sizeOf w ⌝ }
 {
     match w {
@@ -138,7 +137,7 @@ fn size(w: u8) -> usize
 
 // Word number w and a space.
 pub fn put_word(w: u8, out: &mut [u8], at: usize) -> usize
-    requires { ⌜ w < 52 ⌝ }
+    requires { ⌜ w < wordCount ⌝ }
     ensures { λ r. ⌜ page (now (out .exit)) r ≡ puts (page (now (out .entry)) at) (spaced (Token.word w ∷ [])) ⌝ }
 {
     let s = letters(w);
@@ -148,18 +147,18 @@ pub fn put_word(w: u8, out: &mut [u8], at: usize) -> usize
 
 // A type's word and a space.
 pub fn put_type(kind: u8, out: &mut [u8], at: usize) -> usize
-    requires { ⌜ kind < 10 ⌝ }
+    requires { ⌜ kind < typeCount ⌝ }
     ensures { λ r. ⌜ page (now (out .exit)) r ≡ puts (page (now (out .entry)) at) (spaced (typeToken kind ∷ [])) ⌝ }
 {
-    put_word(FIRST_TYPE + kind, out, at)
+    put_word(words::FIRST_TYPE + kind, out, at)
 }
 
 // The same of a result, which may be `void`.
 pub fn put_result(kind: u8, out: &mut [u8], at: usize) -> usize
-    requires { ⌜ kind ≤ 10 ⌝ }
+    requires { ⌜ kind ≤ void ⌝ }
     ensures { λ r. ⌜ page (now (out .exit)) r ≡ puts (page (now (out .entry)) at) (spaced (resultToken kind ∷ [])) ⌝ }
 {
-    if kind == VOID {
+    if kind == types::VOID {
         return put_part(out, at, b"void ");
     }
     put_type(kind, out, at)

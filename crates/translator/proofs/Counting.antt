@@ -6,23 +6,26 @@ use mathlib.Core.List.{map}
 use Prim.Native.Nat.{ℕ, suc, _+_, _-_, _*_, _≤_, _<_}
 use native.Mathlib.Nat.{zero-mul}
 use native.Mathlib.Omega.{arith}
-use lib.Dec.{T, eqb, leb, leb→le}
+use lib.Dec.{T, eqb, leb→le}
 use lib.ListN.{length}
 use lib.Seq.{take-length}
 use lib.Ieee.Fits.{and-l, and-r}
 use borrow.Author.Tests.{ne-eqb}
 use Rattle.laws.specs.Lists.{keep, position, below, sum}
-use Rattle.laws.proofs.Gather.{keep-gather, length-gather}
+use Rattle.laws.proofs.Gather.{keep-gather, length-gather, sum-take-suc}
+use Rattle.laws.proofs.Searching.{rank-below}
 use Rattle.laws.proofs.Keep.{any-none, any-keep}
-use Rattle.laws.proofs.Sums.{sum-keep, sum-same, sum-below-le, length-keeps, sum-below-suc}
+use Rattle.laws.proofs.Sums.{sum-keep, sum-same, sum-below-le, length-keeps}
+use Rattle.laws.proofs.OneMore.{sum-below-suc}
 use Rattle.language.specs.Programs.{Row, Block, Func, noBlock, rowsAt, rowsOf, firstRow, isPhi, hasPhi}
 use Rattle.language.specs.Checking.{goesTo, predecessors}
 use Rattle.language.specs.Running.{phisOf}
-use Rattle.language.specs.Translating.{keptOf, phiBlocks, phisBefore, pairsBefore, phiCount, pairCount, sizeOfEdges, translatedRegisters, translatedBlocks, translatedRows, translationFits}
+use Rattle.language.specs.Translating.{keptOf, phiBlocks, phisBefore, pairsBefore, phiTotal, pairCount, sizeOfEdges, translatedBlocks, translationFits}
 use Rattle.theorems.specs.Clean.{Clean}
 use Rattle.theorems.proofs.SimulationRows.{phisAt, rows-split}
-use Rattle.rules.specs.Prepared.{leadingPhis, rankOf}
-use Rattle.translator.proofs.Running.{sum-take-suc, rank-below, leading-keep}
+use Rattle.flow.specs.Predecessors.{rankOf}
+use Rattle.flow.specs.Leading.{leadingPhis}
+use Rattle.translator.proofs.Running.{leading-keep}
 
 -- The pairs whose phi block is block y, and the rows of their edge blocks.
 abbrev pub pairsAt : Func → ℕ → ℕ
@@ -51,8 +54,8 @@ module _ (f : Func) where
 
   -- ---- all blocks
 
-  pub phis-all : phisBefore f (length (f .blocks)) ≡ phiCount f
-  unfolding phisBefore phiCount rowsOf phisOf
+  pub phis-all : phisBefore f (length (f .blocks)) ≡ phiTotal f
+  unfolding phisBefore phiTotal rowsOf phisOf
   phis-all =
       rw (take-length (f .blocks), keep-gather isPhi (λ (b : Block). b .rows) (f .blocks))
       (sym (length-gather (λ (b : Block). keep isPhi (b .rows)) (f .blocks)))
@@ -83,8 +86,8 @@ module _ (f : Func) where
 
   -- ---- within all
 
-  pub phis-fewer : phiCount f ≤ length (rowsOf f)
-  unfolding phiCount phisOf
+  pub phis-fewer : phiTotal f ≤ length (rowsOf f)
+  unfolding phiTotal phisOf
   phis-fewer = omega (arith, length-keeps isPhi (rowsOf f))
 
   pub pairs-within : (y : ℕ) → y < length (f .blocks) → pairsBefore f y + pairsAt f y ≤ pairCount f
@@ -94,17 +97,9 @@ module _ (f : Func) where
 -- ---- 31
 
 module _ (f : Func) (h : T (translationFits f)) where
-  pub registers-fit : length (f .registers) + phiCount f ≤ 256
-  unfolding translationFits translatedRegisters
-  registers-fit = leb→le (length (f .registers) + phiCount f) 256 (search (and-l, and-r))
-
   pub blocks-fit : length (f .blocks) + pairCount f ≤ 64
   unfolding translationFits translatedBlocks
   blocks-fit = leb→le (length (f .blocks) + pairCount f) 64 (search (and-l, and-r))
-
-  pub rows-fit : length (rowsOf f) - phiCount f + sizeOfEdges f ≤ 1024
-  unfolding translationFits translatedRows
-  rows-fit = leb→le (length (rowsOf f) - phiCount f + sizeOfEdges f) 1024 (search (and-l, and-r))
 
 -- ---- what is prepared
 

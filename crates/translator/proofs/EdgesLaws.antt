@@ -3,30 +3,33 @@
 use mathlib.Core.Path.{_≡_, refl, sym, ap, _∙_}
 use mathlib.Core.Bool.{Bool, true, false, cond}
 use mathlib.Core.List.{List, [], _∷_, _++_}
-use Prim.Native.Nat.{ℕ, zero, suc, _+_, _-_, _*_, _≤_, _<_}
+use Prim.Native.Nat.{ℕ, suc, _+_, _-_, _*_, _≤_, _<_}
 use native.Mathlib.Nat.{not-suc-le-zero}
 use native.Mathlib.Numerals.{add-one}
 use native.Mathlib.Omega.{arith}
 use lib.ListN.{length, getD, replicate}
 use lib.Seq.{sets}
 use Rattle.laws.specs.Sections.{pad}
-use Rattle.language.specs.Programs.{Row, Block, Func, blockAt, rowsAt, rowsOf, firstRow, hasPhi}
+use Rattle.language.specs.Programs.{Row, Func, blockAt, rowsAt, rowsOf, firstRow, hasPhi}
 use Rattle.language.specs.Checking.{predecessors}
-use Rattle.language.specs.Running.{phiTarget, entryAt}
-use Rattle.language.specs.Table.{twoBytes, eightBytes, blockCount, blockFirst, rowTarget, phiFirst, phiEntry, blockCells, rowCells, cells, decodeFunction}
-use Rattle.language.specs.Translating.{pairsBefore, newRegister, edgeRows, copyRow, translatedBlocks, pairCount}
+use Rattle.language.specs.Table.{twoBytes, eightBytes, blockCount, blockFirst, rowTarget, phiFirst, phiEntry, blockCells, rowCells, cells, decodeFunction, nameLength}
+use Rattle.language.specs.Table.{blockLength, blocksOffset, functionAt, rowLength, rowsOffset, tableLength}
+use Rattle.language.specs.Translating.{pairsBefore, newRegister, edgeRows, copyRow, translatedBlocks}
+use Rattle.language.specs.Instructions.{copyOp, jumpOp}
 use Rattle.theorems.proofs.Size.{size-blocks, length-edgeRows}
-use Rattle.theorems.proofs.TableView.{block-count}
+use Rattle.language.proofs.TableView.{block-count}
 use Rattle.theorems.proofs.SimulationBlocks.{edge-block}
-use Rattle.theorems.proofs.SimulationRows.{phisAt, phiOf}
-use Rattle.theorems.proofs.Spots.{first-next}
-use Rattle.rules.specs.Prepared.{Prepared}
-use Rattle.translator.specs.Source.{TranslatableAt, translated, built, phisIn, pairsIn, edgeNumber, Edge}
+use Rattle.theorems.proofs.SimulationRows.{phisAt}
+use Rattle.theorems.proofs.Spots.{first-next, first-within, row-at, row-below}
+use Rattle.language.proofs.TableLaws.{no-name-cells}
+use Rattle.flow.specs.Layout.{phisIn}
+use Rattle.flow.specs.Prepared.{Prepared}
+use Rattle.translator.specs.Source.{TranslatableAt, translated, built, pairsIn, edgeNumber, Edge}
 use Rattle.translator.proofs.Counting.{pairsAt, pairs-next, pairs-within, pairs-all, first-all}
 use Rattle.translator.proofs.Filling.{filled-all}
-use Rattle.translator.proofs.Items.{first-within, row-in-block, row-within, copies-in, copies-out, jumps-on, phi-within, target-is, entry-is, entry-within, new-within}
+use Rattle.translator.proofs.Items.{copies-in, copies-out, jumps-on, phi-within, target-is, entry-is, entry-within, new-within}
 use Rattle.translator.proofs.KeptLaws.{length-built, one-row, one-block}
-use Rattle.translator.proofs.RegistersLaws.{target-fits, no-name-cells, new-next, new-most}
+use Rattle.translator.proofs.RegistersLaws.{target-fits, new-next, new-most}
 use Rattle.translator.proofs.Renaming.{eight-of-one}
 use Rattle.translator.proofs.SizesLaws.{phis-here, pairs-here}
 
@@ -85,10 +88,10 @@ module _ (t : List ℕ) (a : ℕ) (h : TranslatableAt t a) (m : List ℕ) (p : P
     edge-count = rw (rows-are, phis) (length-edgeRows n j y (phisAt f y))
 
     pub edge-row : (i : ℕ) → i < 2 * phisIn m y + 1 → getD (rowsOf g) (k + i) Row.nop ≡ getD (edgeRows n j y (phisAt f y)) i Row.nop
-    edge-row i l = rw (s .place) (row-in-block g b i edge-known (rw edge-count l) ∙ ap (λ rs. getD rs i Row.nop) rows-are)
+    edge-row i l = rw (s .place) (row-at g b i (rw edge-count l) ∙ ap (λ rs. getD rs i Row.nop) rows-are)
 
     pub edge-within : (i : ℕ) → i < 2 * phisIn m y + 1 → k + i < length (rowsOf g)
-    edge-within i l = rw (s .place) (row-within g b i edge-known (rw edge-count l))
+    edge-within i l = rw (s .place) (row-below g b i (rw edge-count l))
 
     pub edge-short : (i : ℕ) → i < 2 * phisIn m y + 1 → k + i < 1024
     edge-short i l = omega (arith, edge-within i l, target-fits t a h .rowCount)
@@ -110,18 +113,18 @@ module _ (t : List ℕ) (a : ℕ) (h : TranslatableAt t a) (m : List ℕ) (p : P
 
       -- an entry goes to a new register
       pub entry-put : (e : ℕ) (out next : List ℕ) → out ≡ built t a (b + 1) (k + i) → e ≡ phiEntry t a (phiFirst t a (blockFirst t a y + i) + j)
-          → next ≡ sets out (21386 + 12 * (k + i)) (30 ∷ (n + i) ∷ e ∷ 0 ∷ eightBytes 0) → next ≡ built t a (b + 1) (k + (i + 1))
+          → next ≡ sets out (functionAt 0 + rowsOffset + rowLength * (k + i)) (copyOp ∷ (n + i) ∷ e ∷ 0 ∷ eightBytes 0) → next ≡ built t a (b + 1) (k + (i + 1))
       unfolding rowCells pad
       entry-put e out next o d c =
           let more : k + (i + 1) ≡ suc (k + i) = omega arith in
           let row : getD (rowsOf g) (k + i) Row.nop ≡ copyRow (n + i) e =
           edge-row i (omega arith) ∙ copies-in n j y (phisAt f y) i among ∙ ap (copyRow (n + i)) (entry-is t a (h .sized) (h .clean) y i (s .block) among j (parts .1) ∙ sym d) in
           rw more
-          (one-row t a h (b + 1) (k + i) out next (30 ∷ (n + i) ∷ e ∷ 0 ∷ eightBytes 0) (omega (arith, edge-known)) (edge-within i (omega arith)) o (ap (rowCells 0) row) c)
+          (one-row t a h (b + 1) (k + i) out next (copyOp ∷ (n + i) ∷ e ∷ 0 ∷ eightBytes 0) (omega (arith, edge-known)) (edge-within i (omega arith)) o (ap (rowCells 0) row) c)
 
       -- a new register goes to a target
       pub target-put : (q u : ℕ) (out next : List ℕ) → q ≡ phisIn m y → out ≡ built t a (b + 1) (k + q + i) → u ≡ rowTarget t a (blockFirst t a y + i)
-          → next ≡ sets out (21386 + 12 * (k + q + i)) (30 ∷ u ∷ (n + i) ∷ 0 ∷ eightBytes 0) → next ≡ built t a (b + 1) (k + q + (i + 1))
+          → next ≡ sets out (functionAt 0 + rowsOffset + rowLength * (k + q + i)) (copyOp ∷ u ∷ (n + i) ∷ 0 ∷ eightBytes 0) → next ≡ built t a (b + 1) (k + q + (i + 1))
       unfolding rowCells pad
       target-put q u out next x o d c =
           let z : ℕ = k + q + i in
@@ -131,11 +134,11 @@ module _ (t : List ℕ) (a : ℕ) (h : TranslatableAt t a) (m : List ℕ) (p : P
           ap (λ v. getD (rowsOf g) v Row.nop) at ∙ edge-row (length (phisAt f y) + i) (omega (arith, phis)) ∙ copies-out n j y (phisAt f y) i among
           ∙ ap (λ v. copyRow v (n + i)) (target-is t a (h .sized) (h .clean) y i (s .block) among ∙ sym d) in
           rw more
-          (one-row t a h (b + 1) z out next (30 ∷ u ∷ (n + i) ∷ 0 ∷ eightBytes 0) (omega (arith, edge-known))
+          (one-row t a h (b + 1) z out next (copyOp ∷ u ∷ (n + i) ∷ 0 ∷ eightBytes 0) (omega (arith, edge-known))
           (rw at (edge-within (length (phisAt f y) + i) (omega (arith, phis)))) o (ap (rowCells 0) row) c)
 
     -- the jump to the phi block
-    pub jump-put : (out next : List ℕ) → out ≡ built t a (b + 1) (k + 2 * phisIn m y) → next ≡ sets out (21386 + 12 * (k + 2 * phisIn m y)) (32 ∷ 0 ∷ 0 ∷ 0 ∷ eightBytes y)
+    pub jump-put : (out next : List ℕ) → out ≡ built t a (b + 1) (k + 2 * phisIn m y) → next ≡ sets out (functionAt 0 + rowsOffset + rowLength * (k + 2 * phisIn m y)) (jumpOp ∷ 0 ∷ 0 ∷ 0 ∷ eightBytes y)
         → next ≡ built t a (b + 1) (k + 2 * phisIn m y + 1)
     unfolding rowCells pad
     jump-put out next o c =
@@ -144,22 +147,22 @@ module _ (t : List ℕ) (a : ℕ) (h : TranslatableAt t a) (m : List ℕ) (p : P
         edge-row (2 * phisIn m y) (omega arith) ∙ ap (λ v. getD (edgeRows n j y (phisAt f y)) (2 * v) Row.nop) phis ∙ jumps-on n j y (phisAt f y) in
         let cells : rowCells 0 (getD (rowsOf g) z Row.nop) ≡ 32 ∷ 0 ∷ 0 ∷ 0 ∷ eightBytes y =
         rw (row, eight-of-one y (omega (arith, s .block, h .sized .blocks))) in
-        rw (add-one z) (one-row t a h (b + 1) z out next (32 ∷ 0 ∷ 0 ∷ 0 ∷ eightBytes y) (omega (arith, edge-known)) (edge-within (2 * phisIn m y) (omega arith)) o cells c)
+        rw (add-one z) (one-row t a h (b + 1) z out next (jumpOp ∷ 0 ∷ 0 ∷ 0 ∷ eightBytes y) (omega (arith, edge-known)) (edge-within (2 * phisIn m y) (omega arith)) o cells c)
 
     -- ---- its place
 
-    pub place-put : (out next : List ℕ) → out ≡ built t a b k → next ≡ sets out (16970 + 69 * b) (twoBytes k ++ twoBytes (2 * phisIn m y + 1)) → next ≡ built t a (b + 1) k
+    pub place-put : (out next : List ℕ) → out ≡ built t a b k → next ≡ sets out (functionAt 0 + blocksOffset + blockLength * b) (twoBytes k ++ twoBytes (2 * phisIn m y + 1)) → next ≡ built t a (b + 1) k
     unfolding blockCells
     place-put out next o c =
         let vs : List ℕ = twoBytes k ++ twoBytes (2 * phisIn m y + 1) in
         let unnamed : blockAt g b .name ≡ [] = ap (λ x. x .name) edge-is in
-        let cells : blockCells (firstRow g b) (blockAt g b) ≡ vs ++ replicate 65 0 = rw (← s .place, edge-count, unnamed, no-name-cells) in
-        rw (add-one b) (one-block t a h b k out next vs 65 edge-known (omega (arith, s .place, first-within g b edge-known)) o cells c)
+        let cells : blockCells (firstRow g b) (blockAt g b) ≡ vs ++ replicate nameLength 0 = rw (← s .place, edge-count, unnamed, no-name-cells) in
+        rw (add-one b) (one-block t a h b k out next vs nameLength edge-known (omega (arith, s .place, first-within g b edge-known)) o cells c)
 
     pub edge-next : k + 2 * phisIn m y + 1 ≡ firstRow g (b + 1)
     edge-next = rw (add-one b) (omega (arith, first-next g b edge-known, edge-count, s .place))
 
-    pub edge-length : (out : List ℕ) → out ≡ built t a b k → length out ≡ 555153
+    pub edge-length : (out : List ℕ) → out ≡ built t a b k → length out ≡ tableLength
     edge-length out o = ap length o ∙ length-built t a h b k (omega (arith, edge-known)) (omega (arith, s .place, first-within g b edge-known))
 
     -- the same by the numbers of the code
@@ -167,16 +170,16 @@ module _ (t : List ℕ) (a : ℕ) (h : TranslatableAt t a) (m : List ℕ) (p : P
       pub edge-few : d < 64
       edge-few = omega (arith, edge-known, target-fits t a h .blockCount)
 
-      pub edge-long : (out : List ℕ) → out ≡ built t a d k → length out ≡ 555153
+      pub edge-long : (out : List ℕ) → out ≡ built t a d k → length out ≡ tableLength
       edge-long out o = edge-length out (o ∙ ap (λ v. built t a v k) eb)
 
       pub edge-last : k + 2 * q < 1024
       edge-last = rw eq (edge-short (2 * phisIn m y) (omega arith))
 
-      pub placed : (out next : List ℕ) → out ≡ built t a d k → next ≡ sets out (16970 + 69 * d) (twoBytes k ++ twoBytes (2 * q + 1)) → next ≡ built t a (b + 1) k
+      pub placed : (out next : List ℕ) → out ≡ built t a d k → next ≡ sets out (functionAt 0 + blocksOffset + blockLength * d) (twoBytes k ++ twoBytes (2 * q + 1)) → next ≡ built t a (b + 1) k
       placed out next o c = place-put out next (o ∙ ap (λ v. built t a v k) eb) (rw (eb, eq) at c)
 
-      pub jumped : (out next : List ℕ) → out ≡ built t a (b + 1) (k + 2 * phisIn m y) → next ≡ sets out (21386 + 12 * (k + 2 * q)) (32 ∷ 0 ∷ 0 ∷ 0 ∷ eightBytes y)
+      pub jumped : (out next : List ℕ) → out ≡ built t a (b + 1) (k + 2 * phisIn m y) → next ≡ sets out (functionAt 0 + rowsOffset + rowLength * (k + 2 * q)) (jumpOp ∷ 0 ∷ 0 ∷ 0 ∷ eightBytes y)
           → (k + 2 * q + 1 ≡ firstRow g (d + 1)) × (next ≡ built t a (d + 1) (k + 2 * q + 1))
       jumped out next o c = (rw (eb, eq) edge-next, rw (eb, eq) (jump-put out next o (rw eq at c)))
 
@@ -191,7 +194,7 @@ module _ (t : List ℕ) (a : ℕ) (h : TranslatableAt t a) (m : List ℕ) (p : P
           onto = omega (arith, edge-short (q + i) (omega arith));
         }
 
-    pub built-length : (v : ℕ) (out : List ℕ) → v ≤ 2 * phisIn m y + 1 → out ≡ built t a (b + 1) (k + v) → length out ≡ 555153
+    pub built-length : (v : ℕ) (out : List ℕ) → v ≤ 2 * phisIn m y + 1 → out ≡ built t a (b + 1) (k + v) → length out ≡ tableLength
     built-length v out l o =
         ap length o ∙ length-built t a h (b + 1) (k + v) (omega (arith, edge-known)) (omega (arith, edge-count, s .place, first-within g b edge-known))
 

@@ -13,8 +13,10 @@ use Rattle.laws.proofs.Appending.{gatherFrom-append}
 use Rattle.laws.proofs.Sections.{length-pad, length-gatherFrom, gather-is-from}
 use Rattle.laws.proofs.Storing.{Stored, pad-is, pad-zeros, pad-stored, stored-left, stored-right, stored-pad}
 use Rattle.language.specs.Answers.{zeros}
-use Rattle.language.specs.Programs.{Row, Register, Block, Func, noRegister, noBlock, blockAt, entriesOf, rowsOf, firstRow}
+use Rattle.language.specs.Programs.{Row, Block, Func, noRegister, noBlock, blockAt, entriesOf, rowsOf, firstRow}
 use Rattle.language.specs.Table.{headCells, registerCells, blockCells, rowCells, entrySection, functionCells, registerSection, blockSection, rowSection, cells}
+use Rattle.language.specs.Table.{blockLength, blocksLength, blocksOffset, functionAt, functionLength, functionsLength, registersLength, rowLength, rowsLength, rowsOffset, tableLength}
+use Rattle.language.specs.Table.{registerLength, registersOffset}
 use Rattle.theorems.specs.TableLaw.{FunctionFits}
 use Rattle.theorems.proofs.TableParts.{length-row}
 use Rattle.theorems.proofs.TableFunction.{length-head, length-entries, registers-stride, blocks-stride}
@@ -48,35 +50,35 @@ module _ {A : Type 0} (n : ℕ) (size : A → ℕ) (f : ℕ → A → List ℕ) 
 -- ---- a store in a section is a store in the table
 
 unfoldable tableOf : (h r b w e : List ℕ) → List ℕ
-tableOf h r b w e = 1 ∷ pad 555152 (h ++ (r ++ (b ++ (w ++ e))))
+tableOf h r b w e = 1 ∷ pad functionsLength (h ++ (r ++ (b ++ (w ++ e))))
 
 record Lengths (h r b w e : List ℕ) : Type 0 where
-  pub head : length h ≡ 73
-  pub registers : length r ≡ 16896
-  pub blocks : length b ≡ 4416
-  pub rows : length w ≡ 12288
+  pub head : length h ≡ registersOffset
+  pub registers : length r ≡ registersLength
+  pub blocks : length b ≡ blocksLength
+  pub rows : length w ≡ rowsLength
   pub entries : length e ≡ 1024
 
 module _ {h r b w e : List ℕ} (l : Lengths h r b w e) where
-  length-table : length (tableOf h r b w e) ≡ 555153
+  length-table : length (tableOf h r b w e) ≡ tableLength
   unfolding tableOf
-  length-table = ap suc (length-pad 555152 (h ++ (r ++ (b ++ (w ++ e)))) (simp length-append (omega (arith, l))))
+  length-table = ap suc (length-pad functionsLength (h ++ (r ++ (b ++ (w ++ e)))) (simp length-append (omega (arith, l))))
 
-  in-cells : {k : ℕ} {vs c : List ℕ} → Stored (h ++ (r ++ (b ++ (w ++ e)))) k vs c → k + length vs ≤ 34697 → {m : ℕ} → m ≡ 1 + k
-      → Stored (tableOf h r b w e) m vs (1 ∷ pad 555152 c)
+  in-cells : {k : ℕ} {vs c : List ℕ} → Stored (h ++ (r ++ (b ++ (w ++ e)))) k vs c → k + length vs ≤ functionLength → {m : ℕ} → m ≡ 1 + k
+      → Stored (tableOf h r b w e) m vs (1 ∷ pad functionsLength c)
   unfolding tableOf
-  in-cells s f p = stored-right (stored-pad s 555152 (simp length-append (omega (arith, l)))) (1 ∷ []) p
+  in-cells s f p = stored-right (stored-pad s functionsLength (simp length-append (omega (arith, l)))) (1 ∷ []) p
 
   module _ {k : ℕ} {vs x : List ℕ} {m : ℕ} where
-    in-registers : Stored r k vs x → k + length vs ≤ 16896 → m ≡ 74 + k → Stored (tableOf h r b w e) m vs (tableOf h x b w e)
+    in-registers : Stored r k vs x → k + length vs ≤ registersLength → m ≡ functionAt 0 + registersOffset + k → Stored (tableOf h r b w e) m vs (tableOf h x b w e)
     unfolding tableOf
     in-registers s f p = in-cells (stored-right (stored-left s (b ++ (w ++ e)) (omega (arith, l))) h refl) (omega (arith, l)) (omega (arith, l))
 
-    in-blocks : Stored b k vs x → k + length vs ≤ 4416 → m ≡ 16970 + k → Stored (tableOf h r b w e) m vs (tableOf h r x w e)
+    in-blocks : Stored b k vs x → k + length vs ≤ blocksLength → m ≡ functionAt 0 + blocksOffset + k → Stored (tableOf h r b w e) m vs (tableOf h r x w e)
     unfolding tableOf
     in-blocks s f p = in-cells (stored-right (stored-right (stored-left s (w ++ e) (omega (arith, l))) r refl) h refl) (omega (arith, l)) (omega (arith, l))
 
-    in-rows : Stored w k vs x → k + length vs ≤ 12288 → m ≡ 21386 + k → Stored (tableOf h r b w e) m vs (tableOf h r b x e)
+    in-rows : Stored w k vs x → k + length vs ≤ rowsLength → m ≡ functionAt 0 + rowsOffset + k → Stored (tableOf h r b w e) m vs (tableOf h r b x e)
     unfolding tableOf
     in-rows s f p =
         in-cells (stored-right (stored-right (stored-right (stored-left s e (omega (arith, l))) b refl) r refl) h refl) (omega (arith, l)) (omega (arith, l))
@@ -94,29 +96,29 @@ short : {xs : List ℕ} (vs : List ℕ) (z w : ℕ) → xs ≡ vs ++ replicate z
 short vs z w e l = let n : length vs + z ≡ w = sym (ap length e ∙ simp (length-append, length-replicate)) ∙ l in omega arith
 
 module _ (g : Func) (fits : FunctionFits g) where
-  row-stride : (m i : ℕ) → i < length (rowsOf g) → length (rowCells m (getD (rowsOf g) i Row.nop)) ≡ 12
+  row-stride : (m i : ℕ) → i < length (rowsOf g) → length (rowCells m (getD (rowsOf g) i Row.nop)) ≡ rowLength
   row-stride m i b = length-row m (getD (rowsOf g) i Row.nop)
 
   abbrev registersFirst : ℕ → List ℕ
-  registersFirst i = pad 16896 (gatherFrom (λ x. 0) (λ m. registerCells) 0 (take i (g .registers)))
+  registersFirst i = pad registersLength (gatherFrom (λ x. 0) (λ m. registerCells) 0 (take i (g .registers)))
 
   abbrev blocksFirst : ℕ → List ℕ
-  blocksFirst j = pad 4416 (gatherFrom height blockCells 0 (take j (g .blocks)))
+  blocksFirst j = pad blocksLength (gatherFrom height blockCells 0 (take j (g .blocks)))
 
   abbrev rowsFirst : ℕ → List ℕ
-  rowsFirst k = pad 12288 (gatherFrom entries rowCells 0 (take k (rowsOf g)))
+  rowsFirst k = pad rowsLength (gatherFrom entries rowCells 0 (take k (rowsOf g)))
 
   sections : (i j k : ℕ) → filled g i j k ≡ tableOf (headCells g) (registersFirst i) (blocksFirst j) (rowsFirst k) (entrySection g)
   unfolding filled tableOf
   sections i j k = rw (gather-is-from registerCells 0 (take i (g .registers)))
 
-  registers-room : 66 * length (g .registers) ≤ 16896
+  registers-room : registerLength * length (g .registers) ≤ registersLength
   registers-room = omega (arith, fits .registerCount)
 
-  blocks-room : 69 * length (g .blocks) ≤ 4416
+  blocks-room : blockLength * length (g .blocks) ≤ blocksLength
   blocks-room = omega (arith, fits .blockCount)
 
-  rows-room : 12 * length (rowsOf g) ≤ 12288
+  rows-room : rowLength * length (rowsOf g) ≤ rowsLength
   rows-room = omega (arith, fits .rowCount)
 
   module _ (i j k : ℕ) (hi : i ≤ length (g .registers)) (hj : j ≤ length (g .blocks)) (hk : k ≤ length (rowsOf g)) where
@@ -124,37 +126,37 @@ module _ (g : Func) (fits : FunctionFits g) where
     lengths =
         record {
           head = length-head g fits;
-          registers = length-section 16896 (λ x. 0) (λ m. registerCells) 66 noRegister (g .registers) (registers-stride g fits) registers-room i hi;
-          blocks = length-section 4416 height blockCells 69 noBlock (g .blocks) (blocks-stride g fits) blocks-room j hj;
-          rows = length-section 12288 entries rowCells 12 Row.nop (rowsOf g) row-stride rows-room k hk;
+          registers = length-section registersLength (λ x. 0) (λ m. registerCells) registerLength noRegister (g .registers) (registers-stride g fits) registers-room i hi;
+          blocks = length-section blocksLength height blockCells blockLength noBlock (g .blocks) (blocks-stride g fits) blocks-room j hj;
+          rows = length-section rowsLength entries rowCells rowLength Row.nop (rowsOf g) row-stride rows-room k hk;
           entries = length-entries g fits;
         }
 
-    pub length-filled : length (filled g i j k) ≡ 555153
+    pub length-filled : length (filled g i j k) ≡ tableLength
     length-filled = rw (sections i j k) (length-table lengths)
 
     module _ (vs : List ℕ) (z : ℕ) where
       pub register-stored : i < length (g .registers) → registerCells (getD (g .registers) i noRegister) ≡ vs ++ replicate z 0
-          → Stored (filled g i j k) (74 + 66 * i) vs (filled g (suc i) j k)
+          → Stored (filled g i j k) (functionAt 0 + registersOffset + registerLength * i) vs (filled g (suc i) j k)
       register-stored b e =
           rw (sections i j k, sections (suc i) j k)
-          (in-registers lengths (section-grows 16896 (λ x. 0) (λ m. registerCells) 66 noRegister (g .registers) (registers-stride g fits) registers-room i b vs z e)
-          (omega (arith, short vs z 66 e (registers-stride g fits 0 i b), registers-room)) refl)
+          (in-registers lengths (section-grows registersLength (λ x. 0) (λ m. registerCells) registerLength noRegister (g .registers) (registers-stride g fits) registers-room i b vs z e)
+          (omega (arith, short vs z registerLength e (registers-stride g fits 0 i b), registers-room)) refl)
 
       pub block-stored : j < length (g .blocks) → blockCells (0 + firstRow g j) (blockAt g j) ≡ vs ++ replicate z 0
-          → Stored (filled g i j k) (16970 + 69 * j) vs (filled g i (suc j) k)
+          → Stored (filled g i j k) (functionAt 0 + blocksOffset + blockLength * j) vs (filled g i (suc j) k)
       unfolding firstRow
       block-stored b e =
           rw (sections i j k, sections i (suc j) k)
-          (in-blocks lengths (section-grows 4416 height blockCells 69 noBlock (g .blocks) (blocks-stride g fits) blocks-room j b vs z e)
-          (omega (arith, short vs z 69 e (blocks-stride g fits (0 + firstRow g j) j b), blocks-room)) refl)
+          (in-blocks lengths (section-grows blocksLength height blockCells blockLength noBlock (g .blocks) (blocks-stride g fits) blocks-room j b vs z e)
+          (omega (arith, short vs z blockLength e (blocks-stride g fits (0 + firstRow g j) j b), blocks-room)) refl)
 
       pub row-stored : k < length (rowsOf g) → rowCells (0 + sum (map entries (take k (rowsOf g)))) (getD (rowsOf g) k Row.nop) ≡ vs ++ replicate z 0
-          → Stored (filled g i j k) (21386 + 12 * k) vs (filled g i j (suc k))
+          → Stored (filled g i j k) (functionAt 0 + rowsOffset + rowLength * k) vs (filled g i j (suc k))
       row-stored b e =
           rw (sections i j k, sections i j (suc k))
-          (in-rows lengths (section-grows 12288 entries rowCells 12 Row.nop (rowsOf g) row-stride rows-room k b vs z e)
-          (omega (arith, short vs z 12 e (row-stride (0 + sum (map entries (take k (rowsOf g)))) k b), rows-room)) refl)
+          (in-rows lengths (section-grows rowsLength entries rowCells rowLength Row.nop (rowsOf g) row-stride rows-room k b vs z e)
+          (omega (arith, short vs z rowLength e (row-stride (0 + sum (map entries (take k (rowsOf g)))) k b), rows-room)) refl)
 
 -- ---- all of it, and none of it
 
@@ -180,16 +182,16 @@ pad-cons n x xs h =
     pad-is (suc n) (x ∷ xs) k (omega arith) ∙ ap (λ (r : List ℕ). x ∷ r) (sym (pad-is n xs k (omega arith)))
 
 module _ (g : Func) (fits : FunctionFits g) (none : gather entriesOf (rowsOf g) ≡ []) where
-  filled-head : filled g 0 0 0 ≡ pad 555153 (1 ∷ headCells g)
+  filled-head : filled g 0 0 0 ≡ pad tableLength (1 ∷ headCells g)
   unfolding filled entrySection
   filled-head =
-      let short : length (headCells g) ≤ 555152 = omega (arith, length-head g fits) in
+      let short : length (headCells g) ≤ functionsLength = omega (arith, length-head g fits) in
       rw none
-      (ap (λ (r : List ℕ). 1 ∷ r) (no-sections 555152 (headCells g) 16896 4416 12288 1024 (omega (arith, length-head g fits)))
-      ∙ sym (pad-cons 555152 1 (headCells g) short))
+      (ap (λ (r : List ℕ). 1 ∷ r) (no-sections functionsLength (headCells g) registersLength blocksLength rowsLength 1024 (omega (arith, length-head g fits)))
+      ∙ sym (pad-cons functionsLength 1 (headCells g) short))
 
   -- the head goes to a table that is all zero
-  pub head-stored : (vs : List ℕ) (z : ℕ) → headCells g ≡ vs ++ replicate z 0 → Stored (zeros 555153) 0 (1 ∷ vs) (filled g 0 0 0)
+  pub head-stored : (vs : List ℕ) (z : ℕ) → headCells g ≡ vs ++ replicate z 0 → Stored (zeros tableLength) 0 (1 ∷ vs) (filled g 0 0 0)
   head-stored vs z e =
-      let n : length vs + z ≡ 73 = sym (ap length e ∙ simp (length-append, length-replicate)) ∙ length-head g fits in
-      rw (filled-head, e, zeros-pad 555153) (pad-stored 555153 [] 0 (1 ∷ vs) z (omega arith) (omega arith))
+      let n : length vs + z ≡ registersOffset = sym (ap length e ∙ simp (length-append, length-replicate)) ∙ length-head g fits in
+      rw (filled-head, e, zeros-pad tableLength) (pad-stored tableLength [] 0 (1 ∷ vs) z (omega arith) (omega arith))

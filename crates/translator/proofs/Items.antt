@@ -1,9 +1,9 @@
 -- What stands in a translation at each number, by the cells of the source.
 -- Assumes nothing.
 use mathlib.Core.Path.{_≡_, refl, sym, ap, _∙_}
-use mathlib.Core.Bool.{true, false, cond, false≢true}
+use mathlib.Core.Bool.{true, cond, false≢true}
 use mathlib.Core.List.{List, [], _∷_, _++_, map}
-use Prim.Native.Nat.{ℕ, _+_, _*_, _≤_, _<_}
+use Prim.Native.Nat.{ℕ, _+_, _*_, _<_}
 use native.Mathlib.Nat.{add-assoc}
 use native.Mathlib.Omega.{arith}
 use lib.Dec.{eqb}
@@ -11,41 +11,27 @@ use lib.ListN.{length, getD, length-map, List·getD-append}
 use lib.Seq.{getD-append-add}
 use Rattle.laws.specs.Lists.{keep, from, together}
 use Rattle.laws.proofs.Every.{every-at}
-use Rattle.laws.proofs.Gather.{length-gather, getD-gather, keep-gather, sum-take-le}
+use Rattle.laws.proofs.Gather.{getD-gather, keep-gather}
 use Rattle.laws.proofs.Indexing.{getD-map, length-together-from}
 use Rattle.laws.proofs.Ranges.{length-map-from, getD-map-from}
 use Rattle.laws.proofs.Sums.{sum-below-le}
 use Rattle.language.specs.Instructions.{Form, formOf}
-use Rattle.language.specs.Programs.{Row, Block, Func, noRegister, noBlock, blockAt, rowsAt, typeAt, rowsOf, firstRow, isPhi, opOf, entriesOf}
+use Rattle.language.specs.Programs.{Row, Block, Func, noRegister, noBlock, blockAt, rowsAt, typeAt, rowsOf, isPhi, entriesOf}
 use Rattle.language.specs.Checking.{predecessors}
 use Rattle.language.specs.Running.{phisOf, phiTarget, entryAt}
 use Rattle.language.specs.Table.{registerCount, registerType, blockCount, blockFirst, blockRows, blockName, rowCount, rowOp, rowTarget, phiFirst, phiCount, phiEntry, rowEntries}
 use Rattle.language.specs.Table.{decodeAs, decodeRow, decodeRegister, decodeBlock, decodeFunction}
-use Rattle.language.specs.Translating.{phisBefore, newRegister, retarget, edgeRows, copyRow, keptBlock, registerFor, translation, phiCount as phiTotal}
+use Rattle.language.specs.Translating.{phisBefore, newRegister, retarget, edgeRows, copyRow, keptBlock, registerFor, translation, phiTotal}
 use Rattle.theorems.specs.Clean.{Clean}
-use Rattle.theorems.proofs.TableView.{op-decoded, register-count, register-is, type-is, block-count, block-is, block-rows-count, block-row-is, block-first-is, phi-first-is}
+use Rattle.language.proofs.TableView.{register-count, register-is, type-is, block-count, block-is, block-rows-count, block-row-is, phi-first-is, op-of-phi}
 use Rattle.theorems.proofs.SimulationBlocks.{kept-block, kept-rows}
 use Rattle.theorems.proofs.SimulationRows.{phisAt, phiOf, keptAt, phi-at, kept-at, phi-is, rows-count, phi-target}
 use Rattle.theorems.proofs.AcceptanceRows.{source-phis}
 use Rattle.theorems.proofs.AcceptanceNumbers.{new-lt}
-use Rattle.rules.specs.Prepared.{Sized}
+use Rattle.flow.specs.Sized.{Sized}
+use Rattle.flow.proofs.Standing.{row-within}
 use Rattle.theorems.proofs.SimulationBlocks.{phis-fit}
 use Rattle.translator.proofs.Running.{getD-numbered}
-
--- ---- rows of a function by block
-
-pub first-within : (g : Func) (b : ℕ) → b < length (g .blocks) → firstRow g b + length (rowsAt g b) ≤ length (rowsOf g)
-unfolding rowsOf firstRow
-first-within g b l =
-    rw (length-gather (λ x. x .rows) (g .blocks)) (sum-take-le (λ x. length (x .rows)) (g .blocks) b noBlock l)
-
-module _ (g : Func) (b j : ℕ) (l : b < length (g .blocks)) (h : j < length (rowsAt g b)) where
-  pub row-in-block : getD (rowsOf g) (firstRow g b + j) Row.nop ≡ getD (rowsAt g b) j Row.nop
-  unfolding rowsOf firstRow
-  row-in-block = getD-gather (λ x. x .rows) (g .blocks) b j noBlock Row.nop l h
-
-  pub row-within : firstRow g b + j < length (rowsOf g)
-  row-within = omega (arith, first-within g b l)
 
 -- ---- a row by its instruction
 
@@ -67,9 +53,6 @@ module _ (t : List ℕ) (a r : ℕ) (e : isPhi (decodeRow t a r) ≡ true) where
   pub phi-decoded : decodeRow t a r ≡ Row.phi (rowTarget t a r) (map (phiEntry t a) (from (phiFirst t a r) (phiCount t a r)))
   unfolding decodeRow
   phi-decoded = phi-as (formOf (rowOp t a r)) t a r e
-
-  pub phi-op : rowOp t a r ≡ 31
-  phi-op = sym (op-decoded t a r) ∙ ap opOf phi-decoded
 
 -- ---- the rows of an edge block
 
@@ -111,10 +94,6 @@ module _ (n k y : ℕ) (phis : List Row) where
 -- ---- the rows of the source
 
 module _ (t : List ℕ) (a : ℕ) (s : Sized t a) where
-  -- row j of block b is a row of the table
-  pub row-of-block : (b j : ℕ) → b < blockCount t a → j < blockRows t a b → blockFirst t a b + j < rowCount t a
-  row-of-block b j l h = omega (arith, block-first-is t a (s .placed) b l, sum-below-le (blockRows t a) b (blockCount t a) l)
-
   module _ (c : Clean (decodeFunction t a)) where
     abbrev f : Func
     f = decodeFunction t a
@@ -127,7 +106,7 @@ module _ (t : List ℕ) (a : ℕ) (s : Sized t a) where
       among = omega (arith, rows-count f c y, block-rows-count t a y l)
 
       pub phi-within : r < rowCount t a
-      phi-within = row-of-block y i l among
+      phi-within = row-within t a s y i l among
 
       phi-row : phiOf f y i ≡ decodeRow t a r
       phi-row = sym (phi-at f c y i h) ∙ block-row-is t a y l i among
@@ -155,8 +134,8 @@ module _ (t : List ℕ) (a : ℕ) (s : Sized t a) where
 
         pub entry-within : phiFirst t a r + j < 1024
         entry-within =
-            let own : rowEntries t a r ≡ phiCount t a r = ap (λ n. cond (eqb n 31) (phiCount t a r) 0) (phi-op t a r phi-here) in
-            omega (arith, own, entries-count, phi-first-is t a (s .placed) r phi-within (phi-op t a r phi-here), sum-below-le (rowEntries t a) r (rowCount t a) phi-within, s .entries)
+            let own : rowEntries t a r ≡ phiCount t a r = ap (λ n. cond (eqb n 31) (phiCount t a r) 0) (op-of-phi t a r phi-here) in
+            omega (arith, own, entries-count, phi-first-is t a (s .placed) r phi-within (op-of-phi t a r phi-here), sum-below-le (rowEntries t a) r (rowCount t a) phi-within, s .entries)
 
     -- ---- the registers of the translation
 

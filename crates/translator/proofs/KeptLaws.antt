@@ -1,9 +1,9 @@
 -- The kept blocks of a translation and their rows, put down one after the other.
 -- Assumes nothing.
 use mathlib.Core.Path.{_≡_, refl, sym, ap, _∙_}
-use mathlib.Core.Bool.{Bool, true, false, cond, true≢false}
-use mathlib.Core.List.{List, [], _∷_, _++_, map, append-nil, append-assoc}
-use Prim.Native.Nat.{ℕ, zero, suc, _+_, _-_, _*_, _≤_, _<_}
+use mathlib.Core.Bool.{false, true≢false}
+use mathlib.Core.List.{List, _∷_, _++_, map, append-nil}
+use Prim.Native.Nat.{ℕ, suc, _+_, _-_, _*_, _≤_, _<_}
 use native.Mathlib.Nat.{zero-add}
 use native.Mathlib.Numerals.{add-one}
 use native.Mathlib.Omega.{arith}
@@ -12,22 +12,23 @@ use lib.Seq.{sets}
 use Rattle.laws.specs.Lists.{sum}
 use Rattle.laws.proofs.Cells.{sets-then}
 use Rattle.laws.proofs.Every.{every-at}
-use Rattle.laws.proofs.Keep.{any-failed}
-use Rattle.laws.proofs.Storing.{Stored}
 use Rattle.language.specs.Instructions.{Form, formOf}
-use Rattle.language.specs.Programs.{Row, Block, Func, noBlock, blockAt, rowsAt, rowsOf, firstRow, isPhi, opOf, entriesOf}
+use Rattle.language.specs.Programs.{Row, Func, blockAt, rowsAt, rowsOf, firstRow, isPhi, entriesOf}
 use Rattle.language.specs.Table.{twoBytes, blockCount, blockRows, blockFirst, blockName, rowOp, rowCount, rowCells, blockCells, decodeAs, decodeRow, decodeFunction}
-use Rattle.language.specs.Translating.{retarget, translation}
+use Rattle.language.specs.Table.{blockLength, blockNamesOffset, blocksOffset, functionAt, rowLength, rowsOffset, tableLength}
 use Rattle.instructions.specs.Shapes.{shapeOf}
-use Rattle.theorems.proofs.TableView.{op-decoded, block-count, block-rows-count, block-row-is}
-use Rattle.theorems.proofs.SimulationRows.{phisAt, keptAt, keptRow, rowOf, kept-at, kept-is, rows-count}
+use Rattle.language.proofs.TableView.{op-decoded, block-count, block-rows-count, block-row-is}
+use Rattle.theorems.proofs.SimulationRows.{phisAt, keptAt, rowOf, kept-at, kept-is, rows-count}
 use Rattle.theorems.proofs.AcceptanceNumbers.{block-lt}
-use Rattle.theorems.proofs.Spots.{first-next}
-use Rattle.rules.specs.Prepared.{Prepared}
-use Rattle.translator.specs.Source.{TranslatableAt, Planned, translated, built, phisIn, keptCells, Naming, KeptRows}
+use Rattle.theorems.proofs.Spots.{first-next, first-within, row-at, row-below}
+use Rattle.language.proofs.TableLaws.{name-cells}
+use Rattle.flow.proofs.Standing.{row-within}
+use Rattle.flow.specs.Layout.{phisIn}
+use Rattle.flow.specs.Prepared.{Prepared}
+use Rattle.translator.specs.Source.{TranslatableAt, Planned, translated, built, keptCells, Naming, KeptRows}
 use Rattle.translator.proofs.Filling.{length-filled, block-stored, row-stored}
-use Rattle.translator.proofs.Items.{row-in-block, row-within, first-within, row-of-block, kept-name, kept-height, kept-row}
-use Rattle.translator.proofs.RegistersLaws.{target-fits, plain, name-cells}
+use Rattle.translator.proofs.Items.{kept-name, kept-height, kept-row}
+use Rattle.translator.proofs.RegistersLaws.{target-fits, plain}
 use Rattle.translator.proofs.Renaming.{Renames, renames, cells-as}
 use Rattle.translator.proofs.SizesLaws.{phis-here}
 
@@ -66,24 +67,24 @@ module _ (t : List ℕ) (a : ℕ) (h : TranslatableAt t a) where
   abbrev g : Func
   g = translated t a
 
-  pub length-built : (j k : ℕ) → j ≤ length (g .blocks) → k ≤ length (rowsOf g) → length (built t a j k) ≡ 555153
+  pub length-built : (j k : ℕ) → j ≤ length (g .blocks) → k ≤ length (rowsOf g) → length (built t a j k) ≡ tableLength
   length-built j k hj hk = length-filled g (target-fits t a h) (length (g .registers)) j k (omega arith) hj hk
 
   -- one more row
   pub one-row : (j k : ℕ) (out next vs : List ℕ) → j ≤ length (g .blocks) → k < length (rowsOf g) → out ≡ built t a j k
-      → rowCells 0 (getD (rowsOf g) k Row.nop) ≡ vs → next ≡ sets out (21386 + 12 * k) vs → next ≡ built t a j (suc k)
+      → rowCells 0 (getD (rowsOf g) k Row.nop) ≡ vs → next ≡ sets out (functionAt 0 + rowsOffset + rowLength * k) vs → next ≡ built t a j (suc k)
   one-row j k out next vs hj l e c s =
       let n : ℕ = 0 + sum (map (λ r. length (entriesOf r)) (take k (rowsOf g))) in
       let cells : rowCells n (getD (rowsOf g) k Row.nop) ≡ vs ++ replicate 0 0 =
       plain-cells n (getD (rowsOf g) k Row.nop) (every-at (plain t a h) Row.nop k l) ∙ c ∙ sym (append-nil vs) in
-      s ∙ ap (λ (u : List ℕ). sets u (21386 + 12 * k) vs) e
+      s ∙ ap (λ (u : List ℕ). sets u (functionAt 0 + rowsOffset + rowLength * k) vs) e
       ∙ sym (row-stored g (target-fits t a h) (length (g .registers)) j k (omega arith) hj (omega arith) vs 0 l cells .cells)
 
   -- one more block: its place, then its name
   pub one-block : (j k : ℕ) (out next vs : List ℕ) (z : ℕ) → j < length (g .blocks) → k ≤ length (rowsOf g) → out ≡ built t a j k
-      → blockCells (firstRow g j) (blockAt g j) ≡ vs ++ replicate z 0 → next ≡ sets out (16970 + 69 * j) vs → next ≡ built t a (suc j) k
+      → blockCells (firstRow g j) (blockAt g j) ≡ vs ++ replicate z 0 → next ≡ sets out (functionAt 0 + blocksOffset + blockLength * j) vs → next ≡ built t a (suc j) k
   one-block j k out next vs z l hk e c s =
-      s ∙ ap (λ (u : List ℕ). sets u (16970 + 69 * j) vs) e
+      s ∙ ap (λ (u : List ℕ). sets u (functionAt 0 + blocksOffset + blockLength * j) vs) e
       ∙ sym (block-stored g (target-fits t a h) (length (g .registers)) j k (omega arith) (omega arith) hk vs z l (rw (zero-add (firstRow g j)) c) .cells)
 
   -- ---- kept blocks
@@ -97,7 +98,7 @@ module _ (t : List ℕ) (a : ℕ) (h : TranslatableAt t a) where
   pub name-short : (x : ℕ) → x < blockCount t a → length (blockName t a x) ≤ 64
   name-short x l = rw (kept-name t a (h .sized) (h .clean) x l) at (target-fits t a h .blockNames x (block-within x l) .short)
 
-  pub block-length : (x k : ℕ) (out : List ℕ) → x < blockCount t a → k ≡ firstRow g x → out ≡ built t a x k → length out ≡ 555153
+  pub block-length : (x k : ℕ) (out : List ℕ) → x < blockCount t a → k ≡ firstRow g x → out ≡ built t a x k → length out ≡ tableLength
   block-length x k out l d e =
       ap length e ∙ length-built x k (omega (arith, block-within x l)) (omega (arith, first-within g x (block-within x l)))
 
@@ -136,7 +137,7 @@ module _ (t : List ℕ) (a : ℕ) (h : TranslatableAt t a) where
       cells-here : rowCells 0 (getD (rowsOf g) (firstRow g x + i) Row.nop) ≡ keptCells t a m plan x r
       unfolding decodeRow
       cells-here =
-          ap (rowCells 0) (row-in-block g x i (block-within x l) b ∙ kept-row t a (h .sized) (h .clean) x l i b)
+          ap (rowCells 0) (row-at g x i b ∙ kept-row t a (h .sized) (h .clean) x l i b)
           ∙ cells-as f m plan t a x r (formOf (rowOp t a r)) refl (op-decoded t a r) no-phi-here renames-here
 
     module _ (x r n k i : ℕ) (s : KeptRows t a m x r n k) (b : i < n) where
@@ -147,10 +148,10 @@ module _ (t : List ℕ) (a : ℕ) (h : TranslatableAt t a) where
       there = omega (arith, s .first, phis-here t a m p (h .clean) x (s .block))
 
       pub keeps-row : r + i < 1024
-      keeps-row = omega (arith, there, row-of-block t a (h .sized) x (length (phisAt f x) + i) (s .block) (in-block x i (s .block) here), h .sized .rows)
+      keeps-row = omega (arith, there, row-within t a (h .sized) x (length (phisAt f x) + i) (s .block) (in-block x i (s .block) here), h .sized .rows)
 
       within : k + i < length (rowsOf g)
-      within = rw (s .place) (row-within g x i (block-within x (s .block)) here)
+      within = rw (s .place) (row-below g x i here)
 
       pub keeps-place : k + i < 1024
       keeps-place = omega (arith, within, target-fits t a h .rowCount)
@@ -158,7 +159,7 @@ module _ (t : List ℕ) (a : ℕ) (h : TranslatableAt t a) where
       pub keeps-naming : Naming t a (r + i) (shapeOf (rowOp t a (r + i)) .operand)
       keeps-naming = rw there (naming-here x i (s .block) here)
 
-      pub keeps-one : (out next : List ℕ) → out ≡ built t a (x + 1) (k + i) → next ≡ sets out (21386 + 12 * (k + i)) (keptCells t a m plan x (r + i)) → next ≡ built t a (x + 1) (k + (i + 1))
+      pub keeps-one : (out next : List ℕ) → out ≡ built t a (x + 1) (k + i) → next ≡ sets out (functionAt 0 + rowsOffset + rowLength * (k + i)) (keptCells t a m plan x (r + i)) → next ≡ built t a (x + 1) (k + (i + 1))
       keeps-one out next e c =
           let more : k + (i + 1) ≡ suc (k + i) = omega arith in
           let cells : rowCells 0 (getD (rowsOf g) (k + i) Row.nop) ≡ keptCells t a m plan x (r + i) = rw (s .place, there) (cells-here x i (s .block) here) in
@@ -182,18 +183,17 @@ module _ (t : List ℕ) (a : ℕ) (h : TranslatableAt t a) where
       pub kept-most : k + n ≤ 1024
       kept-most = omega (arith, kept-count, first-within g x (block-within x l), target-fits t a h .rowCount)
 
-      pub keeps-block : (out first next name : List ℕ) → out ≡ built t a x k → first ≡ sets out (16970 + 69 * x) (twoBytes k ++ twoBytes n) → name ≡ blockName t a x
-          → next ≡ sets first (16974 + 69 * x) (length name ∷ name) → next ≡ built t a (x + 1) k
+      pub keeps-block : (out first next name : List ℕ) → out ≡ built t a x k → first ≡ sets out (functionAt 0 + blocksOffset + blockLength * x) (twoBytes k ++ twoBytes n) → name ≡ blockName t a x
+          → next ≡ sets first (functionAt 0 + blockNamesOffset + blockLength * x) (length name ∷ name) → next ≡ built t a (x + 1) k
       unfolding blockCells
       keeps-block out first next name e s1 z s2 =
           let vs : List ℕ = twoBytes k ++ twoBytes n ++ (length name ∷ name) in
-          let few : length name ≤ 64 = rw z (name-short x l) in
           let cells : blockCells (firstRow g x) (blockAt g x) ≡ vs ++ replicate (64 - length name) 0 =
-          rw (← d, ← kept-count, kept-name t a (h .sized) (h .clean) x l, ← z, name-cells name few) in
-          let all : next ≡ sets out (16970 + 69 * x) vs = sets-then out (twoBytes k ++ twoBytes n) (length name ∷ name) (16970 + 69 * x) (omega arith) s1 s2 in
+          rw (← d, ← kept-count, kept-name t a (h .sized) (h .clean) x l, ← z, name-cells name) in
+          let all : next ≡ sets out (functionAt 0 + blocksOffset + blockLength * x) vs = sets-then out (twoBytes k ++ twoBytes n) (length name ∷ name) (functionAt 0 + blocksOffset + blockLength * x) (omega arith) s1 s2 in
           rw (add-one x) (one-block x k out next vs (64 - length name) (block-within x l) (omega (arith, first-within g x (block-within x l))) e cells all)
 
-    pub kept-length : (x r n k : ℕ) (out : List ℕ) → KeptRows t a m x r n k → out ≡ built t a (x + 1) k → length out ≡ 555153
+    pub kept-length : (x r n k : ℕ) (out : List ℕ) → KeptRows t a m x r n k → out ≡ built t a (x + 1) k → length out ≡ tableLength
     kept-length x r n k out s e =
         ap length e
         ∙ length-built (x + 1) k (omega (arith, block-within x (s .block))) (omega (arith, s .place, first-within g x (block-within x (s .block))))

@@ -1,6 +1,6 @@
 -- What the lookups return: each way is a case of its definition.
 -- Assumes nothing.
-use mathlib.Core.Path.{_≡_, refl, sym, ap, ap₂, _∙_}
+use mathlib.Core.Path.{_≡_, refl, sym, ap₂, _∙_}
 use mathlib.Core.Bool.{cond}
 use mathlib.Core.List.{List, _∷_}
 use Prim.Native.Nat.{ℕ, _+_, _*_, _<_}
@@ -11,27 +11,28 @@ use lib.Seq.{sets}
 use borrow.Author.Tests.{ne-eqb}
 use Rattle.laws.proofs.Branches.{by-eq, by-ne}
 use Rattle.language.specs.Table.{eightBytes, rowOp, rowTarget, rowLeft, rowRight, loadNumber, jumpFirst, jumpSecond}
+use Rattle.flow.specs.Layout.{incomingIn, phisIn, rankIn}
 use Rattle.instructions.specs.Shapes.{shapeOf}
 use Rattle.instructions.specs.declared.Shape.{Shape}
-use Rattle.translator.specs.Source.{phisIn, pairsIn, renamedAs, operandAs, keptCells}
+use Rattle.translator.specs.Source.{pairsIn, renamedAs, operandAs, keptCells}
 
 module _ (m : List ℕ) (b n : ℕ) (e : n ≡ phisIn m b) where
   pub pairs-none : n ≡ 0 → (0 ≡ pairsIn m b) × (0 < 65536)
-  pairs-none z = (by-eq 0 0 (getD m (512 + b) 0) (phisIn m b) 0 (sym e ∙ z) refl, lit< tt)
+  pairs-none z = (by-eq 0 0 (incomingIn m b) (phisIn m b) 0 (sym e ∙ z) refl, lit< tt)
 
-  pub pairs-some : (n ≡ 0 → ⊥) → {r : ℕ} → r ≡ getD m (512 + b) 0 → r < 65536 → (r ≡ pairsIn m b) × (r < 65536)
-  pairs-some z {r} p l = (by-ne r 0 (getD m (512 + b) 0) (phisIn m b) 0 (λ q. z (e ∙ q)) p, l)
+  pub pairs-some : (n ≡ 0 → ⊥) → {r : ℕ} → r ≡ incomingIn m b → r < 65536 → (r ≡ pairsIn m b) × (r < 65536)
+  pairs-some z {r} p l = (by-ne r 0 (incomingIn m b) (phisIn m b) 0 (λ q. z (e ∙ q)) p, l)
 
 module _ (m plan : List ℕ) (x k y n : ℕ) (e : n ≡ phisIn m y) where
   pub renamed-not : n ≡ 0 → y < 64 → (y ≡ renamedAs m plan x k y) × (y < 131072)
   unfolding renamedAs
-  renamed-not z l = (by-eq y y (getD plan y 0 + getD m (640 + 2 * x + k) 0) (phisIn m y) 0 (sym e ∙ z) refl, omega arith)
+  renamed-not z l = (by-eq y y (getD plan y 0 + rankIn m x k) (phisIn m y) 0 (sym e ∙ z) refl, omega arith)
 
-  pub renamed-so : (n ≡ 0 → ⊥) → (p q : ℕ) → p ≡ getD plan y 0 → p < 65536 → q ≡ getD m (640 + 2 * x + k) 0 → q < 65536
+  pub renamed-so : (n ≡ 0 → ⊥) → (p q : ℕ) → p ≡ getD plan y 0 → p < 65536 → q ≡ rankIn m x k → q < 65536
       → (p + q ≡ renamedAs m plan x k y) × (p + q < 131072)
   unfolding renamedAs
   renamed-so z p q ep lp eq lq =
-      (by-ne (p + q) y (getD plan y 0 + getD m (640 + 2 * x + k) 0) (phisIn m y) 0 (λ w. z (e ∙ w)) (ap₂ (λ u v. u + v) ep eq), omega arith)
+      (by-ne (p + q) y (getD plan y 0 + rankIn m x k) (phisIn m y) 0 (λ w. z (e ∙ w)) (ap₂ (λ u v. u + v) ep eq), omega arith)
 
 -- ---- an operand by its kind
 

@@ -3,27 +3,26 @@
 use mathlib.Core.Path.{_≡_, refl, sym, ap, _∙_}
 use mathlib.Core.Bool.{Bool, true, false, not}
 use mathlib.Core.List.{List, [], _∷_, _++_}
-use Prim.Native.Nat.{ℕ, zero, suc, _+_, _-_, _*_, _≤_, _<_}
+use Prim.Native.Nat.{ℕ, suc, _+_, _-_, _*_, _≤_, _<_}
 use native.Mathlib.Omega.{arith}
 use lib.Dec.{T}
-use lib.ListN.{length, getD, set, replicate, length-append, length-replicate}
+use lib.ListN.{length, getD, set, replicate, length-append}
 use lib.Seq.{sets}
 use Rattle.laws.specs.Lists.{any, gather}
-use Rattle.laws.specs.Sections.{pad}
-use Rattle.laws.proofs.Storing.{Stored, pad-is}
 use Rattle.laws.proofs.Every.{Every, every-none, every-imp, empty-every}
-use Rattle.laws.proofs.Tests.{not-is-false}
-use Rattle.language.specs.Programs.{Row, Register, Func, noRegister, rowsAt, rowsOf, isPhi, entriesOf}
+use Rattle.language.specs.Programs.{Register, Func, noRegister, rowsOf, isPhi, entriesOf}
 use Rattle.language.specs.Answers.{zeros}
-use Rattle.language.specs.Table.{twoBytes, headCells, functionResult, functionParams, functionEntry, functionName}
-use Rattle.language.specs.Table.{registerCount, registerType, registerName, blockCount, blockFirst, rowTarget, nameCells, registerCells, decodeRegister, decodeFunction}
+use Rattle.language.specs.Table.{twoBytes, headCells, functionResult, functionParams, functionEntry, functionName, tableLength}
+use Rattle.language.specs.Table.{registerCount, registerType, registerName, blockCount, blockFirst, rowTarget, registerCells, decodeRegister, decodeFunction}
+use Rattle.language.specs.Table.{functionAt, nameLength, registerLength, registersOffset}
 use Rattle.language.specs.Translating.{phisBefore, newRegister, translation, translatedRegisters, translatedBlocks}
 use Rattle.theorems.specs.TableLaw.{FunctionFits}
 use Rattle.theorems.proofs.Acceptance.{no-phi, clean-translation}
 use Rattle.theorems.proofs.AcceptanceCheck.{sound-parts}
 use Rattle.theorems.proofs.AcceptanceRows.{entries-none}
 use Rattle.theorems.proofs.TableSound.{sound-fits}
-use Rattle.theorems.proofs.TableView.{register-count, block-count}
+use Rattle.language.proofs.TableView.{register-count, block-count}
+use Rattle.language.proofs.TableLaws.{name-cells, no-name-cells}
 use Rattle.theorems.proofs.Size.{size-registers, size-blocks}
 use Rattle.theorems.proofs.SimulationBlocks.{phis-fit}
 use Rattle.theorems.proofs.SimulationRows.{phisAt}
@@ -32,18 +31,9 @@ use Rattle.translator.proofs.Counting.{phis-next, phis-all}
 use Rattle.translator.proofs.Filling.{length-filled, register-stored, head-stored}
 use Rattle.translator.proofs.Items.{register-kept, register-new, new-within}
 
--- a name's cells, of which its length and bytes are stored
-pub name-cells : (name : List ℕ) → length name ≤ 64 → nameCells name ≡ (length name ∷ name) ++ replicate (64 - length name) 0
-unfolding nameCells
-name-cells name h = ap (λ (r : List ℕ). length name ∷ r) (pad-is 64 name (64 - length name) (omega arith))
-
-register-cells : (r : Register) → length (r .name) ≤ 64 → registerCells r ≡ (r .type ∷ length (r .name) ∷ r .name) ++ replicate (64 - length (r .name)) 0
+register-cells : (r : Register) → registerCells r ≡ (r .type ∷ length (r .name) ∷ r .name) ++ replicate (64 - length (r .name)) 0
 unfolding registerCells
-register-cells r h = ap (λ (x : List ℕ). r .type ∷ x) (name-cells (r .name) h)
-
-pub no-name-cells : nameCells [] ≡ replicate 65 0
-unfolding nameCells pad
-no-name-cells = refl
+register-cells r = ap (λ (x : List ℕ). r .type ∷ x) (name-cells (r .name))
 
 module _ (t : List ℕ) (a : ℕ) (h : TranslatableAt t a) where
   abbrev f : Func
@@ -65,13 +55,13 @@ module _ (t : List ℕ) (a : ℕ) (h : TranslatableAt t a) where
   pub no-entries : gather entriesOf (rowsOf g) ≡ []
   no-entries = empty-every entriesOf (every-imp (λ r e. entries-none r e) plain)
 
-  pub length-declared : (i : ℕ) → i ≤ length (g .registers) → length (declared t a i) ≡ 555153
+  pub length-declared : (i : ℕ) → i ≤ length (g .registers) → length (declared t a i) ≡ tableLength
   length-declared i l = length-filled g target-fits i 0 0 l (omega arith) (omega arith)
 
   -- one more register
   module _ (i : ℕ) (out next vs : List ℕ) (z : ℕ) (l : i < length (g .registers)) (e : out ≡ declared t a i) where
-    pub one-declared : registerCells (getD (g .registers) i noRegister) ≡ vs ++ replicate z 0 → next ≡ sets out (74 + 66 * i) vs → next ≡ declared t a (suc i)
-    one-declared c s = s ∙ ap (λ (u : List ℕ). sets u (74 + 66 * i) vs) e ∙ sym (register-stored g target-fits i 0 0 (omega arith) (omega arith) (omega arith) vs z l c .cells)
+    pub one-declared : registerCells (getD (g .registers) i noRegister) ≡ vs ++ replicate z 0 → next ≡ sets out (functionAt 0 + registersOffset + registerLength * i) vs → next ≡ declared t a (suc i)
+    one-declared c s = s ∙ ap (λ (u : List ℕ). sets u (functionAt 0 + registersOffset + registerLength * i) vs) e ∙ sym (register-stored g target-fits i 0 0 (omega arith) (omega arith) (omega arith) vs z l c .cells)
 
   pub kept-within : (i : ℕ) → i ≤ registerCount t a → i ≤ length (g .registers)
   unfolding translation
@@ -82,22 +72,21 @@ module _ (t : List ℕ) (a : ℕ) (h : TranslatableAt t a) where
   kept-short i l = rw (register-kept t a (h .sized) (h .clean) i l) at (target-fits .registers i (kept-within (suc i) l) .name .short)
 
   pub one-kept : (i kind : ℕ) (out name next : List ℕ) → i < registerCount t a → out ≡ declared t a i → kind ≡ registerType t a i → name ≡ registerName t a i
-      → next ≡ sets out (74 + 66 * i) (kind ∷ length name ∷ name) → next ≡ declared t a (suc i)
+      → next ≡ sets out (functionAt 0 + registersOffset + registerLength * i) (kind ∷ length name ∷ name) → next ≡ declared t a (suc i)
   unfolding decodeRegister
   one-kept i kind out name next l e k n s =
       let within : i < length (g .registers) = kept-within (suc i) l in
       let is : getD (g .registers) i noRegister ≡ record { type = kind; name = name } = register-kept t a (h .sized) (h .clean) i l ∙ rw (k, n) in
-      let few : length name ≤ 64 = rw n (kept-short i l) in
-      one-declared i out next (kind ∷ length name ∷ name) (64 - length name) within e (ap registerCells is ∙ register-cells (record { type = kind; name = name }) few) s
+      one-declared i out next (kind ∷ length name ∷ name) (64 - length name) within e (ap registerCells is ∙ register-cells (record { type = kind; name = name })) s
 
   pub one-new : (y n i kind : ℕ) (out next : List ℕ) → n ≡ newRegister f y → y < blockCount t a → i < length (phisAt f y) → out ≡ declared t a (n + i)
-      → kind ≡ registerType t a (rowTarget t a (blockFirst t a y + i)) → next ≡ set out (74 + 66 * (n + i)) kind → next ≡ declared t a (n + (i + 1))
+      → kind ≡ registerType t a (rowTarget t a (blockFirst t a y + i)) → next ≡ set out (functionAt 0 + registersOffset + registerLength * (n + i)) kind → next ≡ declared t a (n + (i + 1))
   unfolding registerCells
   one-new y n i kind out next d l b e k s =
       let more : n + (i + 1) ≡ suc (n + i) = omega arith in
       let within : n + i < length (g .registers) = rw d (new-within t a (h .sized) (h .clean) y i l b) in
       let is : getD (g .registers) (n + i) noRegister ≡ record { type = kind; name = [] } = rw (d, k) (register-new t a (h .sized) (h .clean) y i l b) in
-      rw more (one-declared (n + i) out next (kind ∷ []) 65 within e (ap registerCells is ∙ ap (λ (r : List ℕ). kind ∷ r) no-name-cells) s)
+      rw more (one-declared (n + i) out next (kind ∷ []) nameLength within e (ap registerCells is ∙ ap (λ (r : List ℕ). kind ∷ r) no-name-cells) s)
 
   -- ---- the head
 
@@ -105,13 +94,13 @@ module _ (t : List ℕ) (a : ℕ) (h : TranslatableAt t a) where
   unfolding decodeFunction translation
   name-short = target-fits .name .short
 
-  pub head-declared : (registers blocks : ℕ) (out next : List ℕ) → registers ≡ translatedRegisters f → blocks ≡ translatedBlocks f → out ≡ zeros 555153
+  pub head-declared : (registers blocks : ℕ) (out next : List ℕ) → registers ≡ translatedRegisters f → blocks ≡ translatedBlocks f → out ≡ zeros tableLength
       → next ≡ sets out 0 (headOf t a registers blocks) → next ≡ declared t a 0
   unfolding headOf headCells translation decodeFunction
   head-declared registers blocks out next r b e s =
       let name = functionName t a in
       let vs : List ℕ = 0 ∷ functionResult t a ∷ (twoBytes (functionParams t a) ++ (twoBytes registers ++ (blocks ∷ functionEntry t a ∷ length name ∷ name))) in
-      let cells : headCells g ≡ vs ++ replicate (64 - length name) 0 = rw (size-registers f, size-blocks f, ← r, ← b, name-cells name name-short) in
+      let cells : headCells g ≡ vs ++ replicate (64 - length name) 0 = rw (size-registers f, size-blocks f, ← r, ← b, name-cells name) in
       s ∙ ap (λ (u : List ℕ). sets u 0 (1 ∷ vs)) e ∙ sym (head-stored g target-fits no-entries vs (64 - length name) cells .cells)
 
   -- ---- all new registers
@@ -135,7 +124,7 @@ module _ (t : List ℕ) (a : ℕ) (h : TranslatableAt t a) where
   pub new-most : (y n p : ℕ) → y < blockCount t a → n ≡ newRegister f y → p ≡ length (phisAt f y) → n + p ≤ 256
   new-most y n p l d e = omega (arith, new-within-all y l, target-fits .registerCount)
 
-  pub length-new : (y n : ℕ) (out : List ℕ) → y < blockCount t a → n ≡ newRegister f y → out ≡ declared t a n → length out ≡ 555153
+  pub length-new : (y n : ℕ) (out : List ℕ) → y < blockCount t a → n ≡ newRegister f y → out ≡ declared t a n → length out ≡ tableLength
   length-new y n out l d e = ap length e ∙ length-declared n (omega (arith, new-within-all y l))
 
 -- ---- the stores of a head, one behind the other

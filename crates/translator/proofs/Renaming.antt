@@ -1,28 +1,29 @@
 -- A kept row: its cells, with the blocks that a terminator names renamed.
 -- Assumes nothing.
-use mathlib.Core.Path.{_≡_, refl, sym, ap, _∙_}
-use mathlib.Core.Bool.{Bool, true, false, cond, true≢false}
-use mathlib.Core.List.{List, [], _∷_, _++_}
-use Prim.Native.Nat.{ℕ, zero, suc, _+_, _*_, _/_, _%_, _≤_, _<_}
+use mathlib.Core.Path.{_≡_, refl, ap, _∙_}
+use mathlib.Core.Bool.{true, false, true≢false}
+use mathlib.Core.List.{List, _∷_}
+use Prim.Native.Nat.{ℕ, _+_, _*_, _/_, _%_, _≤_, _<_}
 use native.Mathlib.Omega.{arith}
-use lib.Dec.{T, eqb, ltb, lit<, ltb→lt}
+use lib.Dec.{eqb, ltb, lit<, ltb→lt}
 use lib.ListN.{length, getD, replicate}
 use borrow.Author.Tests.{eq-eqb}
 use Rattle.laws.specs.Lists.{position}
 use Rattle.laws.specs.Sections.{pad}
 use Rattle.laws.proofs.Indexing.{any-at, all-at}
 use Rattle.language.specs.Instructions.{Form, formOf}
-use Rattle.language.specs.Programs.{Row, Func, rowsAt, isPhi, hasPhi, isTerminator, namedBy, opOf}
-use Rattle.language.specs.Checking.{goesTo, predecessors, lastRow, inRange}
-use Rattle.language.specs.Table.{eightBytes, rowCells, rowOp, jumpFirst, jumpSecond, blockCount, blockRows, blockFirst, decodeAs, decodeRow, decodeFunction}
-use Rattle.language.specs.Translating.{pairsBefore, edgeOf, retargeted, retarget, translation}
+use Rattle.language.specs.Programs.{Row, Func, rowsAt, isPhi, isTerminator, namedBy, opOf}
+use Rattle.language.specs.Checking.{goesTo, predecessors}
+use Rattle.language.specs.Table.{eightBytes, rowCells, rowOp, jumpFirst, jumpSecond, decodeAs}
+use Rattle.language.specs.Translating.{edgeOf, retargeted, retarget, translation}
 use Rattle.instructions.specs.Shapes.{shapeOf}
 use Rattle.theorems.specs.Clean.{Clean}
-use Rattle.theorems.proofs.TableView.{block-count, block-rows-count, block-row-is}
-use Rattle.theorems.proofs.SimulationRows.{phisAt, rowOf, in-range, last-row, named-known, first-lt, second-lt}
+use Rattle.theorems.proofs.SimulationRows.{phisAt, rowOf, in-range, last-row, named-known}
 use Rattle.theorems.proofs.AcceptanceNumbers.{retargeted-lt}
-use Rattle.rules.specs.Prepared.{Prepared, targetsFrom, rankOf}
-use Rattle.translator.specs.Source.{Planned, phisIn, renamedAs, operandAs, keptCells, Naming}
+use Rattle.flow.specs.Layout.{phisIn, rankIn}
+use Rattle.flow.specs.Predecessors.{rankOf, targetsFrom}
+use Rattle.flow.specs.Prepared.{Prepared}
+use Rattle.translator.specs.Source.{Planned, renamedAs, operandAs, keptCells}
 use Rattle.translator.proofs.Counting.{leading-phis, by-count, rank-is}
 
 -- ---- a small number in eight cells
@@ -76,9 +77,9 @@ module _ (f : Func) (c : Clean f) (m plan : List ℕ) (p : Prepared f m) (q : Pl
     renamed-is : renamedAs m plan x k y ≡ retargeted f x y
     unfolding renamedAs retargeted edgeOf
     renamed-is =
-        let rank : getD m (640 + 2 * x + k) 0 ≡ position (λ z. eqb z x) (predecessors f y) =
+        let rank : rankIn m x k ≡ position (λ z. eqb z x) (predecessors f y) =
         p .rank x k lx lk ∙ ap (λ b. rankOf f x b) e ∙ rank-is f c x y lx goes in
-        rw (by-count f c y (phisIn m y) y (getD plan y 0 + getD m (640 + 2 * x + k) 0) (phis-in y ly), q .first y ly, rank)
+        rw (by-count f c y (phisIn m y) y (getD plan y 0 + rankIn m x k) (phis-in y ly), q .first y ly, rank)
 
     renamed-lt : retargeted f x y < 256
     renamed-lt = omega (arith, retargeted-lt f x y lx ly goes)

@@ -1,47 +1,14 @@
--- Running sums and ranks: one term more, one number more; and the elements that lead a list.
+-- A list taken together with as many numbers, and the elements that lead a list.
 -- Assumes nothing.
 use mathlib.Core.Path.{_≡_, refl, sym, ap, _∙_}
 use mathlib.Core.Bool.{Bool, true, false, cond, not}
-use mathlib.Core.List.{List, [], _∷_, _++_, map}
+use mathlib.Core.List.{List, [], _∷_, _++_}
 use Prim.Native.Nat.{ℕ, zero, suc, _+_, _<_, suc-le-suc}
 use native.Mathlib.Nat.{not-suc-le-zero, le-of-suc-le-suc, zero-lt-suc, add-zero, add-suc, suc-add}
-use native.Mathlib.Omega.{arith}
-use lib.Dec.{eqb}
-use borrow.Author.Tests.{eq-eqb, ne-eqb}
-use lib.ListN.{length, getD, take}
-use lib.Seq.{take-suc}
-use Rattle.laws.specs.Lists.{any, keep, leading, position, together, from, below, sum}
-use Rattle.laws.proofs.Appending.{sum-append}
-use Rattle.laws.proofs.Indexing.{or-first}
+use lib.ListN.{length, getD}
+use Rattle.laws.specs.Lists.{any, keep, leading, together, from}
+use Rattle.laws.proofs.Tests.{or-left}
 use Rattle.laws.proofs.Keep.{keep-passes, any-failed}
-
--- ---- sums
-
-pub sum-take-suc : {A : Type 0} (s : A → ℕ) (d : A) (xs : List A) (i : ℕ) → i < length xs
-    → sum (map s (take (suc i) xs)) ≡ sum (map s (take i xs)) + s (getD xs i d)
-sum-take-suc s d xs i h = rw (take-suc xs i d h, sum-append s (take i xs) (getD xs i d ∷ [])) (omega arith)
-
--- ---- ranks
-
-module _ (q : ℕ → Bool) where
-  rank-from : (k n i x : ℕ) → x ≡ k + i → i < n → q x ≡ true → position (λ z. eqb z x) (keep q (from k n)) ≡ length (keep q (from k i))
-  rank-from k zero i x e h t = absurd (not-suc-le-zero h)
-  rank-from k (suc n) zero x e h t =
-      let here : k ≡ x = omega arith in
-      let passes : q k ≡ true = ap q here ∙ t in
-      rw (passes, eq-eqb k x here)
-  rank-from k (suc n) (suc i) x e h t = case (q k) (rank-from (suc k) n i x (omega arith) (le-of-suc-le-suc h) t)
-    where
-      case :
-          (b : Bool)
-          → position (λ z. eqb z x) (keep q (from (suc k) n)) ≡ length (keep q (from (suc k) i))
-          → position (λ z. eqb z x) (cond b (k ∷ keep q (from (suc k) n)) (keep q (from (suc k) n))) ≡ length (cond b (k ∷ keep q (from (suc k) i)) (keep q (from (suc k) i)))
-      case true r = rw (ne-eqb k x (λ z. omega arith), r)
-      case false r = r
-
-  -- a number kept of those below n has as many before it as are kept of those below it
-  pub rank-below : (n x : ℕ) → x < n → q x ≡ true → position (λ z. eqb z x) (keep q (below n)) ≡ length (keep q (below x))
-  rank-below n x h t = rank-from zero n x x (omega arith) h t
 
 -- ---- a list and as many numbers
 
@@ -57,7 +24,7 @@ getD-numbered g k (x ∷ xs) (suc i) d e h =
 module _ {A : Type 0} (p : A → Bool) where
   leading-none : (xs : List A) → any p xs ≡ false → leading p xs ≡ []
   leading-none [] e = refl
-  leading-none (x ∷ xs) e = ap (λ (b : Bool). cond b (x ∷ leading p xs) []) (or-first (p x) (any p xs) e)
+  leading-none (x ∷ xs) e = ap (λ (b : Bool). cond b (x ∷ leading p xs) []) (or-left (p x) (any p xs) e)
 
   leading-all : (d : A) (xs ys : List A) → ((i : ℕ) → i < length xs → p (getD xs i d) ≡ true) → any p ys ≡ false → leading p (xs ++ ys) ≡ xs
   leading-all d [] ys h e = leading-none ys e

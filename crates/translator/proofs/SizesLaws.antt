@@ -1,9 +1,9 @@
 -- The translated size, counted block by block; and the plan.
 -- Assumes nothing.
 use mathlib.Core.Path.{_≡_, refl, sym, ap, _∙_}
-use mathlib.Core.Bool.{Bool, true, false, cond, _&&_}
-use mathlib.Core.List.{List, map}
-use Prim.Native.Nat.{ℕ, zero, suc, _+_, _-_, _*_, _≤_, _<_}
+use mathlib.Core.Bool.{false, cond}
+use mathlib.Core.List.{List}
+use Prim.Native.Nat.{ℕ, _+_, _-_, _*_, _≤_, _<_}
 use native.Mathlib.Nat.{mul-le-mul}
 use native.Mathlib.Numerals.{add-one}
 use native.Mathlib.Omega.{arith}
@@ -12,20 +12,19 @@ use lib.ListN.{length, getD, set, length-set}
 use lib.Seq.{getD-set-same, getD-set-other}
 use borrow.Author.Count.{below-more}
 use borrow.Author.Tests.{le-leb, lt-leb}
-use Rattle.laws.specs.Lists.{below, sum}
 use Rattle.language.specs.Programs.{Func, rowsAt, rowsOf, firstRow, hasPhi}
-use Rattle.language.specs.Checking.{predecessors}
 use Rattle.language.specs.Table.{registerCount, blockCount, blockRows, decodeFunction}
-use Rattle.language.specs.Translating.{phisBefore, pairsBefore, phiCount, pairCount, sizeOfEdges, translatedRegisters, translatedBlocks, translatedRows, translationFits}
+use Rattle.language.specs.Translating.{phisBefore, pairsBefore, phiTotal, pairCount, sizeOfEdges, translatedRegisters, translatedBlocks, translatedRows, translationFits}
 use Rattle.theorems.specs.Clean.{Clean}
 use Rattle.theorems.proofs.SimulationRows.{phisAt}
-use Rattle.theorems.proofs.TableView.{register-count, block-count, block-rows-count}
+use Rattle.language.proofs.TableView.{register-count, block-count, block-rows-count}
 use Rattle.theorems.proofs.Spots.{first-next}
-use Rattle.rules.specs.Prepared.{Sized, Prepared}
+use Rattle.flow.specs.Layout.{incomingIn, phisIn}
+use Rattle.flow.specs.Prepared.{Prepared}
 use Rattle.translator.specs.Sizes.{sizesOf}
-use Rattle.translator.specs.Source.{TranslatableAt, Planned, phisIn, pairsIn}
+use Rattle.translator.specs.Source.{Planned, pairsIn}
 use Rattle.translator.specs.declared.sizes.Sizes.{Sizes}
-use Rattle.translator.proofs.Counting.{pairsAt, edgesAt, edgesBefore, pairs-next, edges-next, phis-next, phis-all, pairs-all, first-all, edges-all, phis-fewer, pairs-within, blocks-fit, leading-phis, by-count}
+use Rattle.translator.proofs.Counting.{pairsAt, edgesAt, edgesBefore, pairs-next, edges-next, phis-next, phis-all, pairs-all, first-all, edges-all, phis-fewer, blocks-fit, leading-phis, by-count}
 
 -- ---- what is prepared, by block
 
@@ -38,7 +37,7 @@ module _ (t : List ℕ) (a : ℕ) (m : List ℕ) (p : Prepared (decodeFunction t
 
   pub pairs-here : (y : ℕ) → y < blockCount t a → pairsIn m y ≡ pairsAt f y
   pairs-here y l =
-      by-count f c y (phisIn m y) 0 (getD m (512 + y) 0) (phis-here y l) ∙ ap (λ n. cond (hasPhi f y) n 0) (p .incoming y (rw (block-count t a) l))
+      by-count f c y (phisIn m y) 0 (incomingIn m y) (phis-here y l) ∙ ap (λ n. cond (hasPhi f y) n 0) (p .incoming y (rw (block-count t a) l))
 
 -- ---- the sizes of the first b blocks
 
@@ -88,7 +87,7 @@ module _ (t : List ℕ) (a n new edges rows b : ℕ) (z : n ≡ blockCount t a) 
   whole : b ≡ length (decodeFunction t a .blocks)
   whole = let e : b ≡ n = omega (arith, h .within) in e ∙ z ∙ sym (block-count t a)
 
-  phis-whole : new ≡ phiCount (decodeFunction t a)
+  phis-whole : new ≡ phiTotal (decodeFunction t a)
   phis-whole = h .phis ∙ ap (phisBefore (decodeFunction t a)) whole ∙ phis-all (decodeFunction t a)
 
   pairs-whole : edges ≡ pairCount (decodeFunction t a)
@@ -108,9 +107,9 @@ module _ (t : List ℕ) (a n new edges rows b : ℕ) (z : n ≡ blockCount t a) 
   unfolding sizesOf translatedRegisters translatedBlocks translatedRows
   measured-all r e =
       let f = decodeFunction t a in
-      let x : r + new ≡ length (f .registers) + phiCount f = omega (arith, phis-whole, register-count t a) in
+      let x : r + new ≡ length (f .registers) + phiTotal f = omega (arith, phis-whole, register-count t a) in
       let y : n + edges ≡ length (f .blocks) + pairCount f = omega (arith, pairs-whole, block-count t a) in
-      let w : rows - new ≡ length (rowsOf f) - phiCount f + sizeOfEdges f = omega (arith, phis-whole, rows-whole, phis-fewer f) in
+      let w : rows - new ≡ length (rowsOf f) - phiTotal f + sizeOfEdges f = omega (arith, phis-whole, rows-whole, phis-fewer f) in
       rw (x, y, w)
 
 -- ---- 31

@@ -1,19 +1,19 @@
 -- A table of one function while it is put down.
 -- Assumes nothing.
-use mathlib.Core.List.{List, [], _∷_, _++_}
+use mathlib.Core.List.{List, _∷_, _++_}
 use Prim.Native.Nat.{ℕ}
 use lib.ListN.{length, take}
 use Rattle.laws.specs.Lists.{gather}
 use Rattle.laws.specs.Sections.{pad, gatherFrom}
 use Rattle.language.specs.Programs.{Func, entriesOf, rowsOf}
-use Rattle.language.specs.Table.{headCells, registerCells, blockCells, rowCells, entrySection}
+use Rattle.language.specs.Table.{headCells, registerCells, blockCells, rowCells, entrySection, blocksLength, functionsLength, registersLength, rowsLength}
 
 -- The table of function g as far as it has been put down: its head, i registers, j blocks and k rows. Its phi entries count as put down.
 unfoldable pub filled : Func → (i j k : ℕ) → List ℕ
 filled g i j k =
     1
-    ∷ pad 555152
+    ∷ pad functionsLength
     (headCells g
-    ++ (pad 16896 (gather registerCells (take i (g .registers)))
-    ++ (pad 4416 (gatherFrom (λ b. length (b .rows)) blockCells 0 (take j (g .blocks)))
-    ++ (pad 12288 (gatherFrom (λ r. length (entriesOf r)) rowCells 0 (take k (rowsOf g))) ++ entrySection g))))
+    ++ (pad registersLength (gather registerCells (take i (g .registers)))
+    ++ (pad blocksLength (gatherFrom (λ b. length (b .rows)) blockCells 0 (take j (g .blocks)))
+    ++ (pad rowsLength (gatherFrom (λ r. length (entriesOf r)) rowCells 0 (take k (rowsOf g))) ++ entrySection g))))

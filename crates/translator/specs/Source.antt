@@ -12,7 +12,8 @@ use Rattle.language.specs.Table.{functionResult, functionParams, functionEntry,
 use Rattle.language.specs.Translating.{pairsBefore, newRegister, translation, translationFits}
 use Rattle.instructions.specs.Shapes.{shapeOf}
 use Rattle.theorems.specs.Clean.{Clean}
-use Rattle.rules.specs.Prepared.{Sized}
+use Rattle.flow.specs.Layout.{incomingIn, phisIn, rankIn}
+use Rattle.flow.specs.Sized.{Sized}
 use Rattle.translator.specs.Filling.{filled}
 
 -- The function at cell a of t is accepted as ssa, and its translation is within the sizes.
@@ -26,13 +27,10 @@ pub record TranslatableAt (t : List ℕ) (a : ℕ) : Type 0 where
 abbrev pub translated : List ℕ → ℕ → Func
 translated t a = translation (decodeFunction t a)
 
--- ---- what is prepared (`rules`): the phi of block b, and the pairs of which it is the phi block
-
-abbrev pub phisIn : List ℕ → ℕ → ℕ
-phisIn m b = getD m (576 + b) 0
+-- ---- what is prepared (`flow`): the pairs of which block b is the phi block
 
 abbrev pub pairsIn : List ℕ → ℕ → ℕ
-pairsIn m b = cond (eqb (phisIn m b) 0) 0 (getD m (512 + b) 0)
+pairsIn m b = cond (eqb (phisIn m b) 0) 0 (incomingIn m b)
 
 -- ---- the plan: the number of each block's first edge block, were it to have phi
 
@@ -42,7 +40,7 @@ pub record Planned (f : Func) (plan : List ℕ) : Type 0 where
 
 -- The block that block x names in place of y, its k-th target.
 unfoldable pub renamedAs : (m plan : List ℕ) → (x k y : ℕ) → ℕ
-renamedAs m plan x k y = cond (eqb (phisIn m y) 0) y (getD plan y 0 + getD m (640 + 2 * x + k) 0)
+renamedAs m plan x k y = cond (eqb (phisIn m y) 0) y (getD plan y 0 + rankIn m x k)
 
 -- ---- cells
 

@@ -5,11 +5,14 @@ ghost use Prim.Native.Nat.{_+_, _*_, _<_};
 ghost use Rattle.language.specs.Programs.{firstRow};
 ghost use Rattle.language.specs.Table.{blockCount, cells, decodeFunction};
 ghost use Rattle.language.specs.Translating.{pairsBefore, newRegister};
-ghost use Rattle.rules.specs.Prepared.{Prepared};
-ghost use Rattle.translator.specs.Source.{TranslatableAt, translated, built, phisIn, pairsIn, edgeNumber, Edge};
+ghost use Rattle.flow.specs.Layout.{phisIn};
+ghost use Rattle.flow.specs.Prepared.{Prepared};
+ghost use Rattle.translator.specs.Source.{TranslatableAt, translated, built, pairsIn, edgeNumber, Edge};
 use crate::kept::put_place;
 use crate::prepared::pairs;
-use crate::prepared::phis;
+use flow::phis;
+use instructions::ops;
+use table::FIRST_FUNCTION;
 use table::block_count;
 use table::block_first;
 use table::phi_entry;
@@ -40,7 +43,7 @@ fn copy_entries(
     let mut i = 0;
     while i < p {
         let e = phi_entry(t, a, phi_first(t, a, first + i) + j);
-        put_row(out, 1, k + i, 30, n + i, e, 0, 0);
+        put_row(out, FIRST_FUNCTION, k + i, ops::COPY, n + i, e, 0, 0);
         i += 1;
     }
 }
@@ -70,7 +73,7 @@ fn copy_targets(
             out,
             1,
             k + p + i,
-            30,
+            ops::COPY,
             row_target(t, a, first + i),
             n + i,
             0,
@@ -102,7 +105,7 @@ fn put_edge(
     put_place(out, b, k, 2 * p + 1);
     copy_entries(t, a, m, y, j, n, out, k);
     copy_targets(t, a, m, y, j, n, out, k);
-    put_row(out, 1, k + 2 * p, 32, 0, 0, 0, y as u64);
+    put_row(out, FIRST_FUNCTION, k + 2 * p, ops::JUMP, 0, 0, 0, y as u64);
     k + 2 * p + 1
 }
 

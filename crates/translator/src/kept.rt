@@ -6,13 +6,20 @@ ghost use Prim.Native.Nat.{_+_, _*_, _≤_, _<_};
 ghost use lib.ListN.{length};
 ghost use lib.Seq.{sets};
 ghost use Rattle.language.specs.Programs.{firstRow};
-ghost use Rattle.language.specs.Table.{twoBytes, blockCount, rowOp, decodeFunction};
+ghost use Rattle.language.specs.Table.{twoBytes, blockCount, rowOp, decodeFunction, InTable, blockLength, blocksOffset, functionAt, rowLength, rowsOffset, tableLength};
 ghost use Rattle.instructions.specs.Shapes.{shapeOf};
-ghost use Rattle.rules.specs.Prepared.{Prepared};
+ghost use Rattle.flow.specs.Layout.{flowLength};
+ghost use Rattle.flow.specs.Prepared.{Prepared};
 ghost use Rattle.translator.specs.Source.{TranslatableAt, Planned, translated, built, Naming, operandAs, keptCells, KeptRows};
-use crate::prepared::phis;
 use crate::prepared::renamed;
+use flow::phis;
+use instructions::operands;
 use instructions::shape_of;
+use table::BLOCK_LENGTH;
+use table::BLOCK_NAMES_OFFSET;
+use table::BLOCK_ROWS_OFFSET;
+use table::BLOCKS_OFFSET;
+use table::FIRST_FUNCTION;
 use table::block_count;
 use table::block_first;
 use table::block_name;
@@ -28,6 +35,13 @@ use table::row_op;
 use table::row_right;
 use table::row_target;
 
+// The cells of the translation's first block, the one function of its table: where its rows begin, their count, its name.
+const PLACES: usize = FIRST_FUNCTION + BLOCKS_OFFSET;
+
+const HEIGHTS: usize = FIRST_FUNCTION + BLOCK_ROWS_OFFSET;
+
+const NAMES: usize = FIRST_FUNCTION + BLOCK_NAMES_OFFSET;
+
 // n where the test holds, else 0.
 fn if_so(test: bool, n: usize) -> usize
     ensures { λ r. ⌜ (r ≡ cond test n 0) × (r ≤ n) ⌝ }
@@ -40,14 +54,14 @@ fn if_so(test: bool, n: usize) -> usize
 
 // The operand of row r of block x, by its kind: a load's number, or the blocks that are named, renamed.
 fn operand(t: &[u8], a: usize, m: &[u16], plan: &[u16], x: usize, r: usize, kind: u8) -> u64
-    requires { ⌜ (a + 34697 ≤ length (now t)) × (length (now m) ≡ 768) × (length (now plan) ≡ 64) × (x < 64) × (r < 1024) ⌝ }
+    requires { ⌜ (InTable (now t) a) × (length (now m) ≡ flowLength) × (length (now plan) ≡ 64) × (x < 64) × (r < 1024) ⌝ }
     requires { ⌜ Naming (now t) a r kind ⌝ }
     ensures { λ n. ⌜ n ≡ operandAs (now (t .entry)) a (now (m .entry)) (now (plan .entry)) x r kind ⌝ }
 {
     match kind {
-        1 => load_number(t, a, r),
-        3 => renamed(m, plan, x, 0, jump_first(t, a, r)) as u64,
-        4 => {
+        operands::NUMBER => load_number(t, a, r),
+        operands::BLOCK => renamed(m, plan, x, 0, jump_first(t, a, r)) as u64,
+        operands::BLOCKS => {
             let y = renamed(m, plan, x, 0, jump_first(t, a, r));
             let z = renamed(m, plan, x, 1, jump_second(t, a, r));
             (y + 256 * z) as u64
@@ -67,10 +81,10 @@ fn keep_row(
     out: &mut [u8],
     k: usize,
 )
-    requires { ⌜ (a + 34697 ≤ length (now t)) × (length (now m) ≡ 768) × (length (now plan) ≡ 64) × (x < 64) × (r < 1024) ⌝ }
+    requires { ⌜ (InTable (now t) a) × (length (now m) ≡ flowLength) × (length (now plan) ≡ 64) × (x < 64) × (r < 1024) ⌝ }
     requires { ⌜ Naming (now t) a r (shapeOf (rowOp (now t) a r) .operand) ⌝ }
-    requires { ⌜ (length (now out) ≡ 555153) × (k < 1024) ⌝ }
-    ensures { λ _. ⌜ now (out .exit) ≡ sets (now (out .entry)) (21386 + 12 * k) (keptCells (now (t .entry)) a (now (m .entry)) (now (plan .entry)) x r) ⌝ }
+    requires { ⌜ (length (now out) ≡ tableLength) × (k < 1024) ⌝ }
+    ensures { λ _. ⌜ now (out .exit) ≡ sets (now (out .entry)) (functionAt 0 + rowsOffset + rowLength * k) (keptCells (now (t .entry)) a (now (m .entry)) (now (plan .entry)) x r) ⌝ }
 {
     let op = row_op(t, a, r);
     let shape = shape_of(op);
@@ -110,11 +124,11 @@ fn keep_rows(
 
 // Where the rows of block b of the translation begin, and how many there are.
 pub fn put_place(out: &mut [u8], b: usize, first: usize, rows: usize)
-    requires { ⌜ (length (now out) ≡ 555153) × (b < 64) ⌝ }
-    ensures { λ _. ⌜ now (out .exit) ≡ sets (now (out .entry)) (16970 + 69 * b) (twoBytes first ++ twoBytes rows) ⌝ }
+    requires { ⌜ (length (now out) ≡ tableLength) × (b < 64) ⌝ }
+    ensures { λ _. ⌜ now (out .exit) ≡ sets (now (out .entry)) (functionAt 0 + blocksOffset + blockLength * b) (twoBytes first ++ twoBytes rows) ⌝ }
 {
-    put_two(out, 16970 + 69 * b, first);
-    put_two(out, 16972 + 69 * b, rows);
+    put_two(out, PLACES + BLOCK_LENGTH * b, first);
+    put_two(out, HEIGHTS + BLOCK_LENGTH * b, rows);
 }
 
 // Block x without its phi, its rows from row k on; the row behind it.
@@ -136,7 +150,7 @@ fn keep_block(
     let p = phis(m, x);
     let n = block_rows(t, a, x) - p;
     put_place(out, x, k, n);
-    put_name(out, 16974 + 69 * x, block_name(t, a, x));
+    put_name(out, NAMES + BLOCK_LENGTH * x, block_name(t, a, x));
     keep_rows(t, a, m, plan, x, block_first(t, a, x) + p, n, out, k);
     k + n
 }

@@ -1,4 +1,4 @@
-// The translation out of ssa, from a lent table to a lent table. A function that passes its check and is prepared (`rules`) goes in;
+// The translation out of ssa, from a lent table to a lent table. A function that passes its check and is prepared (`flow`) goes in;
 // what comes out is the table of document 01's translation of it.
 mod edges;
 mod kept;

@@ -1,42 +1,38 @@
-// What is prepared of a function (`rules`), looked up: the phi, the pairs and the ranks of its blocks.
+// What the translation looks up of what is prepared of a function (`flow`): pairs, and blocks in place of those that are named.
 ghost use mathlib.Core.Path.{_≡_};
 ghost use Prim.Native.Nat.{_<_};
 ghost use lib.ListN.{length};
-ghost use Rattle.translator.specs.Source.{phisIn, pairsIn, renamedAs};
+ghost use Rattle.flow.specs.Layout.{flowLength};
+ghost use Rattle.translator.specs.Source.{pairsIn, renamedAs};
+use flow::incoming;
+use flow::phis;
+use flow::rank;
 
-// A prepared number as an index, with its bound: a caller has no cast to show.
+// A planned number as an index, with its bound: a caller has no cast to show.
 fn number(x: u16) -> usize
     ensures { λ r. ⌜ (r ≡ x) × (r < 65536) ⌝ }
 {
     x as usize
 }
 
-// The phi of block b.
-pub fn phis(m: &[u16], b: usize) -> usize
-    requires { ⌜ (length (now m) ≡ 768) × (b < 64) ⌝ }
-    ensures { λ r. ⌜ (r ≡ phisIn (now (m .entry)) b) × (r < 65536) ⌝ }
-{
-    number(m[576 + b])
-}
-
 // The pairs of predecessor and block b: none if it has no phi.
 pub fn pairs(m: &[u16], b: usize) -> usize
-    requires { ⌜ (length (now m) ≡ 768) × (b < 64) ⌝ }
+    requires { ⌜ (length (now m) ≡ flowLength) × (b < 64) ⌝ }
     ensures { λ r. ⌜ (r ≡ pairsIn (now (m .entry)) b) × (r < 65536) ⌝ }
 {
     if phis(m, b) == 0 {
         return 0;
     }
-    number(m[512 + b])
+    incoming(m, b)
 }
 
 // The block that block x names in place of y, its k-th target: the edge block of the two, if y has phi.
 pub fn renamed(m: &[u16], plan: &[u16], x: usize, k: usize, y: usize) -> usize
-    requires { ⌜ (length (now m) ≡ 768) × (length (now plan) ≡ 64) × (x < 64) × (k < 2) × (y < 64) ⌝ }
+    requires { ⌜ (length (now m) ≡ flowLength) × (length (now plan) ≡ 64) × (x < 64) × (k < 2) × (y < 64) ⌝ }
     ensures { λ r. ⌜ (r ≡ renamedAs (now (m .entry)) (now (plan .entry)) x k y) × (r < 131072) ⌝ }
 {
     if phis(m, y) == 0 {
         return y;
     }
-    number(plan[y]) + number(m[640 + 2 * x + k])
+    number(plan[y]) + rank(m, x, k)
 }

@@ -3,11 +3,21 @@ ghost use mathlib.Core.Path.{_≡_};
 ghost use Prim.Native.Nat.{_+_, _≤_, _<_};
 ghost use lib.ListN.{length};
 ghost use lib.Seq.{sets};
-ghost use Rattle.language.specs.Table.{blockCount, functionName, registerCount, decodeFunction};
+ghost use Rattle.language.specs.Table.{blockCount, functionName, registerCount, decodeFunction, InTable, tableLength};
 ghost use Rattle.language.specs.Translating.{newRegister};
-ghost use Rattle.rules.specs.Prepared.{Prepared};
-ghost use Rattle.translator.specs.Source.{TranslatableAt, headOf, declared, built, phisIn};
-use crate::prepared::phis;
+ghost use Rattle.flow.specs.Layout.{phisIn};
+ghost use Rattle.flow.specs.Prepared.{Prepared};
+ghost use Rattle.translator.specs.Source.{TranslatableAt, headOf, declared, built};
+use flow::phis;
+use table::BLOCK_COUNT_OFFSET;
+use table::ENTRY_OFFSET;
+use table::FIRST_FUNCTION;
+use table::FUNCTION_NAMES_OFFSET;
+use table::PARAMS_OFFSET;
+use table::REGISTER_COUNT_OFFSET;
+use table::REGISTER_LENGTH;
+use table::REGISTERS_OFFSET;
+use table::RESULT_OFFSET;
 use table::block_count;
 use table::block_first;
 use table::function_entry;
@@ -22,19 +32,33 @@ use table::register_name;
 use table::register_type;
 use table::row_target;
 
+// The cell of the type of the translation's first register.
+const TYPES: usize = FIRST_FUNCTION + REGISTERS_OFFSET;
+
+// The cells of its head.
+const RESULT: usize = FIRST_FUNCTION + RESULT_OFFSET;
+
+const PARAMS: usize = FIRST_FUNCTION + PARAMS_OFFSET;
+
+const REGISTERS: usize = FIRST_FUNCTION + REGISTER_COUNT_OFFSET;
+
+const BLOCKS: usize = FIRST_FUNCTION + BLOCK_COUNT_OFFSET;
+
+const ENTRY: usize = FIRST_FUNCTION + ENTRY_OFFSET;
+
 // The function count and the head: not marked ssa, else as it was but for its counts.
 pub fn put_head(t: &[u8], a: usize, registers: usize, blocks: usize, out: &mut [u8])
-    requires { ⌜ (a + 34697 ≤ length (now t)) × (length (functionName (now t) a) ≤ 64) × (blocks < 256) × (length (now out) ≡ 555153) ⌝ }
+    requires { ⌜ (InTable (now t) a) × (length (functionName (now t) a) ≤ 64) × (blocks < 256) × (length (now out) ≡ tableLength) ⌝ }
     ensures { λ _. ⌜ now (out .exit) ≡ sets (now (out .entry)) 0 (headOf (now (t .entry)) a registers blocks) ⌝ }
 {
     out[0] = 1;
-    out[1] = 0;
-    out[2] = function_result(t, a);
-    put_two(out, 3, function_params(t, a));
-    put_two(out, 5, registers);
-    out[7] = blocks as u8;
-    out[8] = function_entry(t, a) as u8;
-    put_name(out, 9, function_name(t, a));
+    out[FIRST_FUNCTION] = 0;
+    out[RESULT] = function_result(t, a);
+    put_two(out, PARAMS, function_params(t, a));
+    put_two(out, REGISTERS, registers);
+    out[BLOCKS] = blocks as u8;
+    out[ENTRY] = function_entry(t, a) as u8;
+    put_name(out, FUNCTION_NAMES_OFFSET, function_name(t, a));
 }
 
 // The registers that are kept.
@@ -46,7 +70,13 @@ pub fn keep_registers(t: &[u8], a: usize, out: &mut [u8])
     let n = register_count(t, a);
     let mut r = 0;
     while r < n {
-        put_register(out, 1, r, register_type(t, a, r), register_name(t, a, r));
+        put_register(
+            out,
+            FIRST_FUNCTION,
+            r,
+            register_type(t, a, r),
+            register_name(t, a, r),
+        );
         r += 1;
     }
 }
@@ -62,7 +92,7 @@ fn put_new(t: &[u8], a: usize, m: &[u16], y: usize, n: usize, out: &mut [u8])
     let first = block_first(t, a, y);
     let mut i = 0;
     while i < p {
-        out[74 + 66 * (n + i)] = register_type(t, a, row_target(t, a, first + i));
+        out[TYPES + REGISTER_LENGTH * (n + i)] = register_type(t, a, row_target(t, a, first + i));
         i += 1;
     }
 }

@@ -4,11 +4,15 @@ ghost use lib.ListN.{length};
 ghost use Rattle.language.specs.Table.{decodeFunction};
 ghost use Rattle.language.specs.Translating.{translationFits};
 ghost use Rattle.theorems.specs.Clean.{Clean};
-ghost use Rattle.rules.specs.Prepared.{Sized, Prepared};
+ghost use Rattle.flow.specs.Sized.{Sized};
+ghost use Rattle.flow.specs.Prepared.{Prepared};
 ghost use Rattle.translator.specs.Sizes.{sizesOf};
 ghost use Rattle.translator.specs.Source.{TranslatableAt, Planned};
 use crate::prepared::pairs;
-use crate::prepared::phis;
+use flow::phis;
+use table::MAX_BLOCKS;
+use table::MAX_REGISTERS;
+use table::MAX_ROWS;
 use table::block_count;
 use table::block_rows;
 use table::register_count;
@@ -55,13 +59,13 @@ pub fn fits(t: &[u8], a: usize, m: &[u16]) -> bool
     ensures { λ r. ⌜ r ≡ translationFits (decodeFunction (now (t .entry)) a) ⌝ }
 {
     let s = measure(t, a, m);
-    if 256 < s.registers {
+    if MAX_REGISTERS < s.registers {
         return false;
     }
-    if 64 < s.blocks {
+    if MAX_BLOCKS < s.blocks {
         return false;
     }
-    s.rows <= 1024
+    s.rows <= MAX_ROWS
 }
 
 // The number of the first edge block of each block, were it to have phi.

@@ -2,9 +2,9 @@
 ghost use mathlib.Core.Path.{_≡_};
 ghost use mathlib.Core.List.{[], _∷_};
 ghost use Rattle.language.specs.Answers.{zeros};
-ghost use Rattle.language.specs.Table.{cells, decodeFunction};
+ghost use Rattle.language.specs.Table.{cells, decodeFunction, tableLength};
 ghost use Rattle.language.specs.Translating.{translation};
-ghost use Rattle.rules.specs.Prepared.{Prepared};
+ghost use Rattle.flow.specs.Prepared.{Prepared};
 ghost use Rattle.translator.specs.Source.{TranslatableAt};
 use crate::edges::put_all_edges;
 use crate::kept::keep_blocks;
@@ -18,7 +18,7 @@ use crate::sizes::plan_edges;
 pub fn translate_into(t: &[u8], a: usize, m: &[u16], out: &mut [u8])
     requires { ⌜ TranslatableAt (now t) a ⌝ }
     requires { ⌜ Prepared (decodeFunction (now t) a) (now m) ⌝ }
-    requires { ⌜ now out ≡ zeros 555153 ⌝ }
+    requires { ⌜ now out ≡ zeros tableLength ⌝ }
     ensures { λ _. ⌜ now (out .exit) ≡ cells (translation (decodeFunction (now (t .entry)) a) ∷ []) ⌝ }
 {
     let mut plan = [0u16; 64];

@@ -1,11 +1,12 @@
--- `arithmetic::binary`: each number by its own equation, any other is `cmp.lteq`.
+-- `arithmetic::binary`: each number by its own equation, any other gives 0.
 use mathlib.Core.Path.{sym, ap, _∙_}
 use mathlib.Core.Bool.{Bool, not}
 use Prim.Native.Nat.{ℕ}
 use borrow.Author.Needs.{needs}
 use Rattle.language.specs.Arithmetic.{Computed, meaning, truth, binaryOf}
+use Rattle.language.specs.Instructions.{ariDivOp, ariRemOp, ariSubOp, cmpEqOp, cmpGtOp, cmpGteqOp, cmpLtOp, cmpLteqOp, cmpNeqOp}
 use Rattle.arithmetic.proofs.Meanings.{same-meaning, least-or-less}
-use Rattle.arithmetic.proofs.Numbers.{second-at, second-else, binary-else}
+use Rattle.arithmetic.proofs.Numbers.{second-at, binary-else}
 use Rattle.arithmetic.proofs.binary.Statement.{statement}
 use Rattle.arithmetic.proofs.binary.Tie as tie
 
@@ -15,23 +16,23 @@ binary-spec =
     tie.close
     (tie.spec
     (λ c κs. search needs)
-    (λ c κs. second-at (c .before .args .t) (c .before .args .b) 10 (c .match .keys2) (c .before .pre .1))
+    (λ c κs. second-at (c .before .args .t) (c .before .args .b) ariSubOp (c .match .keys2) (c .before .pre .1))
     (λ c κs. search needs)
-    (λ c κs. (c .before .pre .0, second-at (c .before .args .t) (c .before .args .b) 12 (c .match .keys4) (c .before .pre .1)))
-    (λ c κs. (c .before .pre .0, second-at (c .before .args .t) (c .before .args .b) 13 (c .match .keys5) (c .before .pre .1)))
-    (λ c κs. search needs)
-    (λ c κs. search needs)
+    (λ c κs. (c .before .pre .0, second-at (c .before .args .t) (c .before .args .b) ariDivOp (c .match .keys4) (c .before .pre .1)))
+    (λ c κs. (c .before .pre .0, second-at (c .before .args .t) (c .before .args .b) ariRemOp (c .match .keys5) (c .before .pre .1)))
     (λ c κs. search needs)
     (λ c κs. search needs)
     (λ c κs. search needs)
     (λ c κs. search needs)
-    (λ c κs. (second-at (c .before .args .t) (c .before .args .b) 25 (c .match .keys15) (c .before .pre .1), c .before .pre .0))
     (λ c κs. search needs)
-    (λ c κs. (c .before .pre .0, second-at (c .before .args .t) (c .before .args .b) 26 (c .match .keys16) (c .before .pre .1)))
     (λ c κs. search needs)
-    (λ c κs. (c .before .pre .0, second-at (c .before .args .t) (c .before .args .b) 27 (c .match .keys17) (c .before .pre .1)))
+    (λ c κs. (second-at (c .before .args .t) (c .before .args .b) cmpGtOp (c .match .keys15) (c .before .pre .1), c .before .pre .0))
     (λ c κs. search needs)
-    (λ c κs. let s = c .before .args in (rw (second-else (s .op) (s .t) (c .match .rest)) at (c .before .pre .1), c .before .pre .0))
+    (λ c κs. (c .before .pre .0, second-at (c .before .args .t) (c .before .args .b) cmpLtOp (c .match .keys16) (c .before .pre .1)))
+    (λ c κs. search needs)
+    (λ c κs. (c .before .pre .0, second-at (c .before .args .t) (c .before .args .b) cmpGteqOp (c .match .keys17) (c .before .pre .1)))
+    (λ c κs. search needs)
+    (λ c κs. (second-at (c .before .args .t) (c .before .args .b) cmpLteqOp (c .match .keys18) (c .before .pre .1), c .before .pre .0))
     (λ c κs. search needs)
     (λ c. ap Computed.value (c .add .ensures) ∙ ap (λ (n : ℕ). binaryOf n (c .before .before .args .t) (c .before .before .args .a) (c .before .before .args .b)) (sym (c .before .match .keys1)))
     (λ c. ap Computed.value (c .sub .ensures) ∙ ap (λ (n : ℕ). binaryOf n (c .before .before .args .t) (c .before .before .args .a) (c .before .before .args .b)) (sym (c .before .match .keys2)))
@@ -48,12 +49,12 @@ binary-spec =
     (λ c.
     let s = c .before .before .args in
     ap Computed.value (c .truth .ensures)
-    ∙ ap (λ (x : Bool). Computed.value (truth x)) (sym (same-meaning (s .t) (s .a) (s .b) (c .before .before .pre .0) (second-at (c .before .before .args .t) (c .before .before .args .b) 23 (c .before .match .keys13) (c .before .before .pre .1))))
+    ∙ ap (λ (x : Bool). Computed.value (truth x)) (sym (same-meaning (s .t) (s .a) (s .b) (c .before .before .pre .0) (second-at (c .before .before .args .t) (c .before .before .args .b) cmpEqOp (c .before .match .keys13) (c .before .before .pre .1))))
     ∙ ap (λ (n : ℕ). binaryOf n (c .before .before .args .t) (c .before .before .args .a) (c .before .before .args .b)) (sym (c .before .match .keys13)))
     (λ c.
     let s = c .before .before .args in
     ap Computed.value (c .truth2 .ensures)
-    ∙ ap (λ (x : Bool). Computed.value (truth (not x))) (sym (same-meaning (s .t) (s .a) (s .b) (c .before .before .pre .0) (second-at (c .before .before .args .t) (c .before .before .args .b) 24 (c .before .match .keys14) (c .before .before .pre .1))))
+    ∙ ap (λ (x : Bool). Computed.value (truth (not x))) (sym (same-meaning (s .t) (s .a) (s .b) (c .before .before .pre .0) (second-at (c .before .before .args .t) (c .before .before .args .b) cmpNeqOp (c .before .match .keys14) (c .before .before .pre .1))))
     ∙ ap (λ (n : ℕ). binaryOf n (c .before .before .args .t) (c .before .before .args .a) (c .before .before .args .b)) (sym (c .before .match .keys14)))
     (λ c.
     let s = c .before .before .before .args in
@@ -72,4 +73,5 @@ binary-spec =
     let s = c .before .before .before .args in
     ap Computed.value (c .truth6 .ensures) ∙ ap (λ (x : Bool). Computed.value (truth (not x))) (c .before .less4 .ensures)
     ∙ ap (λ (x : Bool). Computed.value (truth x)) (sym (least-or-less (meaning (s .t) (s .a)) (meaning (s .t) (s .b))))
-    ∙ sym (binary-else (s .op) (s .t) (c .before .before .match .rest) (s .a) (s .b))))
+    ∙ ap (λ (n : ℕ). binaryOf n (c .before .before .before .args .t) (c .before .before .before .args .a) (c .before .before .before .args .b)) (sym (c .before .before .match .keys18)))
+    (λ c. let s = c .before .args in sym (binary-else (s .op) (s .t) (c .match .rest) (s .a) (s .b))))

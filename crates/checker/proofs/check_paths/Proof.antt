@@ -1,7 +1,7 @@
 -- Not marked ssa, a row that breaks 17, or none.
-use mathlib.Core.Path.{sym, _∙_}
+use mathlib.Core.Path.{ap, _∙_}
 use native.Mathlib.Omega.{arith}
-use borrow.Author.Needs.{needs}
+use Rattle.language.specs.Checking.{Verdict}
 use Rattle.checker.proofs.Late.{is-ssa, not-ssa, nowhere, somewhere}
 use Rattle.checker.proofs.check_paths.Statement.{statement}
 use Rattle.checker.proofs.check_paths.Tie as tie
@@ -15,11 +15,10 @@ check-paths-spec =
     (λ c κs.
     let s = c .before .before .before .before in
     (s .pre .0 .0, (s .pre .0 .1, s .pre .1 (is-ssa (s .args .t .now) (s .args .a) (s .args .i) (c .before .function-ssa .ensures) (c .if1 .left)))))
-    (λ c. omega arith)
-    (λ c. omega (arith, c .before .before .before .before .before .before .pre .0 .0 .rows))
+    (λ c κs. let s = c .before .before .before .before .before .before in (s .pre .0 .2, omega (arith, s .pre .0 .0 .rows)))
     (λ c.
-    let s = c .before .before .before .before .before .before in
-    somewhere (s .args .t .now) (s .args .a) (s .args .i) (c .before .first-late .ensures) (s .pre .0 .3) (c .if2 .taken))
+    let s = c .before .before .before .before .before .before .before in
+    ap (Verdict.refused 17) (c .row-place .ensures) ∙ somewhere (s .args .t .now) (s .args .a) (s .args .i) (c .before .before .first-late .ensures) (s .pre .0 .3) (c .before .if2 .taken))
     (λ c.
     let s = c .before .before .before .before .before .before in
     nowhere (s .args .t .now) (s .args .a) (s .args .i) (c .before .first-late .ensures) (s .pre .0 .3) (c .if2 .left)))

@@ -6,13 +6,14 @@ use native.Mathlib.Omega.{arith}
 use borrow.Author.Needs.{needs}
 use lib.ListN.{length, length-replicate}
 use Rattle.language.specs.Answers.{checkAnswer}
-use Rattle.checker.specs.Verdicts.{verdictOf}
+use Rattle.flow.specs.Layout.{flowLength}
+use Rattle.answers.specs.Cases.{verdictOf}
 use Rattle.checker.proofs.Order.{judgedFrom, other-length, too-many, start, goes-on, ends, all-judged}
 use Rattle.checker.proofs.check_table.Statement.{statement}
 use Rattle.checker.proofs.check_table.Tie as tie
 
 abbrev Inv-loop : tie.InvT-loop
-Inv-loop t n classes m₀ i₀ m i = (i ≤ n) × (length m ≡ 768) × (checkAnswer t ≡ judgedFrom t i)
+Inv-loop t n classes m₀ i₀ m i = (i ≤ n) × (length m ≡ flowLength) × (checkAnswer t ≡ judgedFrom t i)
 
 abbrev μ-loop : tie.MeasureT-loop
 μ-loop t n classes m₀ i₀ m i = n - i
@@ -27,7 +28,7 @@ check-table-spec =
     (λ c κs. omega arith)
     (λ c. too-many (c .before .before .before .before .args .t .now) (c .before .before .if1 .left) (omega arith))
     (λ c κs. search needs)
-    (λ c. (omega arith, length-replicate {A = ℕ} 768 0, start (c .before .before .before .before .before .args .t .now) (c .before .before .before .if1 .left) (omega arith)))
+    (λ c. (omega arith, length-replicate {A = ℕ} flowLength 0, start (c .before .before .before .before .before .args .t .now) (c .before .before .before .if1 .left) (omega arith)))
     (λ c. sym (c .before .before .before .loop .inv .1))
     (λ c κs. (c .before .before .before .before .before .before .before .if1 .left, omega arith, c .before .before .before .before .classes .ensures, c .before .before .before .loop .inv .1))
     (λ c. search needs)

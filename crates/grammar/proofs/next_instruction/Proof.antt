@@ -1,7 +1,6 @@
 -- `grammar::next_instruction`: the brace, or an instruction.
 use mathlib.Core.Path.{_≡_, refl, sym, _∙_}
 use mathlib.Core.Bool.{Bool, true, false, cond, true≢false}
-use Prim.Native.Nat.{ℕ}
 use lib.Dec.{eqb}
 use borrow.Author.Needs.{needs}
 use Rattle.language.specs.Grammar.{Move as Moveᴸ, Act as Actᴸ, Stage as Stageᴸ, to, gram}

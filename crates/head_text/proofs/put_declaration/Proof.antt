@@ -5,7 +5,7 @@ use Rattle.language.specs.MadeNames.{namedFunction}
 use Rattle.language.specs.Table.{decodeFunction}
 use Rattle.page.specs.Page.{puts}
 use Rattle.token_text.proofs.Spelled.{puts-then}
-use Rattle.head_text.proofs.Heads.{register-parts}
+use Rattle.head_text.proofs.LibLaws.{register-parts}
 use Rattle.head_text.proofs.put_declaration.Statement.{statement}
 use Rattle.head_text.proofs.put_declaration.Tie as tie
 

@@ -3,7 +3,7 @@ use mathlib.Core.Path.{ap, _∙_}
 use borrow.Author.Needs.{needs}
 use Rattle.page.specs.Page.{puts}
 use Rattle.token_text.proofs.Spelled.{puts-then}
-use Rattle.head_text.proofs.Heads.{head-by-cells}
+use Rattle.head_text.proofs.LibLaws.{head-by-cells}
 use Rattle.head_text.proofs.put_head.Statement.{statement}
 use Rattle.head_text.proofs.put_head.Tie as tie
 

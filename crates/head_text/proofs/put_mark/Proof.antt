@@ -2,7 +2,7 @@
 use mathlib.Core.Path.{ap, _∙_}
 use borrow.Author.Needs.{needs}
 use Rattle.page.specs.Page.{puts}
-use Rattle.head_text.proofs.Heads.{mark-there, mark-none}
+use Rattle.head_text.proofs.LibLaws.{mark-there, mark-none}
 use Rattle.head_text.proofs.put_mark.Statement.{statement}
 use Rattle.head_text.proofs.put_mark.Tie as tie
 

@@ -6,7 +6,7 @@ use Rattle.language.specs.MadeNames.{namedFunction}
 use Rattle.language.specs.Table.{decodeFunction}
 use Rattle.page.specs.Page.{puts}
 use Rattle.token_text.proofs.Spelled.{puts-then}
-use Rattle.head_text.proofs.Heads.{parameter-first, parameter-later}
+use Rattle.head_text.proofs.LibLaws.{parameter-first, parameter-later}
 use Rattle.head_text.proofs.put_parameter.Statement.{statement}
 use Rattle.head_text.proofs.put_parameter.Tie as tie
 

@@ -8,13 +8,13 @@ use Rattle.laws.specs.Lists.{gather, below}
 use Rattle.laws.proofs.ByNumber.{gather-below-more}
 use Rattle.language.specs.MadeNames.{namedFunction}
 use Rattle.language.specs.Table.{functionParams, registerCount, decodeFunction}
-use Rattle.theorems.proofs.TableView.{register-count}
+use Rattle.language.proofs.TableView.{register-count}
 use Rattle.naming.proofs.Filled.{filled-registers}
 use Rattle.page.specs.Page.{Page, page, puts}
 use Rattle.page.proofs.Pages.{puts-length}
 use Rattle.token_text.proofs.Spelled.{puts-then}
 use Rattle.head_text.specs.Heads.{parameterBytes}
-use Rattle.head_text.proofs.Heads.{parameters-are}
+use Rattle.head_text.proofs.LibLaws.{parameters-are}
 use Rattle.head_text.proofs.put_parameters.Statement.{statement}
 use Rattle.head_text.proofs.put_parameters.Tie as tie
 

@@ -5,7 +5,7 @@ use borrow.Author.Needs.{needs}
 use Rattle.language.specs.Instructions.{typeCount}
 use Rattle.page.specs.Page.{puts}
 use Rattle.token_text.proofs.Spelled.{puts-then}
-use Rattle.head_text.proofs.Heads.{typed-parts}
+use Rattle.head_text.proofs.LibLaws.{typed-parts}
 use Rattle.head_text.proofs.put_typed.Statement.{statement}
 use Rattle.head_text.proofs.put_typed.Tie as tie
 

@@ -1,5 +1,5 @@
 -- `read`: a longer output, too long a text, a shorter output, a program, a refusal: each return is the definition's answer, with every cell.
-use mathlib.Core.Path.{ap, sym, _∙_}
+use mathlib.Core.Path.{ap, _∙_}
 use Prim.Native.Nat.{ℕ, _<_}
 use native.Mathlib.Omega.{arith}
 use lib.ListN.{length}
@@ -7,6 +7,7 @@ use borrow.Author.Needs.{needs}
 use borrow.Fn.Kinds.{In}
 use borrow.Fn.PlainCycle.{Measures, is, falls, and}
 use Rattle.language.specs.Answers.{zeros, readAnswer}
+use Rattle.language.specs.Table.{tableLength}
 use Rattle.ial.proofs.ReadLaws.{last-length, last-shorter, last-put-length, read-long, read-shorter, read-longer, read-program, read-refused}
 use Rattle.ial.proofs.read.Reads as read
 use Rattle.ial.proofs.read.Kinds as read-kinds
@@ -47,17 +48,17 @@ pub +read-spec : {M : Type 1} → statement M
     (λ c. search needs)
     (λ c. search needs)
     (λ c. search needs)
-    (λ c κs. (last-shorter 555153 t (c .before .before .before .before .args .out .now) (c .before .if1 .taken) (c .before .before .before .before .pre .0), tt))
+    (λ c κs. (last-shorter tableLength t (c .before .before .before .before .args .out .now) (c .before .if1 .taken) (c .before .before .before .before .pre .0), tt))
     (λ c κs. tt)
     (λ c κs. tt)
     (λ c.
     let r = c .before .before .before .before .before .before .before .read in
-    c .before .before .before .zero .kept .0 ∙ last-put-length 555153 (c .before .before .before .before .before .before .before .before .before .before .before .before .args .out .now) (r .last .1 .0) (r .kept .1 .0))
+    c .before .before .before .zero .kept .0 ∙ last-put-length tableLength (c .before .before .before .before .before .before .before .before .before .before .before .before .args .out .now) (r .last .1 .0) (r .kept .1 .0))
     (λ c.
     let s = c .before .before .before .before .before .before .before .before .before .before .before .before in
     let r = c .before .before .before .before .before .before .before .read in
     let long = c .before .before .before .before .before .before .before .before .before .if1 .taken in
-    read-longer (s .args .text .now) (length (s .args .out .now)) (r .result) (c .other-length .result) (r .ensures ∙ ap (readAnswer (s .args .text .now)) (last-length 555153 (s .args .out .now) long)) (c .other-length .ensures) long (c .before .before .before .zero .ensures ∙ ap zeros (last-put-length 555153 (s .args .out .now) (r .last .1 .0) (r .kept .1 .0))))
+    read-longer (s .args .text .now) (length (s .args .out .now)) (r .result) (c .other-length .result) (r .ensures ∙ ap (readAnswer (s .args .text .now)) (last-length tableLength (s .args .out .now) long)) (c .other-length .ensures) long (c .before .before .before .zero .ensures ∙ ap zeros (last-put-length tableLength (s .args .out .now) (r .last .1 .0) (r .kept .1 .0))))
     (λ c κs. tt)
     (λ c. search needs)
     (λ c.

@@ -1,8 +1,8 @@
 -- `other_length`: each case is the definition's.
 use mathlib.Core.Path.{sym, ap}
 use borrow.Author.Needs.{needs}
-use Rattle.checker.specs.declared.Verdict.{Verdict}
-use Rattle.checker.specs.Verdicts.{verdictOf}
+use Rattle.answers.specs.declared.Verdict.{Verdict}
+use Rattle.answers.specs.Cases.{verdictOf}
 use Rattle.ial.specs.Verdicts.{otherLength}
 use Rattle.ial.proofs.other_length.Statement.{statement}
 use Rattle.ial.proofs.other_length.Tie as tie

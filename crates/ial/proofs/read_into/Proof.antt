@@ -4,10 +4,11 @@ use Prim.Native.Nat.{ℕ}
 use lib.ListN.{length, length-replicate}
 use borrow.Author.Needs.{needs}
 use Rattle.numbers.proofs.Zeros.{length-zeros}
-use Rattle.reader.specs.Parse.{Lent}
+use Rattle.reader.specs.State.{scratchLength}
 use Rattle.ial.proofs.ReadLaws.{into-refused, into-read}
 use Rattle.ial.proofs.read_into.Statement.{statement}
 use Rattle.ial.proofs.read_into.Tie as tie
+use Rattle.language.specs.Table.{tableLength}
 
 pub read-into-spec : {M : Type 1} → statement M
 read-into-spec =
@@ -19,8 +20,8 @@ read-into-spec =
     let pre = c .before .before .before .before .before .pre in (
       record {
         size = pre .0;
-        table = ap length (pre .1) ∙ length-zeros 555153;
-        pending = length-replicate {A = ℕ} 141312 0;
+        table = ap length (pre .1) ∙ length-zeros tableLength;
+        pending = length-replicate {A = ℕ} scratchLength 0;
         blocks = length-replicate {A = ℕ} 2048 0;
       },
       pre .1,

@@ -1,12 +1,12 @@
 -- `instructions::shape_of`: a single number by its own equation, a range by the law of its form.
-use Rattle.instructions.proofs.Ranges.{shape-load, shape-binary, shape-unary, shape-unknown}
+use Rattle.instructions.proofs.ShapeLaws.{shape-load, shape-binary, shape-unary, shape-unknown}
 use Rattle.instructions.proofs.shape_of.Statement.{statement}
 use Rattle.instructions.proofs.shape_of.Tie as tie
 use Rattle.instructions.specs.Shapes.{shapeOf}
 use Rattle.language.specs.Instructions.{formOf}
 use borrow.Author.Needs.{needs}
 use mathlib.Core.Logic.{⊎-elim}
-use mathlib.Core.Path.{_≡_, _∙_, sym, ap}
+use mathlib.Core.Path.{_∙_, sym, ap}
 use native.Mathlib.Omega.{arith}
 
 pub shape-of-spec : {M : Type 1} → statement M

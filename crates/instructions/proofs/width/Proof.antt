@@ -2,7 +2,7 @@
 use borrow.Author.Needs.{needs}
 use borrow.Author.Tests.{le-ltb}
 use Rattle.language.specs.Instructions.{width}
-use Rattle.instructions.proofs.Ranges.{width-small}
+use Rattle.instructions.proofs.ShapeLaws.{width-small}
 use Rattle.instructions.proofs.width.Statement.{statement}
 use Rattle.instructions.proofs.width.Tie as tie
 

@@ -5,33 +5,33 @@ use Prim.Native.Nat.{ℕ}
 use lib.ListN.{length-replicate}
 use borrow.Author.Tests.{not-true, not-false}
 use Rattle.laws.proofs.Cells.{sets-all}
-use Rattle.joining.proofs.Begun.{all-zero}
+use Rattle.language.proofs.TableLaws.{zeros-made}
 use Rattle.joining.proofs.Ends.{kept-not, kept-all}
 use Rattle.joining.proofs.join.Statement.{statement}
 use Rattle.joining.proofs.join.Tie as tie
 
-fill-requires : tie.Need-fill-requires
-fill-requires c κs = let start = c .before .before .before .before in (start .pre .0, start .pre .1, all-zero 40968)
+join-into-requires : tie.Need-join-into-requires
+join-into-requires c κs = let start = c .before .before .before .before in (start .pre .0, start .pre .1, zeros-made 40968)
 
 returns : tie.Need-returns
 returns c =
     let args = c .before .before .before .before .before .before .before .args in
-    kept-not (args .s .now) (args .u .now) (c .before .before .fill .ensures) (not-true _ (c .if1 .taken))
+    kept-not (args .s .now) (args .u .now) (c .before .before .join-into .ensures) (not-true _ (c .if1 .taken))
 
 returns-2 : tie.Need-returns-2
 returns-2 c =
     let at = c .before .before .before .before .before .before .before in
     let start = at .before .before .before .before .before in
     let s = start .args .s .now in
-    let whole = at .fill .kept .1 .1 .0 ∙ length-replicate {A = ℕ} 40968 0 ∙ sym (start .pre .0) in
-    kept-all s (start .args .u .now) (at .fill .ensures) (not-false _ (c .before .before .before .before .before .if1 .left)) (c .before .before .put-bytes .ensures ∙ sets-all s _ whole)
+    let whole = at .join-into .kept .1 .1 .0 ∙ length-replicate {A = ℕ} 40968 0 ∙ sym (start .pre .0) in
+    kept-all s (start .args .u .now) (at .join-into .ensures) (not-false _ (c .before .before .before .before .before .if1 .left)) (c .before .before .put-bytes .ensures ∙ sets-all s _ whole)
 
 pub join-spec : {M : Type 1} → statement M
 join-spec =
     tie.close
     (tie.spec
     (λ c. search needs)
-    fill-requires
+    join-into-requires
     (λ c. search needs)
     returns
     (λ c. search needs)

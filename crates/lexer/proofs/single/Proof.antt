@@ -3,7 +3,6 @@ use Rattle.laws.proofs.Branches.{branches}
 use Rattle.lexer.proofs.single.Statement.{statement}
 use Rattle.lexer.proofs.single.Tie as tie
 use Rattle.lexer.specs.Advancing.{singleAt}
-use borrow.Author.Needs.{needs}
 
 pub single-spec : {M : Type 1} → statement M
 unfolding singleAt

@@ -1,17 +1,16 @@
 -- The loop's invariant: the lines of the functions passed are written, and each has at most 149 bytes.
-use Prim.Native.Nat.{ℕ, _+_, _-_, _*_, _≤_, _<_}
-use mathlib.Core.Path.{_≡_, refl, sym, ap, _∙_, subst}
+use Prim.Native.Nat.{ℕ, _-_, _*_, _≤_}
+use mathlib.Core.Path.{_≡_, sym, _∙_, subst}
 use mathlib.Core.List.{List}
 use native.Mathlib.Omega.{arith}
-use borrow.Author.Needs.{needs}
-use lib.ListN.{length}
 use Rattle.language.specs.Checking.{Verdict, check}
 use Rattle.language.specs.Listing.{listingOf}
-use Rattle.language.specs.Table.{functionCount, functionAt, decodeFunction, decode}
-use Rattle.theorems.specs.TableLaw.{FunctionFits}
+use Rattle.language.specs.Table.{functionCount, decode}
+use Rattle.language.proofs.TableView.{function-count}
+use Rattle.theorems.proofs.TableSound.{accepted-fits}
 use Rattle.decimal.specs.Writing.{Written}
 use Rattle.decimal.proofs.Writings.{written-then, written-none, written-length}
-use Rattle.listing.proofs.Lines.{linesOf, lines-more, few-functions, function-fits}
+use Rattle.listing.proofs.Lines.{linesOf, lines-more, function-fits}
 use Rattle.listing.proofs.list_program.Statement.{statement}
 use Rattle.listing.proofs.list_program.Tie as tie
 
@@ -26,33 +25,31 @@ unfolding linesOf listingOf
 loop-holds c = (omega arith, omega arith, written-none (c .before .before .before .args .out .now) 0)
 
 few : (t : List ℕ) {n : ℕ} → n ≡ functionCount t → check (decode t) ≡ Verdict.accepted → n ≤ 16
-few t e h = rw e (few-functions t h)
+few t e h = omega (arith, e, function-count t, accepted-fits (decode t) h .functionCount)
 
-mul-put-line : tie.Need-mul-put-line Inv-loop μ-loop
-mul-put-line c = omega (arith, few (c .before .before .before .before .before .args .t .now) (c .before .before .function-count .ensures .0) (c .before .before .before .before .before .pre .1))
-
-add-put-line : tie.Need-add-put-line Inv-loop μ-loop
-add-put-line c = omega (arith, few (c .before .before .before .before .before .args .t .now) (c .before .before .function-count .ensures .0) (c .before .before .before .before .before .pre .1))
+function-at-requires : tie.Need-function-at-requires Inv-loop μ-loop
+function-at-requires c κs = omega (arith, few (c .before .before .before .before .before .args .t .now) (c .before .before .function-count .ensures .0) (c .before .before .before .before .before .pre .1))
 
 put-line-requires : tie.Need-put-line-requires Inv-loop μ-loop
 put-line-requires c κs =
-    let at = c .before .before in
+    let at = c .before .before .before in
     let start = at .before .before .before .before in
     let count = at .before .function-count .ensures .0 in
     let low = few (start .args .t .now) count (start .pre .1) in (
-      omega (arith, low, start .pre .0),
-      function-fits (start .args .t .now) (start .pre .1) (at .loop .i) (rw (sym count) (c .before .loop-test .taken)),
+      omega (arith, low, start .pre .0, c .before .function-at .ensures),
+      rw (c .before .function-at .ensures) (function-fits (start .args .t .now) (start .pre .1) (at .loop .i) (rw (sym count) (c .before .before .loop-test .taken))),
       omega (arith, low, start .pre .2, at .loop .inv .1, written-length (at .loop .inv .2)),
     )
 
 loop-again : tie.Need-loop-again Inv-loop μ-loop
 loop-again c =
-    let at = c .before .before .before .before .before in
+    let at = c .before .before .before .before .before .before in
     let start = at .before .before .before .before in
-    let line = c .before .before .put-line .ensures in (
+    let line = c .before .before .put-line .ensures in
+    let here = rw (c .before .before .before .before .function-at .ensures) at (line .0) in (
       omega arith,
       omega (arith, line .1, at .loop .inv .1),
-      rw (lines-more (start .args .t .now) (at .loop .i)) (written-then (at .loop .inv .2) (line .0)),
+      rw (lines-more (start .args .t .now) (at .loop .i)) (written-then (at .loop .inv .2) here),
     )
 
 same-length : tie.Need-same-length Inv-loop μ-loop
@@ -78,8 +75,7 @@ list-program-spec =
     μ-loop
     (λ c κs. omega arith)
     loop-holds
-    mul-put-line
-    add-put-line
+    function-at-requires
     put-line-requires
     (λ c. omega arith)
     (λ c. omega arith)

@@ -1,12 +1,7 @@
 -- `listing::put_line`: the name, the ssa mark, the sizes.
-use Prim.Native.Nat.{_+_, _≤_}
-use mathlib.Core.Path.{_≡_, refl, sym, ap, _∙_}
 use native.Mathlib.Omega.{arith}
 use borrow.Author.Needs.{needs}
-use lib.ListN.{length}
-use lib.Seq.{length-sets}
-use Rattle.decimal.specs.Writing.{Written}
-use Rattle.decimal.proofs.Writings.{written-then, written-bytes, written-length}
+use Rattle.decimal.proofs.Writings.{written-bytes, written-length}
 use Rattle.listing.proofs.Lines.{line-written, name-short}
 use Rattle.listing.proofs.put_line.Statement.{statement}
 use Rattle.listing.proofs.put_line.Tie as tie
@@ -16,8 +11,8 @@ put-bytes-requires c κs =
     let start = c .before .before .before .before in
     omega (arith, start .pre .2, name-short (start .args .t .now) (start .args .a) (start .pre .1) (c .before .function-name .ensures))
 
-put-number-requires : tie.Need-put-number-requires
-put-number-requires c κs =
+put-field-requires : tie.Need-put-field-requires
+put-field-requires c κs =
     let name = c .before .before .before .before .before .before in
     let start = name .before .before .before in
     let short = name-short (start .args .t .now) (start .args .a) (start .pre .1) (name .function-name .ensures) in
@@ -30,7 +25,7 @@ put-sizes-requires c κs =
     let start = name .before .before .before in
     let short = name-short (start .args .t .now) (start .args .a) (start .pre .1) (name .function-name .ensures) in
     let written = written-bytes (start .args .at) (name .function-name .result .now) (number .before .before .before .before .before .put-bytes .ensures) in
-    (start .pre .0, start .pre .1, omega (arith, start .pre .2, short, number .put-number .ensures .1, written-length written, written-length (number .put-number .ensures .0)))
+    (start .pre .0, start .pre .1, omega (arith, start .pre .2, short, number .put-field .ensures .1, written-length written, written-length (number .put-field .ensures .0)))
 
 returns : tie.Need-returns
 returns c =
@@ -39,9 +34,9 @@ returns c =
     let start = name .before .before .before in
     let short = name-short (start .args .t .now) (start .args .a) (start .pre .1) (name .function-name .ensures) in
     let bytes = written-bytes (start .args .at) (name .function-name .result .now) (number .before .before .before .before .before .put-bytes .ensures) in (
-      line-written (start .args .t .now) (start .args .a) (name .function-name .ensures) (number .before .before .function-ssa .ensures) bytes (number .put-number .ensures .0)
+      line-written (start .args .t .now) (start .args .a) (name .function-name .ensures) (number .before .before .function-ssa .ensures) bytes (number .put-field .ensures .0)
           (c .before .before .put-sizes .ensures .0),
-      omega (arith, short, number .put-number .ensures .1, c .before .before .put-sizes .ensures .1),
+      omega (arith, short, number .put-field .ensures .1, c .before .before .put-sizes .ensures .1),
     )
 
 pub put-line-spec : {M : Type 1} → statement M
@@ -53,7 +48,7 @@ put-line-spec =
     (λ c κs. search needs)
     (λ c. search needs)
     (λ c. search needs)
-    put-number-requires
+    put-field-requires
     put-sizes-requires
     (λ c. search needs)
     returns)

@@ -5,7 +5,7 @@ use borrow.Author.Needs.{needs}
 use borrow.Author.Tests.{not-true, not-false}
 use Rattle.laws.proofs.OneMore.{range-more}
 use Rattle.stored.specs.Known.{Follows, AllFollow}
-use Rattle.stored.proofs.Known.{told, told-not}
+use Rattle.stored.proofs.LibLaws.{told, told-not}
 use Rattle.stored.proofs.all_follow.Statement.{statement}
 use Rattle.stored.proofs.all_follow.Tie as tie
 

@@ -4,7 +4,7 @@ use native.Mathlib.Omega.{arith}
 use borrow.Author.Needs.{needs}
 use borrow.Author.Tests.{not-true, not-false}
 use Rattle.records.specs.Records.{Sized}
-use Rattle.stored.proofs.Known.{told, told-not, compared}
+use Rattle.stored.proofs.LibLaws.{told, told-not, compared}
 use Rattle.stored.proofs.follows.Statement.{statement}
 use Rattle.stored.proofs.follows.Tie as tie
 

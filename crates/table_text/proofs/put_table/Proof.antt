@@ -24,30 +24,26 @@ loop-holds : tie.Need-loop-holds Inv-loop μ-loop
 unfolding puts
 loop-holds c = (omega arith, refl)
 
-mul-put-function : tie.Need-mul-put-function Inv-loop μ-loop
-mul-put-function c =
-    let s = c .before .before .before .before .before in
-    omega (arith, c .loop-test .taken, few (s .args .t .now) (s .pre .0) (s .pre .1) (c .before .before .function-count .ensures .0))
-
-add-put-function : tie.Need-add-put-function Inv-loop μ-loop
-add-put-function c =
+function-at-requires : tie.Need-function-at-requires Inv-loop μ-loop
+function-at-requires c κs =
     let s = c .before .before .before .before .before in
     omega (arith, c .loop-test .taken, few (s .args .t .now) (s .pre .0) (s .pre .1) (c .before .before .function-count .ensures .0))
 
 put-function-requires : tie.Need-put-function-requires Inv-loop μ-loop
 put-function-requires c κs =
-    let at-loop = c .before .before in
+    let at-loop = c .before .before .before in
     let s = at-loop .before .before .before .before in
     let t = s .args .t .now in
-    let among : at-loop .loop .i < functionCount t = omega (arith, c .before .loop-test .taken, at-loop .before .function-count .ensures .0) in
-    clean-each t (s .pre .0) (s .pre .1) (at-loop .loop .i) among
+    let among : at-loop .loop .i < functionCount t = omega (arith, c .before .before .loop-test .taken, at-loop .before .function-count .ensures .0) in
+    rw (c .before .function-at .ensures) (clean-each t (s .pre .0) (s .pre .1) (at-loop .loop .i) among)
 
 loop-again : tie.Need-loop-again Inv-loop μ-loop
 loop-again c =
-    let at-loop = c .before .before .before .before .before in
-    let s = at-loop .before .before .before .before in (
+    let at-loop = c .before .before .before .before .before .before in
+    let s = at-loop .before .before .before .before in
+    let text = rw (c .before .before .before .before .function-at .ensures) at (c .before .before .put-function .ensures) in (
       omega arith,
-      puts-then _ _ _ (at-loop .loop .inv .1) (c .before .before .put-function .ensures) ∙ ap (puts _) (sym (gather-below-more (functionText (s .args .t .now)) (at-loop .loop .i))),
+      puts-then _ _ _ (at-loop .loop .inv .1) text ∙ ap (puts _) (sym (gather-below-more (functionText (s .args .t .now)) (at-loop .loop .i))),
     )
 
 same-length : tie.Need-same-length Inv-loop μ-loop
@@ -67,8 +63,7 @@ put-table-spec =
     μ-loop
     (λ c κs. omega arith)
     loop-holds
-    mul-put-function
-    add-put-function
+    function-at-requires
     put-function-requires
     (λ c. omega arith)
     (λ c. omega arith)

@@ -3,13 +3,13 @@ use mathlib.Core.Path.{sym, _∙_}
 use borrow.Author.Needs.{needs}
 use native.Mathlib.Omega.{arith}
 use borrow.Author.Tests.{lt-ltb, le-ltb}
-use Rattle.arithmetic.specs.Results.{rankOf}
+use Rattle.arithmetic.specs.Results.{meaningRank}
 use Rattle.language.proofs.Widths.{powers}
 use Rattle.arithmetic.proofs.signs.rank.Statement.{statement}
 use Rattle.arithmetic.proofs.signs.rank.Tie as tie
 
 pub rank-spec : {M : Type 1} → statement M
-unfolding rankOf
+unfolding meaningRank
 rank-spec =
     tie.close
     (tie.spec

@@ -1,53 +1,45 @@
--- `list_text`: the refusal of reading, or what is printed of the table.
+-- `list_text`: the refusal of the text, or the lines of its program.
+use mathlib.Core.Path.{_∙_}
+use Prim.Native.Nat.{ℕ}
 use native.Mathlib.Omega.{arith}
+use lib.ListN.{length-replicate}
 use borrow.Author.Needs.{needs}
-use Rattle.calling.proofs.Printing.{bytes-from, listing-refused, listing-read}
+use Rattle.language.specs.Table.{tableLength}
+use Rattle.language.specs.Listing.{listingOf}
+use Rattle.theorems.proofs.AcceptanceCheck.{accepted-program}
+use Rattle.calling.proofs.AcceptingLaws.{printed-refused, printed-accepted, listing-line}
 use Rattle.calling.proofs.listings.list_text.Statement.{statement}
 use Rattle.calling.proofs.listings.list_text.Tie as tie
 
-slice-aggregate-read : tie.Need-slice-aggregate-read
-slice-aggregate-read c = search needs
-
-read-requires : tie.Need-read-requires
-read-requires c κs = search needs
-
-enum-known-n : tie.Need-enum-known-n
-enum-known-n c = search needs
-
-list-refusal-requires : tie.Need-list-refusal-requires
-list-refusal-requires c κs = omega arith
-
-enum-told : tie.Need-enum-told
-enum-told c = search needs
-
-slice-aggregate-list-table : tie.Need-slice-aggregate-list-table
-slice-aggregate-list-table c = search needs
-
-list-table-requires : tie.Need-list-table-requires
-list-table-requires c κs = (c .before .before .before .before .t2 .given, c .before .before .before .before .before .before .before .before .before .pre)
-
-same-length : tie.Need-same-length
-same-length c = search needs
+list-program-requires : tie.Need-list-program-requires
+list-program-requires c κs =
+    let a = c .before .before .before .before .before in
+    (c .before .before .before .before .t2 .given, accepted-program _ (a .accept .ensures .passes (c .before .before .enum-told .given .1)), a .before .before .before .before .pre)
 
 returns : tie.Need-returns
 returns c =
-    let k = c .before .before .before .before .before .before .before .before .before .before .before .before in (
-      rw (listing-refused (k .args .text .now) (c .before .before .before .before .before .before .before .before .read .last .1 .0) (c .before .before .before .before .before .before .before .before .read .ensures) (c .before .before .before .before .before .n .given .1)) (c .before .before .list-refusal .ensures .0),
-      omega (arith, c .before .before .list-refusal .ensures .1),
-    )
-
-same-length-2 : tie.Need-same-length-2
-same-length-2 c = search needs
+    let l = c .before .before .list-refusal in
+    let a = c .before .before .before .before .before .before .before .before in
+    (rw (listing-line (a .before .before .before .before .args .text .now) ∙ printed-refused listingOf (a .accept .ensures) (c .before .before .before .before .before .n .given .1)) (l .ensures .0), omega (arith, l .ensures .1))
 
 returns-2 : tie.Need-returns-2
 returns-2 c =
-    let k = c .before .before .before .before .before .before .before .before .before .before .before .before in
-    let bytes = bytes-from (k .args .text .now) (λ i. c .before .before .before .before .before .before .before .before .before .before .before .shared-slice-known .given i .fits) in (
-      rw (listing-read (k .args .text .now) (c .before .before .before .before .before .before .before .before .read .last .1 .0) bytes (c .before .before .before .before .before .before .before .before .read .ensures) (c .before .before .before .before .before .enum-told .given .1)) (c .before .before .list-table .ensures .0),
-      c .before .before .list-table .ensures .1,
-    )
+    let l = c .before .before .list-program in
+    let a = c .before .before .before .before .before .before .before .before in
+    (rw (listing-line (a .before .before .before .before .args .text .now) ∙ printed-accepted listingOf (a .accept .ensures) (c .before .before .before .before .before .enum-told .given .1)) (l .ensures .0), l .ensures .1)
 
 pub list-text-spec : {M : Type 1} → statement M
 list-text-spec =
     tie.close
-    (tie.spec slice-aggregate-read read-requires enum-known-n list-refusal-requires enum-told slice-aggregate-list-table list-table-requires same-length returns same-length-2 returns-2)
+    (tie.spec
+    (λ c. search needs)
+    (λ c κs. length-replicate {A = ℕ} tableLength 0)
+    (λ c. search needs)
+    (λ c κs. omega arith)
+    (λ c. search needs)
+    (λ c. search needs)
+    list-program-requires
+    (λ c. c .before .before .list-refusal .kept .1 .1 .0)
+    returns
+    (λ c. c .before .before .list-program .kept .1 .0)
+    returns-2)

@@ -1,51 +1,51 @@
--- `run_text`: the refusal of reading, or what is printed of the table.
+-- `run_text`: the refusal of the text, or the line of the run.
+use mathlib.Core.List.{List}
+use Prim.Native.Nat.{ℕ}
 use native.Mathlib.Omega.{arith}
+use lib.ListN.{length-replicate}
 use borrow.Author.Needs.{needs}
+use Rattle.language.specs.Programs.{Program}
+use Rattle.language.specs.Table.{tableLength}
 use Rattle.calling.specs.Calls.{givenOf, runLine, runPrinted}
-use Rattle.calling.proofs.Printing.{bytes-from}
-use Rattle.calling.proofs.TextLaws.{text-refused, text-read}
+use Rattle.calling.proofs.AcceptingLaws.{printed-refused, printed-accepted}
 use Rattle.calling.proofs.runs.run_text.Statement.{statement}
 use Rattle.calling.proofs.runs.run_text.Tie as tie
 
-list-refusal-requires : tie.Need-list-refusal-requires
-list-refusal-requires c κs = omega arith
-
-run-table-requires : tie.Need-run-table-requires
-run-table-requires c κs = (c .before .before .before .before .t2 .given, c .before .before .before .before .before .before .before .before .before .before .before .before .pre)
+run-checked-requires : tie.Need-run-checked-requires
+run-checked-requires c κs =
+    let a = c .before .before .before .before .before in
+    (a .accept .ensures .passes (c .before .before .enum-told .given .1), a .before .before .before .before .before .before .before .pre)
 
 returns : tie.Need-returns
 unfolding runPrinted
 returns c =
-    let s = c .before .before .before .before .before .before .before .before .before .before .before .before .before .before .before in
-    let g = givenOf (s .args .count) (s .args .signs .now) (s .args .magnitudes .now) in
-    let r = c .before .before .before .before .before .before .before .before .read in (
-      rw (text-refused (λ p. runLine p (s .args .word .now) g (s .args .budget)) (s .args .text .now) (r .last .1 .0) (r .ensures) (c .before .before .before .before .before .n .given .1)) (c .before .before .list-refusal .ensures .0),
-      omega (arith, c .before .before .list-refusal .ensures .1),
-    )
+    let l = c .before .before .list-refusal in
+    let a = c .before .before .before .before .before .before .before .before in
+    let x = a .before .before .before .before .before .before .before .args in
+    let line : Program → List ℕ = λ p. runLine p (x .word .now) (givenOf (x .count) (x .signs .now) (x .magnitudes .now)) (x .budget) in
+    (rw (printed-refused line (a .accept .ensures) (c .before .before .before .before .before .n .given .1)) (l .ensures .0), omega (arith, l .ensures .1))
 
 returns-2 : tie.Need-returns-2
 unfolding runPrinted
 returns-2 c =
-    let s = c .before .before .before .before .before .before .before .before .before .before .before .before .before .before .before in
-    let g = givenOf (s .args .count) (s .args .signs .now) (s .args .magnitudes .now) in
-    let r = c .before .before .before .before .before .before .before .before .read in
-    let bytes = bytes-from (s .args .text .now) (λ i. c .before .before .before .before .before .before .before .before .before .before .before .before .before .before .shared-slice-known .given i .fits) in (
-      rw (text-read (λ p. runLine p (s .args .word .now) g (s .args .budget)) (s .args .text .now) (r .last .1 .0) (r .ensures) bytes (c .before .before .before .before .before .enum-told .given .1)) (c .before .before .run-table .ensures .0),
-      c .before .before .run-table .ensures .1,
-    )
+    let l = c .before .before .run-checked in
+    let a = c .before .before .before .before .before .before .before .before in
+    let x = a .before .before .before .before .before .before .before .args in
+    let line : Program → List ℕ = λ p. runLine p (x .word .now) (givenOf (x .count) (x .signs .now) (x .magnitudes .now)) (x .budget) in
+    (rw (printed-accepted line (a .accept .ensures) (c .before .before .before .before .before .enum-told .given .1)) (l .ensures .0), l .ensures .1)
 
 pub run-text-spec : {M : Type 1} → statement M
 run-text-spec =
     tie.close
     (tie.spec
     (λ c. search needs)
-    (λ c κs. search needs)
+    (λ c κs. length-replicate {A = ℕ} tableLength 0)
     (λ c. search needs)
-    list-refusal-requires
+    (λ c κs. omega arith)
     (λ c. search needs)
     (λ c. search needs)
-    run-table-requires
-    (λ c. search needs)
+    run-checked-requires
+    (λ c. c .before .before .list-refusal .kept .1 .1 .0)
     returns
-    (λ c. search needs)
+    (λ c. c .before .before .run-checked .kept .1 .1 .1 .1 .1 .1 .0)
     returns-2)

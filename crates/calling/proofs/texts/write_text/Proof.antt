@@ -1,50 +1,44 @@
--- `write_text`: the refusal of reading, or what is printed of the table.
+-- `write_text`: the refusal of the text, or the text of its program.
 use mathlib.Core.Path.{sym, _∙_}
+use Prim.Native.Nat.{ℕ}
 use native.Mathlib.Omega.{arith}
+use lib.ListN.{length-replicate}
 use borrow.Author.Needs.{needs}
+use Rattle.language.specs.Table.{tableLength}
 use Rattle.calling.specs.Calls.{textLine, writePrinted}
-use Rattle.calling.proofs.Printing.{bytes-from}
-use Rattle.calling.proofs.TextLaws.{text-refused, text-read}
+use Rattle.calling.proofs.AcceptingLaws.{printed-refused, printed-accepted}
 use Rattle.calling.proofs.WrittenLaws.{prints-line}
 use Rattle.calling.proofs.texts.write_text.Statement.{statement}
 use Rattle.calling.proofs.texts.write_text.Tie as tie
 
-list-refusal-requires : tie.Need-list-refusal-requires
-list-refusal-requires c κs = omega arith
-
-write-table-requires : tie.Need-write-table-requires
-write-table-requires c κs = (c .before .before .before .before .t2 .given, c .before .before .before .before .before .before .before .before .before .pre)
+write-lines-requires : tie.Need-write-lines-requires
+write-lines-requires c κs =
+    let a = c .before .before .before .before .before in
+    (a .accept .ensures .passes (c .before .before .enum-told .given .1), a .before .before .before .before .pre)
 
 returns : tie.Need-returns
 unfolding writePrinted
 returns c =
     let l = c .before .before .list-refusal in
-    let r = c .before .before .before .before .before .before .before .before in
-    let s = r .before .before .before .before in
-    prints-line (l .ensures .0) (omega (arith, l .ensures .1, s .pre))
-    ∙ sym (text-refused textLine (s .args .text .now) (r .read .last .1 .0) (r .read .ensures) (c .before .before .before .before .before .n .given .1))
+    let a = c .before .before .before .before .before .before .before .before in
+    prints-line (l .ensures .0) (omega (arith, l .ensures .1, a .before .before .before .before .pre)) ∙ sym (printed-refused textLine (a .accept .ensures) (c .before .before .before .before .before .n .given .1))
 
 returns-2 : tie.Need-returns-2
 unfolding writePrinted
-returns-2 c =
-    let r = c .before .before .before .before .before .before .before .before in
-    let s = r .before .before .before .before in
-    let bytes = bytes-from (s .args .text .now) (λ i. r .before .before .before .shared-slice-known .given i .fits) in
-    c .before .before .write-table .ensures
-    ∙ sym (text-read textLine (s .args .text .now) (r .read .last .1 .0) (r .read .ensures) bytes (c .before .before .before .before .before .enum-told .given .1))
+returns-2 c = c .before .before .write-lines .ensures ∙ sym (printed-accepted textLine (c .before .before .before .before .before .before .before .before .accept .ensures) (c .before .before .before .before .before .enum-told .given .1))
 
 pub write-text-spec : {M : Type 1} → statement M
 write-text-spec =
     tie.close
     (tie.spec
     (λ c. search needs)
-    (λ c κs. search needs)
+    (λ c κs. length-replicate {A = ℕ} tableLength 0)
     (λ c. search needs)
-    list-refusal-requires
+    (λ c κs. omega arith)
     (λ c. search needs)
     (λ c. search needs)
-    write-table-requires
-    (λ c. search needs)
+    write-lines-requires
+    (λ c. c .before .before .list-refusal .kept .1 .1 .0)
     returns
-    (λ c. search needs)
+    (λ c. c .before .before .write-lines .kept .1 .0)
     returns-2)

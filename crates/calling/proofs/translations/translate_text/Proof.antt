@@ -1,50 +1,54 @@
--- `translate_text`: the refusal of reading, or what is printed of the table.
+-- `translate_text`: the refusal of the text, or the translation of the function that the word means.
 use mathlib.Core.Path.{sym, _∙_}
+use Prim.Native.Nat.{ℕ}
 use native.Mathlib.Omega.{arith}
+use lib.ListN.{length-replicate}
 use borrow.Author.Needs.{needs}
+use Rattle.language.specs.Table.{tableLength}
 use Rattle.calling.specs.Calls.{translateLine, translatePrinted}
-use Rattle.calling.proofs.Printing.{bytes-from}
-use Rattle.calling.proofs.TextLaws.{text-refused, text-read}
+use Rattle.calling.proofs.AcceptingLaws.{printed-refused, printed-accepted}
 use Rattle.calling.proofs.WrittenLaws.{prints-line}
 use Rattle.calling.proofs.translations.translate_text.Statement.{statement}
 use Rattle.calling.proofs.translations.translate_text.Tie as tie
 
-list-refusal-requires : tie.Need-list-refusal-requires
-list-refusal-requires c κs = omega arith
+function-number-requires : tie.Need-function-number-requires
+function-number-requires c κs = c .before .before .before .before .before .accept .ensures .passes (c .before .before .enum-told .given .1)
 
-translate-table-requires : tie.Need-translate-table-requires
-translate-table-requires c κs = (c .before .before .before .before .t2 .given, c .before .before .before .before .before .before .before .before .before .before .pre)
+translate-function-requires : tie.Need-translate-function-requires
+translate-function-requires c κs =
+    let a = c .before .before .before .before .before .before .before in
+    (a .accept .ensures .passes (c .before .before .before .before .enum-told .given .1), a .before .before .before .before .before .pre)
 
 returns : tie.Need-returns
 unfolding translatePrinted
 returns c =
     let l = c .before .before .list-refusal in
-    let r = c .before .before .before .before .before .before .before .before in
-    let s = r .before .before .before .before .before in
+    let a = c .before .before .before .before .before .before .before .before in
+    let s = a .before .before .before .before .before in
     prints-line (l .ensures .0) (omega (arith, l .ensures .1, s .pre))
-    ∙ sym (text-refused (λ p. translateLine p (s .args .word .now)) (s .args .text .now) (r .read .last .1 .0) (r .read .ensures) (c .before .before .before .before .before .n .given .1))
+    ∙ sym (printed-refused (λ p. translateLine p (s .args .word .now)) (a .accept .ensures) (c .before .before .before .before .before .n .given .1))
 
 returns-2 : tie.Need-returns-2
-unfolding translatePrinted
+unfolding translatePrinted translateLine
 returns-2 c =
-    let r = c .before .before .before .before .before .before .before .before in
-    let s = r .before .before .before .before .before in
-    let bytes = bytes-from (s .args .text .now) (λ i. r .before .before .before .before .shared-slice-known .given i .fits) in
-    c .before .before .translate-table .ensures
-    ∙ sym (text-read (λ p. translateLine p (s .args .word .now)) (s .args .text .now) (r .read .last .1 .0) (r .read .ensures) bytes (c .before .before .before .before .before .enum-told .given .1))
+    let a = c .before .before .before .before .before .before .before .before .before .before in
+    let s = a .before .before .before .before .before in
+    rw (printed-accepted (λ p. translateLine p (s .args .word .now)) (a .accept .ensures) (c .before .before .before .before .before .before .before .enum-told .given .1), sym (c .before .before .before .before .function-number .ensures)) (c .before .before .translate-function .ensures)
 
 pub translate-text-spec : {M : Type 1} → statement M
 translate-text-spec =
     tie.close
     (tie.spec
     (λ c. search needs)
-    (λ c κs. search needs)
+    (λ c κs. length-replicate {A = ℕ} tableLength 0)
     (λ c. search needs)
-    list-refusal-requires
+    (λ c κs. omega arith)
     (λ c. search needs)
     (λ c. search needs)
-    translate-table-requires
     (λ c. search needs)
+    function-number-requires
+    translate-function-requires
+    (λ c. c .before .before .list-refusal .kept .1 .1 .0)
     returns
-    (λ c. search needs)
+    (λ c. c .before .before .translate-function .kept .1 .1 .0)
     returns-2)

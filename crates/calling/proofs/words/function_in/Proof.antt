@@ -1,9 +1,9 @@
 -- `function_in`: none in a table that its check refuses.
 use mathlib.Core.Path.{refl, sym, ap, _∙_}
 use borrow.Author.Needs.{needs}
-use Rattle.checker.specs.Verdicts.{verdictOf}
+use Rattle.answers.specs.Cases.{verdictOf}
 use Rattle.calling.specs.Words.{functionMeant}
-use Rattle.calling.proofs.TextLaws.{accepted-table}
+use Rattle.calling.proofs.AcceptingLaws.{accepted-table}
 use Rattle.calling.proofs.words.function_in.Statement.{statement}
 use Rattle.calling.proofs.words.function_in.Tie as tie
 

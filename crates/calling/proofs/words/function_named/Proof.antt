@@ -1,6 +1,6 @@
 -- `function_named`: the names of a table's functions stand one function apart.
 use native.Mathlib.Omega.{arith}
-use Rattle.rules.proofs.Accepted.{accepted-length, accepted-count}
+use Rattle.flow.proofs.Accepted.{accepted-length, accepted-count}
 use Rattle.calling.proofs.WordLaws.{named-is}
 use Rattle.calling.proofs.words.function_named.Statement.{statement}
 use Rattle.calling.proofs.words.function_named.Tie as tie

@@ -1,13 +1,12 @@
 -- The loop's invariant: x is what is noted of the first j rows of the block.
 use Prim.Native.Nat.{_+_, _-_, _≤_}
-use mathlib.Core.Path.{_≡_, refl, sym, ap, subst, _∙_}
+use mathlib.Core.Path.{_≡_, sym, ap, subst, _∙_}
 use native.Mathlib.Omega.{arith}
 use borrow.Author.Needs.{needs}
-use lib.ListN.{length}
 use Rattle.language.specs.Table.{decodeFunction}
 use Rattle.checker.specs.declared.forms.Lowest.{Lowest}
 use Rattle.checker.specs.Notes.{noted}
-use Rattle.checker.proofs.Passing.{notedUpto, upto-none, upto-quiet, upto-noted, in-none, in-all, noted-row, Here, here}
+use Rattle.checker.proofs.FormsLaws.{notedUpto, upto-none, upto-quiet, upto-noted, in-none, in-all, noted-row, here}
 use Rattle.checker.proofs.forms.note_block.Statement.{statement}
 use Rattle.checker.proofs.forms.note_block.Tie as tie
 

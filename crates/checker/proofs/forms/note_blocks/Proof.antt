@@ -3,8 +3,8 @@ use Prim.Native.Nat.{_-_, _≤_}
 use mathlib.Core.Path.{_≡_}
 use native.Mathlib.Omega.{arith}
 use Rattle.language.specs.Table.{decodeFunction}
-use Rattle.theorems.proofs.TableView.{block-count}
-use Rattle.checker.proofs.Passing.{notedBlocks, blocks-none, blocks-more, blocks-all}
+use Rattle.language.proofs.TableView.{block-count}
+use Rattle.checker.proofs.FormsLaws.{notedBlocks, blocks-none, blocks-more, blocks-all}
 use Rattle.checker.proofs.forms.note_blocks.Statement.{statement}
 use Rattle.checker.proofs.forms.note_blocks.Tie as tie
 

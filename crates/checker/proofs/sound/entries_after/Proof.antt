@@ -1,9 +1,7 @@
 -- The definition's two tests.
 use borrow.Author.Needs.{needs}
 use native.Mathlib.Omega.{arith}
-use Rattle.laws.proofs.Branches.{branches}
-use Rattle.checker.specs.Parts.{entriesAfter}
-use Rattle.checker.proofs.Rows.{no-phi, phi-misplaced, phi-placed}
+use Rattle.checker.proofs.RowsLaws.{no-phi, phi-misplaced, phi-placed}
 use Rattle.checker.proofs.sound.entries_after.Statement.{statement}
 use Rattle.checker.proofs.sound.entries_after.Tie as tie
 

@@ -3,7 +3,7 @@ use mathlib.Core.Path.{ap, _∙_}
 use native.Mathlib.Omega.{arith}
 use borrow.Author.Needs.{needs}
 use Rattle.language.specs.Table.{blockName}
-use Rattle.checker.proofs.Heads.{mark-wrong, result-wrong, registers-wrong, blocks-wrong, params-wrong, entry-wrong, entry-unnamed}
+use Rattle.checker.proofs.HeadLaws.{mark-wrong, result-wrong, registers-wrong, blocks-wrong, params-wrong, entry-wrong, entry-unnamed}
 use Rattle.checker.proofs.sound.head_right.Statement.{statement}
 use Rattle.checker.proofs.sound.head_right.Tie as tie
 

@@ -1,8 +1,8 @@
 -- The definition's two tests.
 use mathlib.Core.Path.{_∙_}
 use borrow.Author.Needs.{needs}
-use Rattle.checker.proofs.Answers.{fell, held}
-use Rattle.checker.proofs.Naming.{listed-wrong, listed-spelled}
+use Rattle.checker.proofs.TestLaws.{fell, held}
+use Rattle.checker.proofs.NamesLaws.{listed-wrong, listed-spelled}
 use Rattle.checker.proofs.sound.listed_right.Statement.{statement}
 use Rattle.checker.proofs.sound.listed_right.Tie as tie
 

@@ -1,12 +1,11 @@
 -- The first function of that name is an earlier one exactly if one is.
-use mathlib.Core.Path.{sym, ap, _∙_}
+use mathlib.Core.Path.{ap, _∙_}
 use native.Mathlib.Omega.{arith}
 use borrow.Author.Needs.{needs}
 use lib.Dec.{ltb}
 use Rattle.laws.specs.Lists.{any, same}
-use Rattle.table.specs.Named.{firstNamed}
 use Rattle.checker.specs.Parts.{namesBefore}
-use Rattle.checker.proofs.Naming.{named-before}
+use Rattle.checker.proofs.NamesLaws.{named-before}
 use Rattle.checker.proofs.sound.named_before.Statement.{statement}
 use Rattle.checker.proofs.sound.named_before.Tie as tie
 

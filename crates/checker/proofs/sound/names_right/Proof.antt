@@ -4,9 +4,10 @@ use mathlib.Core.Path.{sym, ap, _∙_}
 use native.Mathlib.Omega.{arith}
 use borrow.Author.Needs.{needs}
 use Rattle.language.specs.Names.{spelled}
+use Rattle.language.specs.Table.{blockLength, blockNamesOffset, registerLength, registerNamesOffset}
 use Rattle.checker.specs.Parts.{listedRight}
-use Rattle.checker.proofs.Answers.{fell, held}
-use Rattle.checker.proofs.Naming.{own-wrong, own-twice, registers-wrong, registers-named}
+use Rattle.checker.proofs.TestLaws.{fell, held}
+use Rattle.checker.proofs.NamesLaws.{own-wrong, own-twice, registers-wrong, registers-named}
 use Rattle.checker.proofs.sound.names_right.Statement.{statement}
 use Rattle.checker.proofs.sound.names_right.Tie as tie
 
@@ -32,13 +33,13 @@ names-right-spec =
     registers-wrong (s .args .t .now) (s .args .i) (s .args .a)
     (held (c .before .before .before .before .before .spelled .ensures ∙ ap spelled (c .before .before .before .before .before .before .function-name .ensures)) (c .before .before .before .before .if1 .left))
     (sym (c .before .before .before .named-before .ensures) ∙ c .before .before .if2 .left)
-    (fell (c .before .listed-right .ensures ∙ ap (listedRight (s .args .t .now) (s .args .a + 74) 66) (s .pre .1 .0)) (c .if3 .taken)))
+    (fell (c .before .listed-right .ensures ∙ ap (listedRight (s .args .t .now) (s .args .a + registerNamesOffset) registerLength) (s .pre .1 .0)) (c .if3 .taken)))
     (λ c. omega arith)
     (λ c κs. (omega arith, omega arith, c .before .before .before .before .before .before .before .before .pre .0 .3))
     (λ c.
     let s = c .before .before .before .before .before .before .before .before .before in
-    c .listed-right2 .ensures ∙ ap (listedRight (s .args .t .now) (s .args .a + 16973) 69) (s .pre .1 .2)
+    c .listed-right2 .ensures ∙ ap (listedRight (s .args .t .now) (s .args .a + blockNamesOffset) blockLength) (s .pre .1 .2)
     ∙ registers-named (s .args .t .now) (s .args .i) (s .args .a)
     (held (c .before .before .before .before .before .before .spelled .ensures ∙ ap spelled (c .before .before .before .before .before .before .before .function-name .ensures)) (c .before .before .before .before .before .if1 .left))
     (sym (c .before .before .before .before .named-before .ensures) ∙ c .before .before .before .if2 .left)
-    (held (c .before .before .listed-right .ensures ∙ ap (listedRight (s .args .t .now) (s .args .a + 74) 66) (s .pre .1 .0)) (c .before .if3 .left))))
+    (held (c .before .before .listed-right .ensures ∙ ap (listedRight (s .args .t .now) (s .args .a + registerNamesOffset) registerLength) (s .pre .1 .0)) (c .before .if3 .left))))

@@ -1,10 +1,9 @@
 -- The loop's invariant: the blocks passed are in sequence, and n is the number of their rows.
 use Prim.Native.Nat.{_+_, _-_}
-use mathlib.Core.Path.{sym, ap, _∙_, subst}
+use mathlib.Core.Path.{sym, _∙_, subst}
 use native.Mathlib.Omega.{arith}
 use borrow.Author.Needs.{needs}
-use Rattle.language.specs.Table.{blockFirst, blockRows}
-use Rattle.checker.proofs.Rows.{Blocks, no-blocks, block-misplaced, rows-too-many, block-more, blocks-placed}
+use Rattle.checker.proofs.RowsLaws.{Blocks, no-blocks, block-misplaced, rows-too-many, block-more, blocks-placed}
 use Rattle.checker.proofs.sound.placed_rows.Statement.{statement}
 use Rattle.checker.proofs.sound.placed_rows.Tie as tie
 

@@ -1,10 +1,9 @@
 -- The loop's invariant: the rows passed have right numbers, and `entries` phi entries.
-use Prim.Native.Nat.{_+_, _-_, _≤_}
-use mathlib.Core.Path.{_≡_, sym, ap, _∙_, subst}
+use Prim.Native.Nat.{_+_, _-_}
+use mathlib.Core.Path.{sym, _∙_, subst}
 use native.Mathlib.Omega.{arith}
 use borrow.Author.Tests.{not-true, not-false}
-use Rattle.checker.specs.Parts.{entriesAfter}
-use Rattle.checker.proofs.Rows.{Rows, no-rows, entries-right, entries-wrong, range-wrong, row-more, rows-passed}
+use Rattle.checker.proofs.RowsLaws.{Rows, no-rows, entries-right, entries-wrong, range-wrong, row-more, rows-passed}
 use Rattle.checker.proofs.sound.rows_right.Statement.{statement}
 use Rattle.checker.proofs.sound.rows_right.Tie as tie
 

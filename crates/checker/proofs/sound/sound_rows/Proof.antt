@@ -1,9 +1,9 @@
 -- The parts in the order of the definition: the first that fails is the answer.
-use mathlib.Core.Path.{sym, _∙_}
+use mathlib.Core.Path.{_∙_}
 use native.Mathlib.Omega.{arith}
 use borrow.Author.Needs.{needs}
-use Rattle.checker.proofs.Answers.{fell, held}
-use Rattle.checker.proofs.Sounding.{head-counts, placed-right, head-fails, types-fail, blocks-fail, rows-fail, names-fail, none-fails}
+use Rattle.checker.proofs.TestLaws.{fell, held}
+use Rattle.checker.proofs.SoundLaws.{head-counts, placed-right, head-fails, types-fail, blocks-fail, rows-fail, names-fail, none-fails}
 use Rattle.checker.proofs.sound.sound_rows.Statement.{statement}
 use Rattle.checker.proofs.sound.sound_rows.Tie as tie
 

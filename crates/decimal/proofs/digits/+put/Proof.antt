@@ -1,12 +1,8 @@
 -- The digits of a tenth, then the last one. The measure is the number.
-use Prim.Native.Nat.{ℕ, _+_, _/_, _<_}
-use mathlib.Core.Path.{_≡_, sym, subst}
+use Prim.Native.Nat.{ℕ, _<_}
 use native.Mathlib.Omega.{arith}
 use borrow.Author.Needs.{needs}
-use lib.ListN.{length}
-use Rattle.language.specs.Listing.{digits}
-use Rattle.decimal.specs.Writing.{Written}
-use Rattle.decimal.proofs.Tenths.{digits-one, digits-more, count-one, count-more}
+use Rattle.decimal.proofs.DigitsLaws.{digits-one, digits-more, count-one, count-more}
 use Rattle.decimal.proofs.Writings.{written-then, written-one, written-length}
 use borrow.Fn.Kinds.{In}
 use borrow.Fn.PlainCycle.{Measures, is, falls, and}

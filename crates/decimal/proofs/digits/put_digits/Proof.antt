@@ -1,7 +1,7 @@
 -- `decimal::digits::put_digits`: 2^64 is below 10^20.
 use native.Mathlib.Omega.{arith}
 use borrow.Author.Needs.{needs}
-use Rattle.decimal.proofs.Tenths.{digits-twenty}
+use Rattle.decimal.proofs.DigitsLaws.{digits-twenty}
 use Rattle.decimal.proofs.digits.put_digits.Statement.{statement}
 use Rattle.decimal.proofs.digits.put_digits.Tie as tie
 

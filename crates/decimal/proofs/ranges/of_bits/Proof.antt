@@ -2,7 +2,7 @@
 use borrow.Author.Needs.{needs}
 use borrow.Author.Tests.{not-true, not-false}
 use mathlib.Core.Path.{sym, _∙_}
-use Rattle.decimal.proofs.Ranging.{means-unsigned, means-positive, means-negative}
+use Rattle.decimal.proofs.RangesLaws.{means-unsigned, means-positive, means-negative}
 use Rattle.decimal.proofs.ranges.of_bits.Statement.{statement}
 use Rattle.decimal.proofs.ranges.of_bits.Tie as tie
 

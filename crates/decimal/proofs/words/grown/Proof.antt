@@ -1,10 +1,10 @@
 -- `decimal::words::grown`: ten times the number and the digit, or beyond.
-use mathlib.Core.Path.{_≡_, sym, ap, _∙_}
+use mathlib.Core.Path.{sym, ap, _∙_}
 use native.Mathlib.Omega.{arith}
 use borrow.Author.Needs.{needs}
 use Prim.Native.Nat.{ℕ, _+_, _*_}
 use Rattle.decimal.specs.declared.words.Amount.the-variants as amounts
-use Rattle.decimal.proofs.Amounts.{amount-exact, amount-large, kept-exact, kept-large}
+use Rattle.decimal.proofs.WordsLaws.{amount-exact, amount-large, kept-exact, kept-large}
 use Rattle.decimal.proofs.words.grown.Statement.{statement}
 use Rattle.decimal.proofs.words.grown.Tie as tie
 

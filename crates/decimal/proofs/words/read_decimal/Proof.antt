@@ -1,6 +1,6 @@
 -- `decimal::words::read_decimal`: the digits behind a minus, or all of the word.
 use borrow.Author.Needs.{needs}
-use Rattle.decimal.proofs.Amounts.{no-word, minus-word, plain-word}
+use Rattle.decimal.proofs.WordsLaws.{no-word, minus-word, plain-word}
 use Rattle.decimal.proofs.words.read_decimal.Statement.{statement}
 use Rattle.decimal.proofs.words.read_decimal.Tie as tie
 

@@ -5,12 +5,11 @@ use mathlib.Core.Path.{_≡_, refl, sym, ap, _∙_}
 use native.Mathlib.Omega.{arith}
 use borrow.Author.Needs.{needs}
 use borrow.Author.Tests.{not-true, not-false}
-use lib.ListN.{length, getD, take}
-use lib.Dec.{T}
+use lib.ListN.{length, take}
 use Rattle.laws.specs.Lists.{all}
 use Rattle.laws.proofs.Tests.{of-true}
 use Rattle.decimal.specs.Numbers.{isDigit, valueOf, amountOf}
-use Rattle.decimal.proofs.Amounts.{kept-exact, value-more, digits-on, digits-off, says-none, says-all}
+use Rattle.decimal.proofs.WordsLaws.{kept-exact, value-more, digits-on, digits-off, says-none, says-all}
 use Rattle.decimal.proofs.words.read_digits.Statement.{statement}
 use Rattle.decimal.proofs.words.read_digits.Tie as tie
 

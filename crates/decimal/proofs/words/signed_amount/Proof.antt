@@ -1,9 +1,8 @@
 -- `decimal::words::signed_amount`: the number below 2^64, or beyond.
-use mathlib.Core.Path.{_≡_, sym, ap, _∙_}
+use mathlib.Core.Path.{sym, ap, _∙_}
 use borrow.Author.Needs.{needs}
-use Prim.Native.Nat.{ℕ}
 use Rattle.decimal.specs.declared.words.Decimal.the-variants as decimals
-use Rattle.decimal.proofs.Amounts.{amount-exact, amount-large, says-exact, says-large}
+use Rattle.decimal.proofs.WordsLaws.{amount-exact, amount-large, says-exact, says-large}
 use Rattle.decimal.proofs.words.signed_amount.Statement.{statement}
 use Rattle.decimal.proofs.words.signed_amount.Tie as tie
 

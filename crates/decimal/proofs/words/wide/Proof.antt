@@ -2,7 +2,7 @@
 use mathlib.Core.Path.{refl}
 use native.Mathlib.Omega.{arith}
 use borrow.Author.Needs.{needs}
-use Rattle.decimal.proofs.Amounts.{digit-low, digit-high}
+use Rattle.decimal.proofs.WordsLaws.{digit-low, digit-high}
 use Rattle.decimal.proofs.words.wide.Statement.{statement}
 use Rattle.decimal.proofs.words.wide.Tie as tie
 

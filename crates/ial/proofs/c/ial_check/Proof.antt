@@ -8,4 +8,4 @@ use Rattle.ial.proofs.c.ial_check.Tie as tie
 pub ial-check-spec : {M : Type 1} → statement M
 ial-check-spec =
     tie.close
-    (tie.spec (λ c κs. search needs) (λ c κs. search needs) (λ c. c .numbers .ensures ∙ ap verdictNumbers (c .before .check .ensures)))
+    (tie.spec (λ c κs. search needs) (λ c κs. search needs) (λ c. c .verdict-numbers .ensures ∙ ap verdictNumbers (c .before .check .ensures)))

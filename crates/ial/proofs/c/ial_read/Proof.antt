@@ -14,4 +14,4 @@ ial-read-spec =
     (λ c. search needs)
     (λ c.
     let e = c .before .before .before .read .ensures in
-    (c .numbers .ensures ∙ ap (λ (x : Filled). verdictNumbers (x .answer)) e, ap (λ (x : Filled). x .table) e)))
+    (c .verdict-numbers .ensures ∙ ap (λ (x : Filled). verdictNumbers (x .answer)) e, ap (λ (x : Filled). x .table) e)))

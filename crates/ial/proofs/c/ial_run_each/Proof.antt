@@ -15,4 +15,4 @@ ial-run-each-spec =
     (λ c. search needs)
     (λ c.
     let e = c .before .before .before .before .before .run-each .ensures in
-    (c .numbers .ensures ∙ ap (λ (x : Listed). verdictNumbers (x .answer)) (e .0), ap (λ (x : Listed). x .numbers) (e .0), e .1)))
+    (c .verdict-numbers .ensures ∙ ap (λ (x : Listed). verdictNumbers (x .answer)) (e .0), ap (λ (x : Listed). x .numbers) (e .0), e .1)))

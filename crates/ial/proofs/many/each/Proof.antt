@@ -21,7 +21,7 @@ each-spec =
     (λ c. search needs)
     (λ c.
     let s = c .before .before .before .before .before .before .before .before .before .before .before .before .before in
-    all-refused (s .args .t .now) (s .args .function) (s .args .args .now) (s .args .budget) (length (s .args .registers .now)) (c .before .before .before .before .before .before .before .before .check-table .ensures) (c .before .before .before .before .before .before .v .given .1) (c .before .before .before .before .numbers .ensures) (c .before .before .same-each .ensures))
+    all-refused (s .args .t .now) (s .args .function) (s .args .args .now) (s .args .budget) (length (s .args .registers .now)) (c .before .before .before .before .before .before .before .before .check-table .ensures) (c .before .before .before .before .before .before .v .given .1) (c .before .before .before .before .verdict-numbers .ensures) (c .before .before .same-each .ensures))
     (λ c. search needs)
     (λ c. search needs)
     (λ c.

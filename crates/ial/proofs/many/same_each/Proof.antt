@@ -3,7 +3,7 @@ use mathlib.Core.Path.{_≡_, refl, _∙_}
 use Prim.Native.Nat.{_-_, _*_, _≤_}
 use native.Mathlib.Omega.{arith}
 use lib.ListN.{length, take}
-use Rattle.ial.specs.Numbers.{numbersOf}
+use Rattle.answers.specs.Numbers.{numbersOf}
 use Rattle.ial.specs.Runs.{cellsFrom}
 use Rattle.ial.proofs.EachLaws.{each-more, each-all}
 use Rattle.ial.proofs.many.same_each.Statement.{statement}

@@ -12,15 +12,19 @@ answer-of-spec =
     tie.close
     (tie.spec
     (λ c. search needs)
-    (λ c. let s = c .before .before .before in omega (arith, place-as (s .args .i) (c .before .r .given .1) (s .pre)))
-    (λ c. let s = c .before .before .before .before in omega (arith, place-as (s .args .i) (c .before .before .r .given .1) (s .pre)))
+    (λ c κs.
+    let s = c .before .before .before in
+    let h = place-as (s .args .i) (c .before .r .given .1) (s .pre) in
+    (omega (arith, h), omega (arith, h)))
     (λ c. search needs)
     (λ c. search needs)
     (λ c. search needs)
     (λ c. search needs)
-    (λ c. let s = c .before .before .before .before .before .before in omega (arith, place-as (s .args .i) (ended-as (c .before .before .before .before .r2 .given .1) (c .before .o2 .given .1)) (s .pre)))
-    (λ c. let s = c .before .before .before .before .before .before .before in omega (arith, place-as (s .args .i) (ended-as (c .before .before .before .before .before .r2 .given .1) (c .before .before .o2 .given .1)) (s .pre)))
-    (λ c. sym (ap (ranIn (c .before .before .before .before .args .i)) (c .before .before .r .given .1)))
+    (λ c κs.
+    let s = c .before .before .before .before .before .before in
+    let h = place-as (s .args .i) (ended-as (c .before .before .before .before .r2 .given .1) (c .before .o2 .given .1)) (s .pre) in
+    (omega (arith, h), omega (arith, h)))
+    (λ c. rw (c .row-place .ensures) (sym (ap (ranIn (c .before .before .before .before .args .i)) (c .before .before .r .given .1))))
     (λ c. sym (ap (ranIn (c .before .before .before .before .before .before .args .i)) (ended-as (c .before .before .before .before .r2 .given .1) (c .before .o .given .1))))
     (λ c. sym (ap (ranIn (c .before .before .before .before .before .args .i)) (ended-as (c .before .before .before .r2 .given .1) (c .enum-told .given .1))))
-    (λ c. sym (ap (ranIn (c .before .before .before .before .before .before .before .args .i)) (ended-as (c .before .before .before .before .before .r2 .given .1) (c .before .before .o2 .given .1)))))
+    (λ c. rw (c .row-place2 .ensures) (sym (ap (ranIn (c .before .before .before .before .before .before .before .args .i)) (ended-as (c .before .before .before .before .before .r2 .given .1) (c .before .before .o2 .given .1))))))

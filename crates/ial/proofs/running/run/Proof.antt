@@ -1,5 +1,5 @@
 -- `run`: the registers are zeroed, the table is checked whole, then its function is run.
-use mathlib.Core.Path.{_≡_, sym, ap, _∙_}
+use mathlib.Core.Path.{sym, ap, _∙_}
 use lib.ListN.{length}
 use borrow.Author.Needs.{needs}
 use Rattle.language.specs.Table.{decode}

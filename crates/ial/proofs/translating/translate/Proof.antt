@@ -1,10 +1,10 @@
 -- `translate`: the output is zeroed, the table is checked whole, then its function is translated.
-use mathlib.Core.Path.{_≡_, sym, ap, _∙_}
+use mathlib.Core.Path.{sym, ap, _∙_}
 use lib.ListN.{length}
 use borrow.Author.Needs.{needs}
 use Rattle.language.specs.Table.{decode}
 use Rattle.language.specs.Answers.{zeros, translateFunction}
-use Rattle.checker.specs.Verdicts.{verdictOf}
+use Rattle.answers.specs.Cases.{verdictOf}
 use Rattle.ial.proofs.TranslateLaws.{translate-refused, translate-on}
 use Rattle.ial.proofs.translating.translate.Statement.{statement}
 use Rattle.ial.proofs.translating.translate.Tie as tie

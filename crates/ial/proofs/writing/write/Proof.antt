@@ -2,7 +2,7 @@
 use mathlib.Core.Path.{sym, ap, _∙_}
 use lib.ListN.{length}
 use borrow.Author.Needs.{needs}
-use Rattle.checker.specs.Verdicts.{verdictOf}
+use Rattle.answers.specs.Cases.{verdictOf}
 use Rattle.ial.proofs.WriteLaws.{write-refused, write-on}
 use Rattle.ial.proofs.writing.write.Statement.{statement}
 use Rattle.ial.proofs.writing.write.Tie as tie

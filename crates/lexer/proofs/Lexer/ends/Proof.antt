@@ -1,5 +1,4 @@
 -- `lexer::Lexer::ends`: each call gives one part of the definition.
-use Rattle.laws.proofs.Branches.{branches}
 use Rattle.lexer.proofs.Lexer.ends.Statement.{statement}
 use Rattle.lexer.proofs.Lexer.ends.Tie as tie
 use Rattle.lexer.specs.Advancing.{endsAt}

@@ -1,6 +1,5 @@
 -- `lexer::Lexer::ends_name`: each call gives one part of the definition.
 use borrow.Author.Needs.{needs}
-use mathlib.Core.Path.{_≡_, refl}
 use Rattle.lexer.specs.Advancing.{endedAt, endsAt}
 use Rattle.lexer.proofs.Acting.{begins-from}
 use Rattle.lexer.proofs.Lexer.ends_name.Statement.{statement}

@@ -1,6 +1,6 @@
 -- `lexer::Lexer::named`: a byte that is no name character ends the name.
 use borrow.Author.Needs.{needs}
-use mathlib.Core.Path.{_≡_, refl}
+use mathlib.Core.Path.{refl}
 use native.Mathlib.Omega.{arith}
 use lib.ListN.{getD}
 use Rattle.lexer.proofs.Stepping.{class-at, passed-all, name-ended}

@@ -1,6 +1,6 @@
 -- `lexer::Lexer::step`: what the byte does, and the lexer after it, are the definition's.
 use borrow.Author.Needs.{needs}
-use mathlib.Core.Path.{_≡_, refl, ap, _∙_}
+use mathlib.Core.Path.{refl}
 use native.Mathlib.Omega.{arith}
 use lib.ListN.{getD}
 use Rattle.lexer.proofs.Stepping.{class-at, stepped-quietly, stepped-finding}

@@ -3,7 +3,6 @@ use Rattle.laws.proofs.Branches.{branches}
 use Rattle.lexer.proofs.actions.after_number.Statement.{statement}
 use Rattle.lexer.proofs.actions.after_number.Tie as tie
 use Rattle.lexer.specs.Actions.{afterNumberAt}
-use borrow.Author.Needs.{needs}
 
 pub after-number-spec : {M : Type 1} → statement M
 unfolding afterNumberAt

@@ -3,7 +3,6 @@ use Rattle.laws.proofs.Branches.{branches}
 use Rattle.lexer.proofs.actions.begins.Statement.{statement}
 use Rattle.lexer.proofs.actions.begins.Tie as tie
 use Rattle.lexer.specs.Actions.{beginsAt}
-use borrow.Author.Needs.{needs}
 
 pub begins-spec : {M : Type 1} → statement M
 unfolding beginsAt

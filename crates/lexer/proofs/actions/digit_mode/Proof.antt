@@ -3,7 +3,6 @@ use Rattle.laws.proofs.Branches.{branches}
 use Rattle.lexer.proofs.actions.digit_mode.Statement.{statement}
 use Rattle.lexer.proofs.actions.digit_mode.Tie as tie
 use Rattle.lexer.specs.Actions.{digitModeAt}
-use borrow.Author.Needs.{needs}
 
 pub digit-mode-spec : {M : Type 1} → statement M
 unfolding digitModeAt

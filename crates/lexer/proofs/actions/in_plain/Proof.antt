@@ -3,7 +3,6 @@ use Rattle.laws.proofs.Branches.{branches}
 use Rattle.lexer.proofs.actions.in_plain.Statement.{statement}
 use Rattle.lexer.proofs.actions.in_plain.Tie as tie
 use Rattle.lexer.specs.Actions.{inPlainAt}
-use borrow.Author.Needs.{needs}
 
 pub in-plain-spec : {M : Type 1} → statement M
 unfolding inPlainAt

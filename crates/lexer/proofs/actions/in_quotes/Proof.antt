@@ -3,7 +3,6 @@ use Rattle.laws.proofs.Branches.{branches}
 use Rattle.lexer.proofs.actions.in_quotes.Statement.{statement}
 use Rattle.lexer.proofs.actions.in_quotes.Tie as tie
 use Rattle.lexer.specs.Actions.{inQuotesAt}
-use borrow.Author.Needs.{needs}
 
 pub in-quotes-spec : {M : Type 1} → statement M
 unfolding inQuotesAt

@@ -1,9 +1,6 @@
 -- `lexer::words::key`: from the last byte to the first, k is the key of the bytes passed.
-use mathlib.Core.Path.{refl}
-use Prim.Native.Nat.{_≤_, _-_, _*_, _^_, _+_, _<_}
+use Prim.Native.Nat.{_-_}
 use native.Mathlib.Omega.{arith}
-use lib.ListN.{length, drop}
-use lib.Seq.{drop-length}
 use Rattle.lexer.proofs.Keys.{Key, key-none, key-done, key-small, key-more}
 use Rattle.lexer.proofs.words.key.Statement.{statement}
 use Rattle.lexer.proofs.words.key.Tie as tie

@@ -1,10 +1,10 @@
 -- `lexer::words::word`: a name's keys tell it from every other name.
 use borrow.Author.Needs.{needs}
-use mathlib.Core.Path.{_≡_, sym, ap, _∙_}
+use mathlib.Core.Path.{sym, ap, _∙_}
 use mathlib.Core.Logic.{inl, inr}
-use Prim.Native.Nat.{ℕ, _≤_}
+use Prim.Native.Nat.{_≤_}
 use native.Mathlib.Omega.{arith}
-use lib.ListN.{length, take, drop}
+use lib.ListN.{length}
 use lib.Seq.{length-take-le}
 use Rattle.lexer.specs.Keys.{shortAt}
 use Rattle.lexer.proofs.Keys.{no-word, word-by-key, word-by-parts, rest-longer}

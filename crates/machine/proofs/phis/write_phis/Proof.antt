@@ -1,16 +1,15 @@
--- `write_phis`: the targets of the first i phi are written.
-use mathlib.Core.Path.{_≡_, refl, ap, _∙_, subst}
-use Prim.Native.Nat.{ℕ, _+_, _-_, _<_, _≤_}
+-- `write_phis`: the targets of the first i phi are phisWritten.
+use mathlib.Core.Path.{_≡_, refl, ap, _∙_}
+use Prim.Native.Nat.{_-_, _≤_}
 use native.Mathlib.Omega.{arith}
 use lib.ListN.{length}
-use borrow.Author.Needs.{needs}
-use Rattle.machine.specs.Phis.{written}
+use Rattle.machine.specs.Phis.{phisWritten}
 use Rattle.machine.proofs.PhiLoops.{written-more, written-length}
 use Rattle.machine.proofs.phis.write_phis.Statement.{statement}
 use Rattle.machine.proofs.phis.write_phis.Tie as tie
 
 abbrev Inv-loop : tie.InvT-loop
-Inv-loop t a first n k taken registers₀ i₀ registers i = (i ≤ n) × (registers ≡ written t a first k registers₀ i)
+Inv-loop t a first n k taken registers₀ i₀ registers i = (i ≤ n) × (registers ≡ phisWritten t a first k registers₀ i)
 
 abbrev μ-loop : tie.MeasureT-loop
 μ-loop t a first n k taken registers₀ i₀ registers i = n - i
@@ -48,4 +47,4 @@ write-phis-spec =
     let s = c .before .before .before .before .before in
     let l = c .before .loop in
     let e : l .i ≡ s .args .n = omega arith in
-    l .inv .1 ∙ ap (written (s .args .t .now) (s .args .a) (s .args .first) (s .args .k) (s .args .registers .now)) e))
+    l .inv .1 ∙ ap (phisWritten (s .args .t .now) (s .args .a) (s .args .first) (s .args .k) (s .args .registers .now)) e))

@@ -1,12 +1,11 @@
 -- `start`: the cells before i are those of the arguments followed by zeros.
-use mathlib.Core.Path.{_≡_, refl, _∙_}
+use mathlib.Core.Path.{_≡_, refl}
 use Prim.Native.Nat.{_-_, _≤_}
 use native.Mathlib.Omega.{arith}
 use lib.ListN.{length, length-set}
-use borrow.Author.Needs.{needs}
 use Rattle.machine.specs.Phis.{Upto}
 use Rattle.machine.proofs.PhiLoops.{upto-none, upto-more}
-use Rattle.machine.proofs.Starting.{startCell, started, past-zero}
+use Rattle.machine.proofs.StartsLaws.{startCell, started, past-zero}
 use Rattle.machine.proofs.starts.start.Statement.{statement}
 use Rattle.machine.proofs.starts.start.Tie as tie
 

@@ -1,8 +1,8 @@
 -- `judge`: a function of another signature gets its refusal; a limit function's run is refused by the check alone, and any other answer is a verdict.
 use mathlib.Core.Path.{refl, ap}
 use borrow.Author.Needs.{needs}
-use Rattle.ial.specs.Runs.{ranOf}
-use Rattle.merge.proofs.Rulings.{ruled-other, ruled-ran, ruled-refused}
+use Rattle.answers.specs.Cases.{ranOf}
+use Rattle.merge.proofs.JudgingLaws.{ruled-other, ruled-ran, ruled-refused}
 use Rattle.merge.proofs.judging.judge.Statement.{statement}
 use Rattle.merge.proofs.judging.judge.Tie as tie
 

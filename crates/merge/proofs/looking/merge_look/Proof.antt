@@ -2,7 +2,7 @@
 use borrow.Author.Needs.{needs}
 use Rattle.records.specs.Answers.{Looked, LookedIn}
 use Rattle.store.specs.Places.{lookedAt}
-use Rattle.merge.proofs.Looks.{lent-look, lent-other}
+use Rattle.merge.proofs.LookingLaws.{lent-look, lent-other}
 use Rattle.merge.proofs.looking.merge_look.Statement.{statement}
 use Rattle.merge.proofs.looking.merge_look.Tie as tie
 

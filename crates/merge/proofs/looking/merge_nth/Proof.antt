@@ -4,7 +4,7 @@ use borrow.Author.Needs.{needs}
 use Rattle.records.specs.Stores.{nth, recordsOf}
 use Rattle.records.specs.Answers.{Looked}
 use Rattle.store.specs.Places.{lookedAt}
-use Rattle.merge.proofs.Looks.{lent-look, lent-other, nth-looked}
+use Rattle.merge.proofs.LookingLaws.{lent-look, lent-other, nth-looked}
 use Rattle.merge.proofs.looking.merge_nth.Statement.{statement}
 use Rattle.merge.proofs.looking.merge_nth.Tie as tie
 

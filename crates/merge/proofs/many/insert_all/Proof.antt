@@ -41,7 +41,7 @@ insert-all-spec =
       held =
           number-full (s .args .s .now) (inserts (recordsBy (s .args .tests .now) (s .args .answers .now))) (recordBy (s .args .tests .now) (s .args .answers .now)) (l .loop .j)
           (length (s .args .tests .now) / 4) (omega (arith, c .before .before .before .before .before .before .loop-test .taken)) (l .loop .s) (l .loop .inv .1) (i .last .0)
-          (c .before .before .before .before .record-at .result) (c .before .before .before .before .record-at .ensures .0) (i .result) (c .if1 .taken) (i .ensures);
+          (c .before .before .before .before .judged-record .result) (c .before .before .before .before .judged-record .ensures .0) (i .result) (c .if1 .taken) (i .ensures);
       size = i .kept .0 ∙ l .loop .inv .0;
     })
     (λ c. let l = c .before .before .before .before .before .before in record { fits = omega (arith, l .loop-test .taken, l .before .before .before .before .before .good .1 .0 .0) })
@@ -53,8 +53,8 @@ insert-all-spec =
       i .kept .0 ∙ l .loop .inv .0,
       number-on (s .args .s .now) (inserts (recordsBy (s .args .tests .now) (s .args .answers .now))) (recordBy (s .args .tests .now) (s .args .answers .now)) (l .loop .j)
           (length (s .args .tests .now) / 4) (omega (arith, c .before .before .before .before .before .before .loop-test .taken)) (l .loop .s) (l .loop .inv .1) (i .last .0)
-          (c .before .before .before .before .record-at .result) (c .before .before .before .before .record-at .ensures .0) (i .result) (c .if1 .left)
-          (c .before .before .before .before .record-at .ensures .1) (i .ensures),
+          (c .before .before .before .before .judged-record .result) (c .before .before .before .before .judged-record .ensures .0) (i .result) (c .if1 .left)
+          (c .before .before .before .before .judged-record .ensures .1) (i .ensures),
     ))
     (λ c. c .before .loop .inv .0)
     (λ c.

@@ -9,13 +9,13 @@ use borrow.Author.Tests.{not-true, not-false}
 use Rattle.laws.proofs.Cells.{sets-all}
 use Rattle.records.specs.Stores.{Holds}
 use Rattle.merge.specs.Tries.{Tried}
-use Rattle.merge.proofs.Whole.{all, kept-whole, kept-unchanged}
+use Rattle.merge.proofs.ManyLaws.{all, kept-whole, kept-unchanged}
 use Rattle.merge.proofs.many.merge_all.Statement.{statement}
 use Rattle.merge.proofs.many.merge_all.Tie as tie
 
 returns : tie.Need-returns
 returns c =
-    let f = c .before .before .before .fill in
+    let f = c .before .before .before .fill-aside in
     let s = c .before .before .before .before .before .before .before .before .before in
     let g = all (s .args .table .now) (s .args .function) (s .args .budget) (s .args .records .now) in
     let no = subst (λ (b : Bool). Tried (s .args .store .now) g b (f .last .1 .0)) (not-true (f .result) (c .before .if1 .taken)) (f .ensures) in
@@ -24,7 +24,7 @@ returns c =
 returns-2 : tie.Need-returns-2
 returns-2 c =
     let p = c .before .before .before in
-    let f = p .before .before .before .before .before .fill in
+    let f = p .before .before .before .before .before .fill-aside in
     let s = p .before .before .before .before .before .before .before .before .before .before .before in
     let g = all (s .args .table .now) (s .args .function) (s .args .budget) (s .args .records .now) in
     let yes = subst (λ (b : Bool). Tried (s .args .store .now) g b (f .last .1 .0)) (not-false (f .result) (p .before .before .before .if1 .left)) (f .ensures) in

@@ -8,7 +8,7 @@ use lib.Seq.{length-sets}
 use Rattle.language.specs.Bytes.{bytesOf, lineFeed}
 use Rattle.language.specs.Listing.{tab}
 use Rattle.decimal.proofs.Writings.{written-then, written-one, written-bytes, written-length}
-use Rattle.merge_lines.proofs.Showing.{merged-parts}
+use Rattle.merge_lines.proofs.ShownLaws.{merged-parts}
 use Rattle.merge_lines.proofs.shown.put_merged.Statement.{statement}
 use Rattle.merge_lines.proofs.shown.put_merged.Tie as tie
 

@@ -6,7 +6,7 @@ use borrow.Author.Needs.{needs}
 use borrow.Author.Tests.{not-true, not-false}
 use Rattle.language.specs.Bytes.{minus}
 use Rattle.decimal.proofs.Writings.{written-then, written-one, written-length}
-use Rattle.merge_lines.proofs.Showing.{reading-fits, reading-plain, reading-negative}
+use Rattle.merge_lines.proofs.ShownLaws.{reading-fits, reading-plain, reading-negative}
 use Rattle.merge_lines.proofs.shown.put_reading.Statement.{statement}
 use Rattle.merge_lines.proofs.shown.put_reading.Tie as tie
 

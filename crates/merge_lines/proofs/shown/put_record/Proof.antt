@@ -15,9 +15,9 @@ returns c =
     let time = tablet .before .before .before .before in
     let appliance = time .before .before .before .before in (
       written-then
-          (written-then (written-then (written-then (appliance .put-field .ensures .0) (time .put-field2 .ensures .0)) (tablet .put-field3 .ensures .0)) (reading .put-reading .ensures .0))
+          (written-then (written-then (written-then (appliance .put-column .ensures .0) (time .put-column2 .ensures .0)) (tablet .put-column3 .ensures .0)) (reading .put-reading .ensures .0))
           (verdict .put-verdict .ensures .0),
-      omega (arith, appliance .put-field .ensures .1, time .put-field2 .ensures .1, tablet .put-field3 .ensures .1, reading .put-reading .ensures .1, verdict .put-verdict .ensures .1),
+      omega (arith, appliance .put-column .ensures .1, time .put-column2 .ensures .1, tablet .put-column3 .ensures .1, reading .put-reading .ensures .1, verdict .put-verdict .ensures .1),
     )
 
 pub put-record-spec : {M : Type 1} → statement M

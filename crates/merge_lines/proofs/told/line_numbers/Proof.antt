@@ -4,7 +4,7 @@ use native.Mathlib.Omega.{arith}
 use borrow.Author.Needs.{needs}
 use lib.Seq.{length-take-le}
 use Rattle.merge_lines.specs.Lines.{withTime, lineOf}
-use Rattle.merge_lines.proofs.Telling.{ends, outside, goes-on}
+use Rattle.merge_lines.proofs.ToldLaws.{ends, outside, goes-on}
 use Rattle.merge_lines.proofs.told.line_numbers.Statement.{statement}
 use Rattle.merge_lines.proofs.told.line_numbers.Tie as tie
 

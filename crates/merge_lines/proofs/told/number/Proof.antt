@@ -2,7 +2,7 @@
 use mathlib.Core.Path.{sym, ap, _∙_}
 use borrow.Author.Needs.{needs}
 use Rattle.merge_lines.specs.Lines.{bitsFrom}
-use Rattle.merge_lines.proofs.Telling.{said}
+use Rattle.merge_lines.proofs.ToldLaws.{said}
 use Rattle.merge_lines.proofs.told.number.Statement.{statement}
 use Rattle.merge_lines.proofs.told.number.Tie as tie
 

@@ -1,7 +1,7 @@
 -- `with_reading`: no tab may follow, and the number fits.
 use mathlib.Core.Path.{sym, _∙_}
 use borrow.Author.Needs.{needs}
-use Rattle.merge_lines.proofs.Telling.{too-many, reads-outside, reads}
+use Rattle.merge_lines.proofs.ToldLaws.{too-many, reads-outside, reads}
 use Rattle.merge_lines.proofs.told.with_reading.Statement.{statement}
 use Rattle.merge_lines.proofs.told.with_reading.Tie as tie
 

@@ -7,7 +7,7 @@ use borrow.Author.Needs.{needs}
 use lib.ListN.{length, length-replicate}
 use Rattle.naming.specs.Numbers.{prefixOf, Numbers}
 use Rattle.naming.specs.Numbered.{Marked}
-use Rattle.table.proofs.Tails.{room}
+use Rattle.table.proofs.NamesLaws.{room}
 use Rattle.naming.proofs.Marks.{marked-none, marked-more}
 use Rattle.naming.proofs.made.mark.Statement.{statement}
 use Rattle.naming.proofs.made.mark.Tie as tie

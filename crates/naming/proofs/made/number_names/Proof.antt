@@ -5,9 +5,9 @@ use native.Mathlib.Omega.{arith}
 use borrow.Author.Needs.{needs}
 use borrow.Author.Tests.{not-true, not-false}
 use lib.ListN.{length, length-set}
-use Rattle.table.proofs.Tails.{room}
+use Rattle.table.proofs.NamesLaws.{room}
 use Rattle.naming.specs.Numbers.{prefixOf}
-use Rattle.naming.proofs.Entitling.{Going, going-first, going-given, going-made, going-last}
+use Rattle.naming.proofs.MadeLaws.{Going, going-first, going-given, going-made, going-last}
 use Rattle.naming.proofs.made.number_names.Statement.{statement}
 use Rattle.naming.proofs.made.number_names.Tie as tie
 

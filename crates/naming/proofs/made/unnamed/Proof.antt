@@ -3,7 +3,7 @@ use mathlib.Core.Path.{sym, ap}
 use mathlib.Core.Bool.{Bool, not, _&&_}
 use lib.Dec.{eqb}
 use borrow.Author.Needs.{needs}
-use Rattle.naming.proofs.Entitling.{no-bytes, some-bytes}
+use Rattle.naming.proofs.MadeLaws.{no-bytes, some-bytes}
 use Rattle.naming.proofs.made.unnamed.Statement.{statement}
 use Rattle.naming.proofs.made.unnamed.Tie as tie
 

@@ -2,7 +2,7 @@
 use mathlib.Core.Path.{refl}
 use native.Mathlib.Omega.{arith}
 use borrow.Author.Needs.{needs}
-use Rattle.naming.proofs.Spelt.{too-short, too-long, other-first, no-dot, of-one, of-two, of-three}
+use Rattle.naming.proofs.NumbersLaws.{too-short, too-long, other-first, no-dot, of-one, of-two, of-three}
 use Rattle.naming.proofs.numbers.number.Statement.{statement}
 use Rattle.naming.proofs.numbers.number.Tie as tie
 

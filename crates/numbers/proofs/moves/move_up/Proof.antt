@@ -4,7 +4,7 @@ use Prim.Native.Nat.{ℕ, _-_, _≤_}
 use native.Mathlib.Omega.{arith}
 use lib.ListN.{length, length-set}
 use Rattle.numbers.specs.Moving.{moved}
-use Rattle.numbers.proofs.Moving.{moved-none, moved-step}
+use Rattle.numbers.proofs.MovesLaws.{moved-none, moved-step}
 use Rattle.numbers.proofs.moves.move_up.Statement.{statement}
 use Rattle.numbers.proofs.moves.move_up.Tie as tie
 

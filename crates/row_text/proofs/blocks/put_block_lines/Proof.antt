@@ -1,7 +1,7 @@
 -- `row_text::blocks::put_block_lines`: the head, the rows, the `}`.
 use mathlib.Core.List.{List, [], _∷_, _++_}
 use mathlib.Core.Path.{refl, ap, _∙_}
-use Prim.Native.Nat.{ℕ, _+_, _-_}
+use Prim.Native.Nat.{ℕ}
 use native.Mathlib.Omega.{arith}
 use borrow.Author.Needs.{needs}
 use Rattle.laws.specs.Lists.{from, gather}
@@ -15,7 +15,7 @@ use Rattle.token_text.specs.Spaced.{spaced}
 use Rattle.token_text.proofs.Spelled.{puts-then, spaced-then}
 use Rattle.row_text.specs.Ready.{titled}
 use Rattle.row_text.proofs.Asked.{block-asked}
-use Rattle.row_text.proofs.BlockLines.{rows-within, block-text}
+use Rattle.row_text.proofs.BlocksLaws.{rows-within, block-text}
 use Rattle.row_text.proofs.blocks.put_block_lines.Statement.{statement}
 use Rattle.row_text.proofs.blocks.put_block_lines.Tie as tie
 

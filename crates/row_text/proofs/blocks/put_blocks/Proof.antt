@@ -8,7 +8,7 @@ use Rattle.laws.specs.Lists.{below, gather}
 use Rattle.page.specs.Page.{Page, page, puts}
 use Rattle.page.proofs.Pages.{puts-length}
 use Rattle.token_text.proofs.Spelled.{puts-none, puts-then}
-use Rattle.row_text.proofs.BlockLines.{linesAt, blocks-more, blocks-all}
+use Rattle.row_text.proofs.BlocksLaws.{linesAt, blocks-more, blocks-all}
 use Rattle.row_text.proofs.blocks.put_blocks.Statement.{statement}
 use Rattle.row_text.proofs.blocks.put_blocks.Tie as tie
 

@@ -1,6 +1,6 @@
 -- Its tests by cells are those of the language.
 use borrow.Author.Needs.{needs}
-use Rattle.rules.proofs.FaultForms.{binary-found}
+use Rattle.rules.proofs.FormFaultLaws.{binary-found}
 use Rattle.rules.proofs.faults.binary_fault.Statement.{statement}
 use Rattle.rules.proofs.faults.binary_fault.Tie as tie
 

@@ -2,7 +2,7 @@
 use native.Mathlib.Omega.{arith}
 use borrow.Author.Needs.{needs}
 use Rattle.rules.proofs.Standing.{row-limit, place-limit}
-use Rattle.rules.proofs.WholeRow.{form-10, form-later}
+use Rattle.rules.proofs.RowFaultLaws.{form-10, form-later}
 use Rattle.rules.proofs.faults.form_fault.Statement.{statement}
 use Rattle.rules.proofs.faults.form_fault.Tie as tie
 

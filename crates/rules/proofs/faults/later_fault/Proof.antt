@@ -1,11 +1,10 @@
 -- Each arm of the `match` by the law of its form.
-use mathlib.Core.Path.{_≡_, sym, ap, _∙_}
 use borrow.Author.Needs.{needs}
-use Rattle.language.specs.Instructions.{Form, formOf}
-use Rattle.rules.proofs.Forms.{phi-number}
+use Rattle.language.specs.Instructions.{Form}
+use Rattle.language.proofs.FormLaws.{phi-number}
 use Rattle.rules.proofs.RangeLaws.{row-form}
 use Rattle.rules.proofs.Standing.{phi-limit}
-use Rattle.rules.proofs.WholeRow.{later-nop, later-judged, later-jump, later-branch, later-return, later-leave, later-none}
+use Rattle.rules.proofs.RowFaultLaws.{later-nop, later-judged, later-jump, later-branch, later-return, later-leave, later-none}
 use Rattle.rules.proofs.faults.later_fault.Statement.{statement}
 use Rattle.rules.proofs.faults.later_fault.Tie as tie
 

@@ -1,5 +1,4 @@
 -- The test of the cell.
-use mathlib.Core.Path.{sym}
 use borrow.Author.Needs.{needs}
 use Rattle.rules.proofs.faults.leave_fault.Statement.{statement}
 use Rattle.rules.proofs.faults.leave_fault.Tie as tie

@@ -1,6 +1,6 @@
 -- Its tests by cells are those of the language.
 use borrow.Author.Needs.{needs}
-use Rattle.rules.proofs.FaultForms.{load-found}
+use Rattle.rules.proofs.FormFaultLaws.{load-found}
 use Rattle.rules.proofs.faults.load_fault.Statement.{statement}
 use Rattle.rules.proofs.faults.load_fault.Tie as tie
 

@@ -1,6 +1,6 @@
 -- Its tests by cells are those of the language.
 use borrow.Author.Needs.{needs}
-use Rattle.rules.proofs.FaultForms.{phi-found}
+use Rattle.rules.proofs.FormFaultLaws.{phi-found}
 use Rattle.rules.proofs.faults.phi_fault.Statement.{statement}
 use Rattle.rules.proofs.faults.phi_fault.Tie as tie
 
@@ -14,9 +14,7 @@ phi-fault-spec =
     (λ c κs. search needs)
     (λ c κs. search needs)
     (λ c κs. search needs)
-    (λ c. search needs)
     (λ c κs. search needs)
-    (λ c. search needs)
     (λ c κs. search needs)
     (λ c κs. search needs)
     (λ c κs. search needs)

@@ -13,4 +13,4 @@ retaken-spec =
     (λ c κs. search needs)
     (λ c κs. search needs)
     (λ c. search needs)
-    (λ c. rw (c .before .before .function-ssa .ensures, c .before .function-params .ensures .0, c .at .ensures)))
+    (λ c. rw (c .before .before .function-ssa .ensures, c .before .function-params .ensures .0, c .assignment .ensures .0)))

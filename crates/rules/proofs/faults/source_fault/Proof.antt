@@ -1,6 +1,6 @@
 -- The tests of the cells, in their order.
 use borrow.Author.Needs.{needs}
-use Rattle.rules.proofs.FaultForms.{source-found}
+use Rattle.rules.proofs.FormFaultLaws.{source-found}
 use Rattle.rules.proofs.faults.source_fault.Statement.{statement}
 use Rattle.rules.proofs.faults.source_fault.Tie as tie
 

@@ -1,6 +1,6 @@
 -- Its tests by cells are those of the language.
 use borrow.Author.Needs.{needs}
-use Rattle.rules.proofs.FaultForms.{unary-found}
+use Rattle.rules.proofs.FormFaultLaws.{unary-found}
 use Rattle.rules.proofs.faults.unary_fault.Statement.{statement}
 use Rattle.rules.proofs.faults.unary_fault.Tie as tie
 

@@ -1,7 +1,7 @@
 -- Each arm of the `match` by the law of its form.
 use borrow.Author.Needs.{needs}
-use Rattle.language.specs.Instructions.{Form, formOf}
-use Rattle.rules.proofs.Forms.{form-is, phi-number}
+use Rattle.language.specs.Instructions.{Form}
+use Rattle.language.proofs.FormLaws.{form-is, phi-number}
 use Rattle.rules.proofs.RangeLaws.{row-form, in-form, in-nop, in-leave, in-no-form}
 use Rattle.rules.proofs.ranges.in_range.Statement.{statement}
 use Rattle.rules.proofs.ranges.in_range.Tie as tie

@@ -1,5 +1,4 @@
 -- `spelling::hashes::end`: by the length, the bytes that the definition takes.
-use mathlib.Core.Path.{_≡_, _∙_}
 use borrow.Author.Needs.{needs}
 use borrow.Author.Tests.{le-leb, lt-leb}
 use Rattle.spelling.specs.Hashes.{endOf}

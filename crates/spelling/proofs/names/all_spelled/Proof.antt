@@ -1,7 +1,6 @@
 -- The loop's invariant: every name passed has no bytes or is spelled.
 use Prim.Native.Nat.{ℕ, _-_, _≤_}
 use mathlib.Core.Bool.{true}
-use mathlib.Core.List.{List}
 use mathlib.Core.Path.{_≡_, refl, sym, ap, _∙_}
 use native.Mathlib.Omega.{arith}
 use borrow.Author.Needs.{needs}
@@ -9,7 +8,8 @@ use borrow.Author.Tests.{not-true, not-false}
 use Rattle.laws.specs.Lists.{all}
 use Rattle.language.specs.Checking.{spelledOrNone}
 use Rattle.spelling.specs.Names.{namesIn}
-use Rattle.spelling.proofs.InTable.{room, all-on, all-off}
+use Rattle.table.proofs.NamesLaws.{room}
+use Rattle.spelling.proofs.InTable.{all-on, all-off}
 use Rattle.spelling.proofs.names.all_spelled.Statement.{statement}
 use Rattle.spelling.proofs.names.all_spelled.Tie as tie
 

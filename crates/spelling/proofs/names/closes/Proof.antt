@@ -1,5 +1,4 @@
 -- `spelling::names::closes` tests what its definition tests.
-use mathlib.Core.Path.{_≡_, refl}
 use borrow.Author.Tests.{eq-eqb, ne-eqb}
 use Rattle.spelling.specs.Names.{closing}
 use Rattle.spelling.proofs.names.closes.Statement.{statement}

@@ -5,7 +5,7 @@ use native.Mathlib.Omega.{arith}
 use borrow.Author.Needs.{needs}
 use lib.ListN.{length, getD}
 use Rattle.language.specs.Names.{Spelling}
-use Rattle.spelling.proofs.Spells.{spelling, spelling-more, spelling-first, spelling-all, spelling-wrong, class-of, plain-on, plain-off}
+use Rattle.spelling.proofs.NamesLaws.{spelling, spelling-more, spelling-first, spelling-all, spelling-wrong, class-of, plain-on, plain-off}
 use Rattle.spelling.proofs.names.plain.Statement.{statement}
 use Rattle.spelling.proofs.names.plain.Tie as tie
 

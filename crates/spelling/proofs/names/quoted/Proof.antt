@@ -1,6 +1,5 @@
 -- The loop's invariant: the bytes passed go on in quotes, by the last of them.
 use Prim.Native.Nat.{ℕ, _+_, _-_, _≤_, _<_}
-use mathlib.Core.Bool.{Bool, true, false}
 use mathlib.Core.Path.{_≡_, _∙_, ap, sym}
 use mathlib.Core.List.{List, foldl}
 use native.Mathlib.Decide.{ℕ-discrete}
@@ -9,9 +8,8 @@ use borrow.Author.Needs.{needs}
 use borrow.Author.Tests.{eq-eqb, ne-eqb}
 use lib.Dec.{eqb}
 use lib.ListN.{length, getD}
-use Rattle.language.specs.Bytes.{quoteByte}
 use Rattle.language.specs.Names.{Spelling, spell, insideQuotes, whole}
-use Rattle.spelling.proofs.Spells.{spelling, spelling-more, spelling-first, spelling-all, spelling-wrong, spelling-closed, quoted-on, quoted-closes, opened-on, opened-off, inside-not-whole}
+use Rattle.spelling.proofs.NamesLaws.{spelling, spelling-more, spelling-first, spelling-all, spelling-wrong, spelling-closed, quoted-on, quoted-closes, opened-on, opened-off, inside-not-whole}
 use Rattle.spelling.proofs.names.quoted.Statement.{statement}
 use Rattle.spelling.proofs.names.quoted.Tie as tie
 

@@ -1,7 +1,6 @@
 -- `spelling::names::spelled`: the three tests of the definition.
-use native.Mathlib.Omega.{arith}
 use borrow.Author.Needs.{needs}
-use Rattle.spelling.proofs.Spells.{too-long, not-whole, no-word}
+use Rattle.spelling.proofs.NamesLaws.{too-long, not-whole, no-word}
 use Rattle.spelling.proofs.names.spelled.Statement.{statement}
 use Rattle.spelling.proofs.names.spelled.Tie as tie
 

@@ -1,12 +1,11 @@
 -- `spelling::names::whole_name`: the first byte's class says what the name begins as.
-use Prim.Native.Nat.{ℕ}
-use mathlib.Core.Path.{_≡_, refl, _∙_, ap}
+use mathlib.Core.Path.{refl, _∙_, ap}
 use native.Mathlib.Omega.{arith}
 use borrow.Author.Needs.{needs}
 use borrow.Author.Tests.{ne-eqb}
 use lib.ListN.{getD}
 use Rattle.language.specs.Names.{Spelling}
-use Rattle.spelling.proofs.Spells.{spelling-all, spelling-first, spelling-wrong, class-of, begunBy, first-byte}
+use Rattle.spelling.proofs.NamesLaws.{spelling-all, spelling-first, spelling-wrong, class-of, begunBy, first-byte}
 use Rattle.spelling.proofs.names.whole_name.Statement.{statement}
 use Rattle.spelling.proofs.names.whole_name.Tie as tie
 

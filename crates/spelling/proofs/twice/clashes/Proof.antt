@@ -1,16 +1,11 @@
 -- `spelling::twice::clashes`: a name equal to an earlier one has its hash, so that its chain has that one.
-use Prim.Native.Nat.{ℕ, _+_, _*_, _≤_, _<_}
-use mathlib.Core.Bool.{Bool, true, false, not, true≢false, false≢true}
-use mathlib.Core.List.{List}
-use mathlib.Core.Path.{_≡_, refl, sym, ap, _∙_}
+use Prim.Native.Nat.{_≤_}
+use mathlib.Core.Path.{sym, ap, _∙_}
 use native.Mathlib.Nat.{mul-le-mul-left}
 use native.Mathlib.Omega.{arith}
 use borrow.Author.Needs.{needs}
-use lib.ListN.{length, getD, set}
-use Rattle.spelling.specs.Hashes.{hashOf}
-use Rattle.spelling.specs.Chains.{Met, Kept, Added, fresh}
-use Rattle.spelling.proofs.InTable.{name as nameOf}
-use Rattle.spelling.proofs.Chaining.{added-empty, added-met, added-new}
+use lib.ListN.{length}
+use Rattle.spelling.proofs.TwiceLaws.{added-empty, added-met, added-new}
 use Rattle.spelling.proofs.twice.clashes.Statement.{statement}
 use Rattle.spelling.proofs.twice.clashes.Tie as tie
 

@@ -1,20 +1,18 @@
 -- The loop's invariant: the names passed are distinct, and the chains have them.
-use Prim.Native.Nat.{ℕ, _+_, _-_, _*_, _≤_}
-use mathlib.Core.Bool.{Bool, true, false, not, _&&_}
-use mathlib.Core.List.{List, _∷_, [], _++_}
+use Prim.Native.Nat.{ℕ, _-_, _≤_}
+use mathlib.Core.Bool.{true}
 use mathlib.Core.Path.{_≡_, refl, sym, ap, _∙_}
 use native.Mathlib.Omega.{arith}
-use borrow.Author.Needs.{needs}
 use Rattle.language.specs.Checking.{distinct}
 use Rattle.spelling.specs.Names.{namesIn}
-use Rattle.spelling.specs.Chains.{Kept, Added}
-use Rattle.spelling.proofs.InTable.{room}
-use Rattle.spelling.proofs.Chaining.{kept-first, distinct-on, distinct-off}
+use Rattle.spelling.specs.Chains.{ChainsKept}
+use Rattle.table.proofs.NamesLaws.{room}
+use Rattle.spelling.proofs.TwiceLaws.{kept-first, distinct-on, distinct-off}
 use Rattle.spelling.proofs.twice.distinct_names.Statement.{statement}
 use Rattle.spelling.proofs.twice.distinct_names.Tie as tie
 
 abbrev Inv-loop : tie.InvT-loop
-Inv-loop t at stride count last₀ before₀ i₀ last before i = (i ≤ count) × (distinct (namesIn t at stride i) ≡ true) × Kept t at stride i last before
+Inv-loop t at stride count last₀ before₀ i₀ last before i = (i ≤ count) × (distinct (namesIn t at stride i) ≡ true) × ChainsKept t at stride i last before
 
 abbrev μ-loop : tie.MeasureT-loop
 μ-loop t at stride count last₀ before₀ i₀ last before i = count - i

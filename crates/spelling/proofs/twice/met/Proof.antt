@@ -1,16 +1,16 @@
 -- The loop's invariant: a name of these bytes that the chain has is not passed yet.
-use Prim.Native.Nat.{ℕ, _+_, _-_, _*_, _≤_, _<_}
+use Prim.Native.Nat.{ℕ, _+_, _-_, _*_, _≤_}
 use mathlib.Core.Bool.{true, false, true≢false, false≢true}
 use mathlib.Core.List.{List}
-use mathlib.Core.Path.{_≡_, refl, sym, ap, _∙_}
+use mathlib.Core.Path.{_≡_, sym, ap, _∙_}
 use native.Mathlib.Omega.{arith}
 use borrow.Author.Needs.{needs}
-use lib.ListN.{getD}
 use Rattle.laws.specs.Lists.{same}
 use Rattle.laws.proofs.Joining.{is-not}
-use Rattle.spelling.specs.Chains.{Chained, Met}
-use Rattle.spelling.proofs.InTable.{room, name as nameOf}
-use Rattle.spelling.proofs.Chaining.{chain-some, chain-next}
+use Rattle.spelling.specs.Chains.{Chained}
+use Rattle.table.proofs.NamesLaws.{room}
+use Rattle.spelling.proofs.InTable.{name as nameOf}
+use Rattle.spelling.proofs.TwiceLaws.{chain-some, chain-next}
 use Rattle.spelling.proofs.twice.met.Statement.{statement}
 use Rattle.spelling.proofs.twice.met.Tie as tie
 

@@ -1,7 +1,7 @@
 -- `store::put_record` meets its contract: five stores, each where the one before ends. Assumes nothing.
 use Prim.Native.Nat.{_+_, _*_}
 use borrow.Author.Needs.{needs}
-use Rattle.store.proofs.Putting.{put-five}
+use Rattle.store.proofs.CellsLaws.{put-five}
 use Rattle.store.proofs.cells.put_record.Statement.{statement}
 use Rattle.store.proofs.cells.put_record.Tie as tie
 

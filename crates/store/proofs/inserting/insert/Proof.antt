@@ -3,7 +3,7 @@ use mathlib.Core.Path.{sym, _∙_}
 use native.Mathlib.Omega.{arith}
 use borrow.Author.Needs.{needs}
 use Rattle.store.proofs.Finding.{stands-yes}
-use Rattle.store.proofs.Keeping.{kept-over, kept-full, kept-between}
+use Rattle.store.proofs.InsertingLaws.{kept-over, kept-full, kept-between}
 use Rattle.store.proofs.inserting.insert.Statement.{statement}
 use Rattle.store.proofs.inserting.insert.Tie as tie
 

@@ -1,7 +1,7 @@
 -- `store::place` meets its contract: the place is one of `lo` and the next `left`, which are halved. Assumes nothing.
 use Prim.Native.Nat.{_+_}
 use native.Mathlib.Omega.{arith}
-use Rattle.store.proofs.Halving.{Between, all-of-them, halved, halves-meet}
+use Rattle.store.proofs.SearchLaws.{Between, all-of-them, halved, halves-meet}
 use Rattle.store.proofs.search.place.Statement.{statement}
 use Rattle.store.proofs.search.place.Tie as tie
 

@@ -1,6 +1,6 @@
 -- `store::at_least` meets its contract: each return is the case that its tests lead to. Assumes nothing.
 use native.Mathlib.Omega.{arith}
-use Rattle.store.proofs.Readings.{both-low, both-high, low-over-high, high-under-low}
+use Rattle.store.proofs.WinnerLaws.{both-low, both-high, low-over-high, high-under-low}
 use Rattle.store.proofs.winner.at_least.Statement.{statement}
 use Rattle.store.proofs.winner.at_least.Tie as tie
 

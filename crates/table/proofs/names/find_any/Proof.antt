@@ -10,7 +10,7 @@ use Rattle.laws.specs.Lists.{same}
 use Rattle.laws.proofs.Positions.{position-below}
 use Rattle.language.specs.Table.{nameAt}
 use Rattle.table.specs.Named.{isNamed, firstNamed}
-use Rattle.table.proofs.Tails.{room}
+use Rattle.table.proofs.NamesLaws.{room}
 use Rattle.table.proofs.names.find_any.Statement.{statement}
 use Rattle.table.proofs.names.find_any.Tie as tie
 

@@ -1,13 +1,13 @@
 -- The loop's invariant: no name passed is the one looked for, and k is where name i stands.
 use Prim.Native.Nat.{ℕ, _+_, _*_, _-_, _≤_, _<_}
 use mathlib.Core.Path.{_≡_}
-use mathlib.Core.Bool.{Bool, true, false}
+use mathlib.Core.Bool.{false}
 use native.Mathlib.Omega.{arith}
-use native.Mathlib.Nat.{mul-zero, add-zero}
+use native.Mathlib.Nat.{mul-zero}
 use borrow.Author.Count.{below-none, below-more}
 use Rattle.laws.proofs.Positions.{position-below}
 use Rattle.table.specs.Named.{isNamed, firstNamed}
-use Rattle.table.proofs.Tails.{room, step-on, named-at}
+use Rattle.table.proofs.NamesLaws.{room, step-on, named-at}
 use Rattle.table.proofs.names.find_long.Statement.{statement}
 use Rattle.table.proofs.names.find_long.Tie as tie
 

@@ -1,6 +1,5 @@
 -- Both ways to look a name up find the same.
 use native.Mathlib.Omega.{arith}
-use borrow.Author.Needs.{needs}
 use Rattle.table.proofs.names.find_name.Statement.{statement}
 use Rattle.table.proofs.names.find_name.Tie as tie
 

@@ -1,5 +1,5 @@
 -- Names whose last eight bytes differ are not the same.
-use mathlib.Core.Path.{_≡_, sym, ap, _∙_}
+use mathlib.Core.Path.{sym, ap, _∙_}
 use mathlib.Core.List.{List}
 use Prim.Native.Nat.{ℕ}
 use native.Mathlib.Omega.{arith}
@@ -7,7 +7,7 @@ use borrow.Author.Needs.{needs}
 use Rattle.laws.specs.Lists.{same}
 use Rattle.laws.proofs.Positions.{same-not}
 use Rattle.language.specs.Table.{nameAt}
-use Rattle.table.proofs.Tails.{tail-of}
+use Rattle.table.proofs.NamesLaws.{tail-of}
 use Rattle.table.proofs.names.is_long.Statement.{statement}
 use Rattle.table.proofs.names.is_long.Tie as tie
 

@@ -8,6 +8,7 @@ use lib.ListN.{length, length-set}
 use lib.Seq.{length-sets}
 use Rattle.table.proofs.stores.put_register.Statement.{statement}
 use Rattle.table.proofs.stores.put_register.Tie as tie
+use Rattle.language.specs.Table.{registerLength, registersOffset}
 
 pub put-register-spec : {M : Type 1} → statement M
 put-register-spec =
@@ -21,4 +22,4 @@ put-register-spec =
     (λ c κs. (omega arith, simp length-set (omega arith)))
     (λ c. ap length (c .before .before .put-name .ensures) ∙ simp (length-sets, length-set))
     (λ c. let args = c .before .before .before .before .before .before .args in
-    rw (← add-one (args .a + 73 + 66 * args .r)) (c .before .before .put-name .ensures)))
+    rw (← add-one (args .a + registersOffset + registerLength * args .r)) (c .before .before .put-name .ensures)))

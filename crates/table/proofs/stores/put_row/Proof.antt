@@ -7,6 +7,7 @@ use mathlib.Core.Path.{ap, _∙_}
 use lib.ListN.{length, length-set}
 use Rattle.table.proofs.stores.put_row.Statement.{statement}
 use Rattle.table.proofs.stores.put_row.Tie as tie
+use Rattle.language.specs.Table.{rowLength, rowsOffset}
 
 pub put-row-spec : {M : Type 1} → statement M
 put-row-spec =
@@ -29,5 +30,5 @@ put-row-spec =
     (λ c κs. simp length-set (omega arith))
     (λ c. ap length (c .before .before .put-eight .ensures) ∙ simp length-set)
     (λ c. let args = c .before .before .before .before .before .args in
-    let k = args .a + 21385 + 12 * args .r in
+    let k = args .a + rowsOffset + rowLength * args .r in
     rw (← add-four k, ← add-three k, ← add-two k, ← add-one k) (c .before .before .put-eight .ensures)))

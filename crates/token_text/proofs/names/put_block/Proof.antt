@@ -9,7 +9,7 @@ use Rattle.language.specs.Words.{words}
 use Rattle.language.specs.Writing.{bytesFor, blockToken}
 use Rattle.page.specs.Page.{puts}
 use Rattle.token_text.specs.Spaced.{spaced}
-use Rattle.token_text.proofs.Named.{named-token, block-given, block-entry, block-made}
+use Rattle.token_text.proofs.NamesLaws.{named-token, block-given, block-entry, block-made}
 use Rattle.token_text.proofs.names.put_block.Statement.{statement}
 use Rattle.token_text.proofs.names.put_block.Tie as tie
 

@@ -7,7 +7,7 @@ use lib.ListN.{length}
 use Rattle.language.specs.Tokens.{Token}
 use Rattle.page.specs.Page.{puts}
 use Rattle.token_text.specs.Spaced.{spaced}
-use Rattle.token_text.proofs.Named.{register-made, register-given}
+use Rattle.token_text.proofs.NamesLaws.{register-made, register-given}
 use Rattle.token_text.proofs.names.put_register.Statement.{statement}
 use Rattle.token_text.proofs.names.put_register.Tie as tie
 

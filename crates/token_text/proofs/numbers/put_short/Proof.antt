@@ -5,7 +5,7 @@ use Prim.Native.Nat.{ℕ, _+_, _/_, _%_, _<_, _≤_}
 use native.Mathlib.Omega.{arith}
 use borrow.Author.Needs.{needs}
 use Rattle.language.specs.Writing.{spaceByte}
-use Rattle.decimal.proofs.Tenths.{digits-one, digits-more}
+use Rattle.decimal.proofs.DigitsLaws.{digits-one, digits-more}
 use Rattle.page.specs.Page.{puts}
 use Rattle.token_text.proofs.numbers.put_short.Statement.{statement}
 use Rattle.token_text.proofs.numbers.put_short.Tie as tie

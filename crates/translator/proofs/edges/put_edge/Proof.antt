@@ -1,6 +1,5 @@
 -- The edge's place, its copies to new registers and to targets, its jump.
 use borrow.Author.Needs.{needs}
-use Prim.Native.Nat.{_+_, _*_}
 use mathlib.Core.Path.{_∙_}
 use native.Mathlib.Omega.{arith}
 use Rattle.translator.proofs.EdgesLaws.{edge-few, edge-long, edge-last, placed, jumped}

@@ -2,10 +2,10 @@
 use borrow.Author.Needs.{needs}
 use Prim.Native.Nat.{_+_, _*_}
 use native.Mathlib.Omega.{arith}
-use mathlib.Core.Path.{sym}
 use Rattle.translator.proofs.Lookups.{row-kept}
 use Rattle.translator.proofs.kept.keep_row.Statement.{statement}
 use Rattle.translator.proofs.kept.keep_row.Tie as tie
+use Rattle.language.specs.Table.{functionAt, rowLength, rowsOffset}
 
 pub keep-row-spec : {M : Type 1} → statement M
 keep-row-spec =
@@ -37,6 +37,6 @@ keep-row-spec =
     let s = i1 .before .before in
     let o = s .before in
     let args = o .before .before .before .before .before .args in
-    row-kept (args .t .now) (args .a) (args .m .now) (args .plan .now) (args .x) (args .r) (args .out .now) (p .put-row .last .0) (21386 + 12 * args .k)
+    row-kept (args .t .now) (args .a) (args .m .now) (args .plan .now) (args .x) (args .r) (args .out .now) (p .put-row .last .0) (functionAt 0 + rowsOffset + rowLength * args .k)
     (o .row-op .ensures) (s .shape-of .ensures) (i1 .before .row-target .ensures .0) (i1 .if-so .ensures .0) (i2 .before .row-left .ensures .0) (i2 .if-so2 .ensures .0)
     (i3 .before .row-right .ensures .0) (i3 .if-so3 .ensures .0) (n .operand .ensures) (p .put-row .ensures)))

@@ -1,5 +1,5 @@
 -- The loop's invariant: the first i rows are put down.
-use Prim.Native.Nat.{_-_, _+_, _≤_, _<_}
+use Prim.Native.Nat.{_-_, _+_, _≤_}
 use mathlib.Core.Path.{_≡_, refl, sym, ap, _∙_}
 use native.Mathlib.Nat.{add-zero}
 use native.Mathlib.Omega.{arith}
@@ -8,9 +8,10 @@ use Rattle.translator.specs.Source.{built}
 use Rattle.translator.proofs.KeptLaws.{kept-length, keeps-row, keeps-place, keeps-naming, keeps-one}
 use Rattle.translator.proofs.kept.keep_rows.Statement.{statement}
 use Rattle.translator.proofs.kept.keep_rows.Tie as tie
+use Rattle.language.specs.Table.{tableLength}
 
 abbrev Inv-loop : tie.InvT-loop
-Inv-loop t a m plan x r n out₀ k i₀ out i = (i ≤ n) × (length out ≡ length out₀) × (length out₀ ≡ 555153) × (out ≡ built t a (x + 1) (k + i))
+Inv-loop t a m plan x r n out₀ k i₀ out i = (i ≤ n) × (length out ≡ length out₀) × (length out₀ ≡ tableLength) × (out ≡ built t a (x + 1) (k + i))
 
 abbrev μ-loop : tie.MeasureT-loop
 μ-loop t a m plan x r n out₀ k i₀ out i = n - i

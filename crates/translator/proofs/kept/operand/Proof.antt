@@ -1,6 +1,5 @@
 -- Each kind is a case of `operandAs`.
 use borrow.Author.Needs.{needs}
-use Prim.Native.Nat.{_<_}
 use native.Mathlib.Omega.{arith}
 use Rattle.translator.proofs.Lookups.{of-load, of-block, of-blocks, of-none}
 use Rattle.translator.proofs.kept.operand.Statement.{statement}

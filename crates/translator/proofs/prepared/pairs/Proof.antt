@@ -10,11 +10,8 @@ pairs-spec =
     (tie.spec
     (λ c κs. search needs)
     (λ c. let args = c .before .before .before .args in pairs-none (args .m .now) (args .b) (c .before .phis .result) (c .before .phis .ensures .0) (c .if1 .taken))
-    (λ c. search needs)
-    (λ c. search needs)
-    (λ c. search needs)
     (λ c κs. search needs)
     (λ c.
-    let s = c .before .before .before in
+    let s = c .before .before in
     let args = s .before .before .args in
-    pairs-some (args .m .now) (args .b) (s .phis .result) (s .phis .ensures .0) (c .before .before .if1 .left) (c .number .ensures .0) (c .number .ensures .1)))
+    pairs-some (args .m .now) (args .b) (s .phis .result) (s .phis .ensures .0) (c .before .if1 .left) (c .incoming .ensures .0) (c .incoming .ensures .1)))

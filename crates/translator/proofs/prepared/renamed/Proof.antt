@@ -16,16 +16,11 @@ renamed-spec =
     (λ c. search needs)
     (λ c. search needs)
     (λ c κs. search needs)
-    (λ c. search needs)
-    (λ c. search needs)
-    (λ c. search needs)
-    (λ c. search needs)
-    (λ c. search needs)
     (λ c κs. search needs)
     (λ c. search needs)
     (λ c.
-    let p = c .before .before in
+    let p = c .before in
     let s = p .before .before .before in
     let args = s .before .before .before .args in
     renamed-so (args .m .now) (args .plan .now) (args .x) (args .k) (args .y) (s .phis .result) (s .phis .ensures .0) (p .before .before .if1 .left)
-    (p .number .result) (c .number2 .result) (p .number .ensures .0) (p .number .ensures .1) (c .number2 .ensures .0) (c .number2 .ensures .1)))
+    (p .number .result) (c .rank .result) (p .number .ensures .0) (p .number .ensures .1) (c .rank .ensures .0) (c .rank .ensures .1)))

@@ -5,14 +5,14 @@ use native.Mathlib.Numerals.{add-one}
 use native.Mathlib.Omega.{arith}
 use lib.ListN.{length}
 use denote.Ref.{now}
-use Rattle.language.specs.Table.{registerCount}
+use Rattle.language.specs.Table.{registerCount, tableLength}
 use Rattle.translator.specs.Source.{declared}
 use Rattle.translator.proofs.RegistersLaws.{length-declared, kept-short, one-kept}
 use Rattle.translator.proofs.registers.keep_registers.Statement.{statement}
 use Rattle.translator.proofs.registers.keep_registers.Tie as tie
 
 abbrev Inv-loop : tie.InvT-loop
-Inv-loop t a out₀ n r₀ out r = (n ≡ registerCount t a) × (r ≤ n) × (length out ≡ length out₀) × (length out₀ ≡ 555153) × (out ≡ declared t a r)
+Inv-loop t a out₀ n r₀ out r = (n ≡ registerCount t a) × (r ≤ n) × (length out ≡ length out₀) × (length out₀ ≡ tableLength) × (out ≡ declared t a r)
 
 abbrev μ-loop : tie.MeasureT-loop
 μ-loop t a out₀ n r₀ out r = n - r

@@ -7,7 +7,8 @@ use lib.ListN.{length}
 use Rattle.language.specs.Table.{blockCount, decodeFunction}
 use Rattle.language.specs.Translating.{newRegister}
 use Rattle.theorems.proofs.SimulationRows.{phisAt}
-use Rattle.translator.specs.Source.{declared, phisIn}
+use Rattle.flow.specs.Layout.{phisIn}
+use Rattle.translator.specs.Source.{declared}
 use Rattle.translator.proofs.SizesLaws.{phis-here}
 use Rattle.translator.proofs.RegistersLaws.{new-first, new-next, new-all, new-most}
 use Rattle.translator.proofs.registers.put_all_new.Statement.{statement}

@@ -4,9 +4,10 @@ use mathlib.Core.Path.{_≡_, refl, sym, ap, _∙_}
 use native.Mathlib.Nat.{add-zero}
 use native.Mathlib.Omega.{arith}
 use lib.ListN.{length, length-set}
-use Rattle.language.specs.Table.{registerType, blockFirst, rowTarget, decodeFunction}
+use Rattle.language.specs.Table.{registerType, blockFirst, rowTarget, decodeFunction, tableLength}
 use Rattle.theorems.proofs.SimulationRows.{phisAt}
-use Rattle.translator.specs.Source.{declared, phisIn}
+use Rattle.flow.specs.Layout.{phisIn}
+use Rattle.translator.specs.Source.{declared}
 use Rattle.translator.proofs.Items.{phi-within}
 use Rattle.translator.proofs.SizesLaws.{phis-here}
 use Rattle.translator.proofs.RegistersLaws.{length-new, new-most, one-new}
@@ -15,7 +16,7 @@ use Rattle.translator.proofs.registers.put_new.Tie as tie
 
 abbrev Inv-loop : tie.InvT-loop
 Inv-loop t a m y n out₀ p first i₀ out i =
-    (p ≡ length (phisAt (decodeFunction t a) y)) × (first ≡ blockFirst t a y) × (i ≤ p) × (n + p ≤ 256) × (length out ≡ length out₀) × (length out₀ ≡ 555153)
+    (p ≡ length (phisAt (decodeFunction t a) y)) × (first ≡ blockFirst t a y) × (i ≤ p) × (n + p ≤ 256) × (length out ≡ length out₀) × (length out₀ ≡ tableLength)
     × (out ≡ declared t a (n + i))
 
 abbrev μ-loop : tie.MeasureT-loop

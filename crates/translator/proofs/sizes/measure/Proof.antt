@@ -1,8 +1,7 @@
 -- The loop's invariant: the sizes of the first b blocks are counted.
-use Prim.Native.Nat.{_-_, _≤_}
-use mathlib.Core.Path.{_≡_, refl}
+use Prim.Native.Nat.{_-_}
+use mathlib.Core.Path.{_≡_}
 use native.Mathlib.Omega.{arith}
-use borrow.Author.Needs.{needs}
 use Rattle.language.specs.Table.{blockCount}
 use Rattle.translator.proofs.SizesLaws.{Measured, measured-none, measured-next, measured-all, product-small, fewer-phis}
 use Rattle.translator.proofs.sizes.measure.Statement.{statement}

@@ -3,7 +3,7 @@ use Prim.Native.Nat.{_-_, _<_}
 use mathlib.Core.Path.{_≡_, sym, _∙_}
 use native.Mathlib.Omega.{arith}
 use Rattle.language.specs.Table.{blockCount, decodeFunction}
-use Rattle.theorems.proofs.TableView.{block-count}
+use Rattle.language.proofs.TableView.{block-count}
 use Rattle.translator.proofs.Counting.{pairs-within, blocks-fit}
 use Rattle.translator.proofs.SizesLaws.{Planning, planning-none, planning-next, planning-all, pairs-here}
 use Rattle.translator.proofs.sizes.plan_edges.Statement.{statement}

@@ -1,9 +1,8 @@
 -- The head, the registers, the kept blocks and the edges, one section after the other.
 use borrow.Author.Needs.{needs}
 use mathlib.Core.Path.{ap, _∙_}
-use native.Mathlib.Omega.{arith}
 use lib.ListN.{length}
-use Rattle.language.specs.Table.{decodeFunction}
+use Rattle.language.specs.Table.{decodeFunction, tableLength}
 use Rattle.numbers.proofs.Zeros.{length-zeros}
 use Rattle.translator.proofs.SizesLaws.{registers-are, blocks-are, blocks-few}
 use Rattle.translator.proofs.RegistersLaws.{name-short, head-declared}
@@ -28,7 +27,7 @@ put-head-requires c κs =
       h .0 .sized .within,
       name-short (args .t .now) (args .a) (h .0),
       blocks-few (decodeFunction (args .t .now) (args .a)) (s .result) (s .ensures) (h .0 .fits),
-      ap length (h .1 .1) ∙ length-zeros 555153,
+      ap length (h .1 .1) ∙ length-zeros tableLength,
     )
 
 keep-registers-requires : tie.Need-keep-registers-requires

@@ -4,6 +4,7 @@ use Prim.Native.Nat.{_+_, _*_}
 use Rattle.reader.proofs.RowsLaws.{row-put}
 use Rattle.reader.proofs.state.Reader.put.Statement.{statement}
 use Rattle.reader.proofs.state.Reader.put.Tie as tie
+use Rattle.language.specs.Table.{rowLength, rowsOffset}
 
 pub put-spec : {M : Type 1} → statement M
 put-spec =
@@ -22,6 +23,6 @@ put-spec =
     let target = left .before in
     let shape = target .before in
     let a = c .before .before .before .before .before .before .before .before .before .before .args in
-    row-put (a .self) (a .t .now) (a .a + 21385 + 12 * a .r) (shape .shape-of .ensures) (target .if-so .ensures .0) (left .if-so2 .ensures .0) (right .if-so3 .ensures .0)
+    row-put (a .self) (a .t .now) (a .a + rowsOffset + rowLength * a .r) (shape .shape-of .ensures) (target .if-so .ensures .0) (left .if-so2 .ensures .0) (right .if-so3 .ensures .0)
     (c .before .before .before .operand .ensures)
     (c .before .before .put-row .ensures)))

@@ -1,7 +1,7 @@
 -- `reader::state::Reader::register_number`: a search among cells finds what a search among names finds.
 use borrow.Author.Needs.{needs}
 use mathlib.Core.Path.{_∙_}
-use Rattle.reader.proofs.RowsLaws.{register-found}
+use Rattle.reader.proofs.StateLaws.{register-found}
 use Rattle.reader.proofs.state.Reader.register_number.Statement.{statement}
 use Rattle.reader.proofs.state.Reader.register_number.Tie as tie
 

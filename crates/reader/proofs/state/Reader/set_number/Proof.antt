@@ -2,7 +2,8 @@
 use borrow.Author.Needs.{needs}
 use mathlib.Core.Path.{sym, _∙_}
 use borrow.Author.Tests.{not-true, not-false}
-use Rattle.reader.proofs.RowsLaws.{number-refused, number-proceeds, range-exact}
+use Rattle.laws.proofs.Tests.{of-true}
+use Rattle.reader.proofs.RowsLaws.{number-over, number-refused, number-proceeds}
 use Rattle.reader.proofs.state.Reader.set_number.Statement.{statement}
 use Rattle.reader.proofs.state.Reader.set_number.Tie as tie
 
@@ -11,14 +12,16 @@ set-number-spec =
     tie.close
     (tie.spec
     (λ c κs. search needs)
+    (λ c t n e. number-over (c .before .before .pre) _ _ _ _ (c .before .load-type .ensures) t n e (c .if1 .taken))
     (λ c κs. search needs)
     (λ c t n e.
-    let r = c .before .in-range in
-    number-refused (c .before .before .before .pre) _ _ _ _ (c .before .before .load-type .ensures) t n e (sym (r .ensures) ∙ not-true (r .result) (c .if1 .taken)))
+    let r = c .before .number-in-range in
+    number-refused (c .before .before .before .before .pre) _ _ _ _ (c .before .before .before .load-type .ensures) t n e (c .before .before .if1 .left)
+    (sym (r .ensures) ∙ not-true (r .result) (c .if2 .taken)))
     (λ c κs.
-    let a = c .before .before .before .args in
-    let r = c .before .in-range in
-    range-exact (c .before .before .load-type .result) (a .negative) (a .value) (a .over) (sym (r .ensures) ∙ not-false (r .result) (c .if1 .left)))
+    let r = c .before .number-in-range in
+    of-true _ (sym (r .ensures) ∙ not-false (r .result) (c .if2 .left)))
     (λ c t n e.
-    let r = c .before .before .in-range in
-    number-proceeds (c .before .before .before .before .pre) _ _ _ _ (c .before .before .before .load-type .ensures) t n e (sym (r .ensures) ∙ not-false (r .result) (c .before .if1 .left)) (c .bits-of .ensures)))
+    let r = c .before .before .number-in-range in
+    number-proceeds (c .before .before .before .before .before .pre) _ _ _ _ (c .before .before .before .before .load-type .ensures) t n e (c .before .before .before .if1 .left)
+    (sym (r .ensures) ∙ not-false (r .result) (c .before .if2 .left)) (c .bits-of .ensures)))

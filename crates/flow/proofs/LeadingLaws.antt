@@ -1,0 +1,86 @@
+-- The leading phi of a block, by the numbers of its rows, and of the blocks one by one.
+-- Assumes nothing.
+use mathlib.Core.Path.{_≡_, refl, sym, ap, _∙_}
+use mathlib.Core.Bool.{true}
+use mathlib.Core.List.{List, map}
+use Prim.Native.Nat.{ℕ, _+_, _-_, _≤_, _<_}
+use native.Mathlib.Nat.{not-suc-le-zero}
+use native.Mathlib.Omega.{arith}
+use lib.Dec.{eqb}
+use borrow.Author.Tests.{ne-eqb}
+use borrow.Author.Count.{below-more}
+use lib.ListN.{length, getD, set, length-set}
+use lib.Seq.{getD-set-same, getD-set-other}
+use Rattle.laws.specs.Lists.{from, leading}
+use Rattle.laws.proofs.Ranges.{length-map-from, getD-map-from}
+use Rattle.language.specs.Instructions.{phiOp}
+use Rattle.language.specs.Programs.{Func, Row, isPhi, maxBlocks}
+use Rattle.language.specs.Table.{blockCount, blockFirst, blockRows, rowOp, decodeRow, decodeBlock, decodeFunction}
+use Rattle.language.proofs.TableView.{block-is, phi-row}
+use Rattle.flow.specs.Layout.{phisOffset, ranksOffset, flowLength}
+use Rattle.flow.specs.Leading.{leadingPhis, Led}
+use Rattle.flow.proofs.Firsts.{leading-to, leading-all}
+
+-- ---- leading phi
+
+module _ (t : List ℕ) (a : ℕ) where
+  -- the rows of a block, as the code goes through them
+  module _ (first rows : ℕ) where
+    abbrev part : List Row
+    part = map (decodeRow t a) (from first rows)
+
+    phi-in : (i : ℕ) → i < rows → isPhi (getD part i Row.nop) ≡ eqb (rowOp t a (first + i)) phiOp
+    phi-in i l = ap isPhi (getD-map-from (decodeRow t a) Row.nop first rows i l) ∙ phi-row t a (first + i)
+
+    pub phis-to :
+        (j op : ℕ)
+        → j < rows
+        → ((i : ℕ) → i < j → eqb (rowOp t a (first + i)) phiOp ≡ true)
+        → op ≡ rowOp t a (first + j)
+        → (op ≡ phiOp → ⊥)
+        → (j ≡ length (leading isPhi part)) × (j ≤ rows)
+    phis-to j op l h p n = (
+      sym (leading-to isPhi part j Row.nop (rw (length-map-from (decodeRow t a) first rows) l) (λ i q. phi-in i (omega arith) ∙ h i q)
+          (phi-in j l ∙ ap (λ o. eqb o phiOp) (sym p) ∙ ne-eqb op phiOp n)),
+      omega arith,
+    )
+
+    pub phis-all : ((i : ℕ) → i < rows → eqb (rowOp t a (first + i)) phiOp ≡ true) → (rows ≡ length (leading isPhi part)) × (rows ≤ rows)
+    phis-all h =
+        let n : length part ≡ rows = length-map-from (decodeRow t a) first rows in
+        (sym (leading-all isPhi part Row.nop (λ i q. let q′ : i < rows = rw n at q in phi-in i q′ ∙ h i q′) ∙ n), omega arith)
+
+  pub leading-is : (b : ℕ) → b < blockCount t a → length (leading isPhi (part (blockFirst t a b) (blockRows t a b))) ≡ leadingPhis (decodeFunction t a) b
+  unfolding leadingPhis decodeBlock
+  leading-is b l = sym (ap (λ x. length (leading isPhi (x .rows))) (block-is t a b l))
+
+-- ---- put down block by block
+
+pub lead-is :
+    (t : List ℕ) (a b : ℕ) → b < blockCount t a → (first rows : ℕ) → first ≡ blockFirst t a b → rows ≡ blockRows t a b
+    → (v : ℕ)
+    → v ≡ length (leading isPhi (map (decodeRow t a) (from first rows)))
+    → v ≡ leadingPhis (decodeFunction t a) b
+lead-is t a b l first rows p q v e = e ∙ rw (p, q) (leading-is t a b l)
+
+pub none-led : (f : Func) (m : List ℕ) → Led f m m 0
+none-led f m = record { count = refl; phis = λ b q. absurd (not-suc-le-zero q); before = λ i q. refl; after = λ i. refl }
+
+-- one block more
+pub led-more :
+    (f : Func) (m m′ : List ℕ) (b v : ℕ)
+    → length m ≡ flowLength
+    → b < maxBlocks
+    → v ≡ leadingPhis f b
+    → Led f m m′ b
+    → Led f m (set m′ (phisOffset + b) v) (b + 1)
+led-more f m m′ b v n l e h =
+    record {
+      count = length-set m′ (phisOffset + b) v ∙ h .count;
+      phis =
+          below-more (λ x. getD (set m′ (phisOffset + b) v) (phisOffset + x) 0 ≡ leadingPhis f x) b
+          (λ x q. getD-set-other m′ (phisOffset + b) (phisOffset + x) v 0 (λ d. omega arith) ∙ h .phis x q)
+          (getD-set-same m′ (phisOffset + b) v 0 (omega (arith, h .count)) ∙ e);
+      before = λ i q. getD-set-other m′ (phisOffset + b) i v 0 (λ d. omega arith) ∙ h .before i q;
+      after = λ i. getD-set-other m′ (phisOffset + b) (ranksOffset + i) v 0 (λ d. omega arith) ∙ h .after i;
+    }
