@@ -14,21 +14,33 @@ pub const ENTRIES: usize = 1024;
 /// The longest name.
 pub const NAME: usize = 64;
 
-const FUNCTION: usize = 34_697;
-const REGISTER_SIZE: usize = 66;
-const BLOCK_SIZE: usize = 69;
-const ROW_SIZE: usize = 12;
+pub const REGISTER_SIZE: usize = 2 + NAME;
+pub const BLOCK_SIZE: usize = 5 + NAME;
+pub const ROW_SIZE: usize = 12;
+/// The cells of a function.
+pub const FUNCTION: usize = FIRST_ENTRY + ENTRIES;
 const FUNCTION_NAME: usize = 9;
-const FIRST_REGISTER: usize = 73;
-const FIRST_BLOCK: usize = 16_969;
-const FIRST_ROW: usize = 21_385;
-const FIRST_ENTRY: usize = 33_673;
+pub const FIRST_REGISTER: usize = FUNCTION_NAME + NAME;
+const FIRST_BLOCK: usize = FIRST_REGISTER + REGISTERS * REGISTER_SIZE;
+const FIRST_ROW: usize = FIRST_BLOCK + BLOCKS * BLOCK_SIZE;
+const FIRST_ENTRY: usize = FIRST_ROW + ROWS * ROW_SIZE;
 
-const _: () = assert!(TABLE == 555_153);
-const _: () = assert!(FIRST_BLOCK == FIRST_REGISTER + REGISTERS * REGISTER_SIZE);
-const _: () = assert!(FIRST_ROW == FIRST_BLOCK + BLOCKS * BLOCK_SIZE);
-const _: () = assert!(FIRST_ENTRY == FIRST_ROW + ROWS * ROW_SIZE);
-const _: () = assert!(FUNCTION == FIRST_ENTRY + ENTRIES);
+/// The cell where function i begins; the next four are those of a function that begins at this cell.
+pub const fn function_at(i: usize) -> usize {
+    1 + FUNCTION * i
+}
+pub const fn register_at(function: usize, r: usize) -> usize {
+    function + FIRST_REGISTER + REGISTER_SIZE * r
+}
+pub const fn block_at(function: usize, b: usize) -> usize {
+    function + FIRST_BLOCK + BLOCK_SIZE * b
+}
+pub const fn row_at(function: usize, k: usize) -> usize {
+    function + FIRST_ROW + ROW_SIZE * k
+}
+pub const fn entry_at(function: usize, e: usize) -> usize {
+    function + FIRST_ENTRY + e
+}
 
 /// A row as a place.
 pub fn place(function: usize, row: usize) -> u64 {

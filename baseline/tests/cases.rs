@@ -1,5 +1,6 @@
 //! Cases of document 01 and of its edges.
 
+use ial_baseline::table::{block_at, function_at, register_at, row_at};
 use ial_baseline::{check, listing, read, run, translate, Answer, Ran, TABLE};
 
 const TURN: &str = include_str!("../../examples/turn.ial");
@@ -229,10 +230,10 @@ fn a_translation_too_large_is_31() {
 #[test]
 fn tables_refused_by_number_and_place() {
     let source = table(&(TURN.to_string() + &TURN.replace(" turn(", " burn(")));
-    let register = |r: usize| 1 + 73 + 66 * r;
-    let block = |b: usize| 1 + 16_969 + 69 * b;
-    let row = |k: usize| 1 + 21_385 + 12 * k;
-    let second = 1 + 34_697;
+    let (first, second) = (function_at(0), function_at(1));
+    let register = |r: usize| register_at(first, r);
+    let block = |b: usize| block_at(first, b);
+    let row = |k: usize| row_at(first, k);
     let cases: Vec<(Vec<(usize, u8)>, Result<(), (u64, u64)>)> = vec![
         (vec![], Ok(())),
         (vec![(0, 17)], Err((9, 0))),
@@ -263,11 +264,11 @@ fn tables_refused_by_number_and_place() {
         (vec![(row(2) + 4, 4)], Err((9, 0))),
         (vec![(row(4) + 4, 0)], Err((9, 0))),
         (vec![(row(5) + 7, 4)], Err((9, 0))),
-        (vec![(second + 21_384 + 12 * 10 + 1, 36)], Err((9, 1))),
+        (vec![(row_at(second, 10), 36)], Err((9, 1))),
         (vec![(block(3) + 2, 0)], Err((10, 10))),
         (vec![(row(0), 35)], Err((10, 0))),
         (vec![(row(2), 0)], Err((10, 2))),
-        (vec![(second + 21_385 + 12 * 10, 35)], Err((11, 2048 + 10))),
+        (vec![(row_at(second, 10), 35)], Err((11, 2048 + 10))),
         (vec![(row(1) + 1, 6)], Err((12, 1))),
         (vec![(row(0), 30), (row(0) + 2, 2)], Err((13, 0))),
         (vec![(1, 0)], Err((13, 3))),
@@ -348,7 +349,7 @@ fn random_rows_are_answered() {
     for _ in 0..1_500 {
         let mut table = source.clone();
         for _ in 0..1 + random.below(4) {
-            let row = 1 + 21_385 + 12 * random.below(11);
+            let row = row_at(function_at(0), random.below(11));
             table[row] = random.below(36) as u8;
             (1..4).for_each(|cell| table[row + cell] = random.below(10) as u8);
             (4..6).for_each(|cell| table[row + cell] = random.below(4) as u8);

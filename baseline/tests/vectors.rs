@@ -2,6 +2,7 @@
 
 mod outside;
 
+use ial_baseline::table::{block_at, entry_at, function_at, register_at, row_at};
 use ial_baseline::{check, listing, read, run, translate, Ran, TABLE};
 use outside::{all, Expected};
 use std::fmt::Write;
@@ -58,7 +59,7 @@ fn dump(table: &[u8]) -> (String, Vec<bool>) {
 }
 
 fn dump_function(cells: &mut Cells, i: usize, text: &mut String) {
-    let at = 1 + 34_697 * i;
+    let at = function_at(i);
     let ssa = if cells.number(at, 1) == 1 { "ssa" } else { "plain" };
     let result = TYPES[cells.count(at + 1, 1)];
     let parameters = cells.count(at + 2, 2);
@@ -66,20 +67,20 @@ fn dump_function(cells: &mut Cells, i: usize, text: &mut String) {
     let blocks = cells.count(at + 6, 1);
     let entry = cells.count(at + 7, 1);
     let name = cells.name(at + 8);
-    let rows: usize = (0..blocks).map(|b| cells.count(at + 16_969 + 69 * b + 2, 2)).sum();
+    let rows: usize = (0..blocks).map(|b| cells.count(block_at(at, b) + 2, 2)).sum();
     writeln!(text, "function\t{i}\t{name}\t{ssa}\t{result}\tparams={parameters}\tregisters={registers}\tblocks={blocks}\trows={rows}\tentry={entry}").unwrap();
     for r in 0..registers {
-        let register = at + 73 + 66 * r;
+        let register = register_at(at, r);
         let kind = TYPES[cells.count(register, 1)];
         writeln!(text, "register\t{r}\t{kind}\t{}", cells.name(register + 1)).unwrap();
     }
     for b in 0..blocks {
-        let block = at + 16_969 + 69 * b;
+        let block = block_at(at, b);
         let (first, rows) = (cells.count(block, 2), cells.count(block + 2, 2));
         writeln!(text, "block\t{b}\t{}\t{first}\t{rows}", cells.name(block + 4)).unwrap();
     }
     for k in 0..rows {
-        let line = dump_row(cells, at, at + 21_385 + 12 * k);
+        let line = dump_row(cells, at, row_at(at, k));
         writeln!(text, "row\t{k}\t{line}").unwrap();
     }
 }
@@ -100,7 +101,7 @@ fn dump_row(cells: &mut Cells, function: usize, row: usize) -> String {
         31 => {
             let first = cells.count(row + 4, 2);
             let count = cells.count(row + 6, 2);
-            let entries = cells.bytes(function + 33_673 + first, count);
+            let entries = cells.bytes(entry_at(function, first), count);
             format!("registers {}", join(&entries.iter().map(|&e| u64::from(e)).collect::<Vec<_>>()))
         }
         32 => format!("blocks {}", cells.number(row + 4, 1)),
@@ -134,7 +135,7 @@ fn run_line(table: &[u8], fields: &[&str]) -> String {
         Ran::Stopped { number, place, steps } => ("stopped", 0, number, place, steps),
         Ran::Refused { number, place } => ("refused", 0, number, place, 0),
     };
-    let count = if kind == "refused" { 0 } else { Cells::of(table).count(1 + 34_697 * function as usize + 4, 2) };
+    let count = if kind == "refused" { 0 } else { Cells::of(table).count(function_at(function as usize) + 4, 2) };
     assert!(registers[count..].iter().all(|&value| value == 0), "cells past the registers");
     let registers = join(&registers[..count]);
     format!("{}\t{}\t{}\t{kind}\t{value}\t{number}\t{place}\t{steps}\t{registers}", fields[0], fields[1], fields[2])

@@ -2,18 +2,17 @@
 
 mod outside;
 
+use ial_baseline::table::{block_at, function_at, register_at};
 use ial_baseline::{check, listing, read, translate, write, Refusal, TABLE};
 use outside::{all, Expected};
 
-const FUNCTION: usize = 34_697;
-
 /// Where a name's length cell is.
 fn name_at(kind: &str, function: usize, index: usize) -> usize {
-    let at = 1 + FUNCTION * function;
+    let at = function_at(function);
     match kind {
         "function" => at + 8,
-        "register" => at + 73 + 66 * index + 1,
-        _ => at + 16_969 + 69 * index + 4,
+        "register" => register_at(at, index) + 1,
+        _ => block_at(at, index) + 4,
     }
 }
 

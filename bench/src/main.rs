@@ -7,21 +7,8 @@
 mod interpreters;
 mod merging;
 
-#[repr(C)]
-struct Answer {
-    number: u64,
-    place: u64,
-    value: u64,
-    steps: u64,
-}
-
-extern "C" {
-    fn ial_read(text: *const u8, text_len: usize, out: *mut u8, out_len: usize) -> Answer;
-    fn ial_check(table: *const u8, table_len: usize) -> Answer;
-    fn ial_run(t: *const u8, n: usize, f: u64, args: *const u64, k: usize, budget: u64, g: *mut u64, m: usize) -> Answer;
-    fn ial_translate(table: *const u8, n: usize, f: u64, out: *mut u8, m: usize) -> Answer;
-    fn ial_write(table: *const u8, n: usize, out: *mut u8, m: usize) -> Answer;
-}
+use ial::raw::{ial_check, ial_read, ial_run, ial_translate, ial_write};
+use ial_baseline::table::{function_at, FUNCTION, FUNCTIONS};
 
 fn verified_check(t: &[u8]) -> u64 {
     unsafe { ial_check(t.as_ptr(), t.len()) }.number
@@ -44,7 +31,7 @@ fn verified_translate(t: &[u8], out: &mut [u8]) -> u64 {
 /// 16 functions of 1,024 rows, 64 blocks and 256 registers: each block but the last has fifteen additions and goes on or back.
 fn large_table() -> Vec<u8> {
     let mut cells = vec![0u8; ial_baseline::TABLE];
-    for f in 0..16 {
+    for f in 0..FUNCTIONS {
         let mut s = format!("function uint64 large_{f}(uint64 a, uint64 n) {{ register uint more;");
         (0..253).for_each(|r| s += &format!("register uint64 r{r};"));
         for b in 0..64 {
@@ -54,10 +41,9 @@ fn large_table() -> Vec<u8> {
         }
         let mut one = vec![0u8; ial_baseline::TABLE];
         ial_baseline::read((s + "}").as_bytes(), &mut one).unwrap();
-        let size = (ial_baseline::TABLE - 1) / 16;
-        cells[1 + f * size..][..size].copy_from_slice(&one[1..1 + size]);
+        cells[function_at(f)..][..FUNCTION].copy_from_slice(&one[function_at(0)..][..FUNCTION]);
     }
-    cells[0] = 16;
+    cells[0] = FUNCTIONS as u8;
     cells
 }
 
@@ -112,7 +98,7 @@ fn write_texts(long: &str) {
         ial_baseline::translate(&table(text), 0, &mut t).unwrap();
         t
     };
-    let whole = 65_536;
+    let whole = ial::TEXT;
     let exact = plain_write(&table(TURN), &mut vec![0u8; whole]).1;
     let works = [
         ("the 64 KB text", table(long), whole, 2000),

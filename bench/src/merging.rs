@@ -2,20 +2,9 @@
 //! full stores joined.
 
 use crate::{race, race_on};
+use ::merge::raw::{merge_record, merge_records, merge_store};
 use ial_baseline::merge::{self, APPLIANCES, STORE};
 use ial_baseline::TABLE;
-
-#[repr(C)]
-struct Merged {
-    number: u64,
-    place: u64,
-}
-
-extern "C" {
-    fn merge_record(s: *mut u8, n: usize, t: *const u8, m: usize, f: u64, budget: u64, appliance: u64, time: u64, tablet: u64, reading: u64) -> Merged;
-    fn merge_records(s: *mut u8, n: usize, t: *const u8, m: usize, f: u64, budget: u64, numbers: *const u64, k: usize) -> Merged;
-    fn merge_store(s: *mut u8, n: usize, other: *const u8, m: usize) -> Merged;
-}
 
 /// Readings from -50 to 20 pass, in eight steps; those above take six.
 const LIMIT: &str = "function ssa uint limit(int64 reading) { register int64 most; register int64 least; register uint c; register uint d; register uint e;

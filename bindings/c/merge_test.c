@@ -1,22 +1,13 @@
 /* What the header says and no proof covers: the stack that each call needs, and that NULL will do for a length of 0.
- * Each call is made in a child, on a stack of just that size with a page below it that nobody may touch.
- * `merge_test measure` prints the least stack in KiB with which each call answers, for whoever sets the header's numbers. */
+ * `merge_test measure` prints the least stack in KiB with which each call answers. */
 #include "ial.h"
 #include "merge.h"
-
-#include <signal.h>
-#include <stdio.h>
-#include <string.h>
-#include <sys/mman.h>
-#include <sys/wait.h>
-#include <ucontext.h>
-#include <unistd.h>
+#include "stacks.h"
 
 enum { MANY = 4000, BUDGET = 1000 };
 
 static uint8_t text[IAL_TEXT], table[IAL_TABLE], store[MERGE_STORE], other[MERGE_STORE];
 static uint64_t numbers[4 * MANY];
-static uint64_t number, answered;
 
 /* Sixteen functions, of which the last is the limit, in a text of the largest size: its loop runs as often as the reading says, and it
  * returns 1 for readings that are not odd. */
@@ -36,103 +27,49 @@ static void write_text(void) {
 
 /* Each answer's number, and a second number that says something of what was done. */
 static void keep(merge_answer a) {
-    number = a.number;
-    answered = a.place;
+    answered[0] = a.number;
+    answered[1] = a.place;
 }
 
 static void empty(void) { keep(merge_empty(store, MERGE_STORE)); }
 static void record(void) {
     keep(merge_record(store, MERGE_STORE, table, IAL_TABLE, 15, BUDGET, 1, 9, 9, 3));
-    answered = merge_look(store, MERGE_STORE, 1).fail;
+    answered[1] = merge_look(store, MERGE_STORE, 1).fail;
 }
 static void record_full(void) { keep(merge_record(other, MERGE_STORE, table, IAL_TABLE, 15, BUDGET, 1, 9, 9, 3)); }
 static void records(void) {
     keep(merge_records(store, MERGE_STORE, table, IAL_TABLE, 15, BUDGET, numbers, 4 * MANY));
-    answered = merge_nth(store, MERGE_STORE, 1023).appliance;
+    answered[1] = merge_nth(store, MERGE_STORE, 1023).appliance;
 }
 static void records_full(void) { keep(merge_records(other, MERGE_STORE, table, IAL_TABLE, 15, BUDGET, numbers, 4 * MANY)); }
 static void records_short(void) { keep(merge_records(store, 8, table, IAL_TABLE, 15, BUDGET, numbers, 4 * MANY)); }
 static void join(void) {
     keep(merge_store(store, MERGE_STORE, other, MERGE_STORE));
-    answered = merge_nth(store, MERGE_STORE, 1023).appliance;
+    answered[1] = merge_nth(store, MERGE_STORE, 1023).appliance;
 }
 static void look(void) {
     merge_look_answer a = merge_look(other, MERGE_STORE, 2046);
-    number = a.number;
-    answered = a.time;
+    answered[0] = a.number;
+    answered[1] = a.time;
 }
 static void nth(void) {
     merge_look_answer a = merge_nth(other, MERGE_STORE, 1023);
-    number = a.number;
-    answered = a.appliance;
+    answered[0] = a.number;
+    answered[1] = a.appliance;
 }
 
-static const struct entry {
-    const char *name;
-    void (*call)(void);
-    size_t stack;
-    int least; /* whether a quarter of it is too little */
-    uint64_t number, answered;
-} entries[] = {
-    {"merge_empty", empty, MERGE_LOOK_STACK, 0, 0, 0},
-    {"merge_record", record, MERGE_RECORD_STACK, 1, 0, 1},
-    {"merge_record, store full", record_full, MERGE_RECORD_STACK, 1, 60, 0},
-    {"merge_records", records, MERGE_RECORDS_STACK, 1, 0, 3069},
-    {"merge_records, store full", records_full, MERGE_RECORDS_STACK, 1, 60, 0},
-    {"merge_records, store short", records_short, MERGE_RECORDS_STACK, 0, 22, 0},
-    {"merge_store", join, MERGE_STORE_STACK, 1, 0, 2046},
-    {"merge_look", look, MERGE_LOOK_STACK, 0, 0, 7},
-    {"merge_nth", nth, MERGE_LOOK_STACK, 0, 0, 2046},
+static const struct entry entries[] = {
+    {"merge_empty", empty, MERGE_LOOK_STACK, 0, {0, 0, 0}},
+    {"merge_record", record, MERGE_RECORD_STACK, 1, {0, 1, 0}},
+    {"merge_record, store full", record_full, MERGE_RECORD_STACK, 1, {60, 0, 0}},
+    {"merge_records", records, MERGE_RECORDS_STACK, 1, {0, 3069, 0}},
+    {"merge_records, store full", records_full, MERGE_RECORDS_STACK, 1, {60, 0, 0}},
+    {"merge_records, store short", records_short, MERGE_RECORDS_STACK, 0, {22, 0, 0}},
+    {"merge_store", join, MERGE_STORE_STACK, 1, {0, 2046, 0}},
+    {"merge_look", look, MERGE_LOOK_STACK, 0, {0, 7, 0}},
+    {"merge_nth", nth, MERGE_LOOK_STACK, 0, {0, 2046, 0}},
 };
-
-static ucontext_t here, there;
-
-/* Makes the call on a stack of so many bytes, and ends the child with 0 where it answers as it should. */
-static void call_on(const struct entry *e, size_t stack) {
-    uint8_t *room = mmap(NULL, 4096 + stack, PROT_READ | PROT_WRITE, MAP_PRIVATE | MAP_ANONYMOUS, -1, 0);
-    if (room == MAP_FAILED || mprotect(room, 4096, PROT_NONE) || getcontext(&there))
-        _exit(2);
-    there.uc_stack.ss_sp = room + 4096;
-    there.uc_stack.ss_size = stack;
-    there.uc_link = &here;
-    makecontext(&there, e->call, 0);
-    if (swapcontext(&here, &there))
-        _exit(2);
-    _exit(number == e->number && answered == e->answered ? 0 : 1);
-}
-
-/* How the child ended that made the call. */
-static int status_on(const struct entry *e, size_t stack) {
-    int status = 0;
-    pid_t child = fork();
-    if (child == 0)
-        call_on(e, stack);
-    return child > 0 && waitpid(child, &status, 0) == child ? status : -1;
-}
-
-/* The stated stack suffices, and a quarter of it does not where much is used: so the number says something. */
-static int stacks(void) {
-    int wrong = 0;
-    for (size_t i = 0; i < sizeof entries / sizeof *entries; i++) {
-        const struct entry *e = entries + i;
-        int enough = status_on(e, e->stack), short_of = e->least ? status_on(e, e->stack / 4) : SIGSEGV;
-        if (enough != 0 || !WIFSIGNALED(short_of) || WTERMSIG(short_of) != SIGSEGV) {
-            printf("%s: status %d on %zu bytes of stack, %d on a quarter\n", e->name, enough, e->stack, short_of);
-            wrong = 1;
-        }
-    }
-    return wrong;
-}
-
-static int measure(void) {
-    for (size_t i = 0; i < sizeof entries / sizeof *entries; i++) {
-        size_t kib = 4;
-        while (kib < 4096 && status_on(entries + i, kib * 1024) != 0)
-            kib += 4;
-        printf("%s: %zu\n", entries[i].name, kib);
-    }
-    return 0;
-}
+enum { ENTRIES = sizeof entries / sizeof *entries };
 
 static int is(const char *what, merge_answer a, uint64_t expected) {
     if (a.number == expected && a.place == 0)
@@ -193,6 +130,6 @@ int main(int argc, char **argv) {
     if (read.number != 0 || fill())
         return 1;
     if (argc == 2 && strcmp(argv[1], "measure") == 0)
-        return measure();
-    return stacks() | nulls();
+        return measure(entries, ENTRIES);
+    return stacks(entries, ENTRIES) | nulls();
 }

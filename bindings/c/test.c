@@ -1,19 +1,11 @@
 /* What the header says and no proof covers: the stack that each call needs, and that NULL will do for a length of 0.
- * Each call is made in a child, on a stack of just that size with a page below it that nobody may touch. */
+ * `test measure` prints the least stack in KiB with which each call answers. */
 #include "ial.h"
-
-#include <signal.h>
-#include <stdio.h>
-#include <string.h>
-#include <sys/mman.h>
-#include <sys/wait.h>
-#include <ucontext.h>
-#include <unistd.h>
+#include "stacks.h"
 
 static uint8_t text[IAL_TEXT], table[IAL_TABLE], halves[IAL_TABLE], output[IAL_TABLE + 1];
 static const uint8_t types[3] = {7, 7, 4};
 static uint64_t arguments[3] = {7, 9, 2}, registers[IAL_REGISTERS], each[12];
-static ial_answer answer;
 
 /* Sixteen functions, each with a loop and the longest number, in a text of the largest size. */
 static void write_text(void) {
@@ -35,84 +27,44 @@ static void write_text(void) {
 static const char half[] = "function uint64 half(uint64 a) { register uint64 two; register uint64 h; block entry { two = load.ui64 (2);"
                            " h = ari.div a, two; return h; } }";
 
-static void read_right(void) { answer = ial_read(text, sizeof text, output, IAL_TABLE); }
-static void read_longer(void) { answer = ial_read(text, sizeof text, output, IAL_TABLE + 1); }
-static void read_shorter(void) { answer = ial_read(text, sizeof text, output, IAL_TABLE - 1); }
-static void check(void) { answer = ial_check(table, IAL_TABLE); }
-static void run(void) { answer = ial_run(table, IAL_TABLE, 15, arguments, 3, 1000, registers, IAL_REGISTERS); }
-static void has_signature(void) { answer.value = ial_has_signature(table, IAL_TABLE, 15, 7, types, 3); }
-static void run_each(void) {
-    answer = ial_run_each(halves, IAL_TABLE, 0, arguments, 3, 1000, registers, IAL_REGISTERS, each, 12);
-    answer.value = each[2] * 10000 + each[6] * 100 + each[10];
-    answer.steps = each[3] + each[7] + each[11];
+/* An answer's number, value and steps. */
+static void keep(ial_answer a) {
+    answered[0] = a.number;
+    answered[1] = a.value;
+    answered[2] = a.steps;
 }
-static void translate(void) { answer = ial_translate(table, IAL_TABLE, 15, output, IAL_TABLE); }
-static void write_long(void) { answer = ial_write(table, IAL_TABLE, output, IAL_TEXT); }
-static void write_short(void) { answer = ial_write(table, IAL_TABLE, output, 100); }
+
+static void read_right(void) { keep(ial_read(text, sizeof text, output, IAL_TABLE)); }
+static void read_longer(void) { keep(ial_read(text, sizeof text, output, IAL_TABLE + 1)); }
+static void read_shorter(void) { keep(ial_read(text, sizeof text, output, IAL_TABLE - 1)); }
+static void check(void) { keep(ial_check(table, IAL_TABLE)); }
+static void run(void) { keep(ial_run(table, IAL_TABLE, 15, arguments, 3, 1000, registers, IAL_REGISTERS)); }
+static void has_signature(void) { answered[1] = ial_has_signature(table, IAL_TABLE, 15, 7, types, 3); }
+static void run_each(void) {
+    keep(ial_run_each(halves, IAL_TABLE, 0, arguments, 3, 1000, registers, IAL_REGISTERS, each, 12));
+    answered[1] = each[2] * 10000 + each[6] * 100 + each[10];
+    answered[2] = each[3] + each[7] + each[11];
+}
+static void translate(void) { keep(ial_translate(table, IAL_TABLE, 15, output, IAL_TABLE)); }
+static void write_long(void) { keep(ial_write(table, IAL_TABLE, output, IAL_TEXT)); }
+static void write_short(void) { keep(ial_write(table, IAL_TABLE, output, 100)); }
 
 /* The bytes of the table's text: 544 for each function, and the second digit of six names. */
 #define WRITTEN (16 * 544 + 6)
 
-static const struct entry {
-    const char *name;
-    void (*call)(void);
-    size_t stack;
-    uint64_t number, value, steps;
-} entries[] = {
-    {"ial_read", read_right, IAL_READ_STACK, 0, 0, 0},
-    {"ial_read, output longer", read_longer, IAL_READ_STACK, 22, 0, 0},
-    {"ial_read, output shorter", read_shorter, IAL_READ_SHORT_STACK, 22, 0, 0},
-    {"ial_check", check, IAL_CHECK_STACK, 0, 0, 0},
-    {"ial_run", run, IAL_RUN_STACK, 0, 7, 24},
-    {"ial_run_each", run_each, IAL_RUN_EACH_STACK, 0, 30401, 9},
-    {"ial_translate", translate, IAL_TRANSLATE_STACK, 0, 0, 0},
-    {"ial_write", write_long, IAL_WRITE_STACK, 0, WRITTEN, 0},
-    {"ial_write, buffer short", write_short, IAL_WRITE_STACK, 32, 0, 0},
+static const struct entry entries[] = {
+    {"ial_read", read_right, IAL_READ_STACK, 1, {0, 0, 0}},
+    {"ial_read, output longer", read_longer, IAL_READ_STACK, 1, {22, 0, 0}},
+    {"ial_read, output shorter", read_shorter, IAL_READ_SHORT_STACK, 1, {22, 0, 0}},
+    {"ial_check", check, IAL_CHECK_STACK, 1, {0, 0, 0}},
+    {"ial_has_signature", has_signature, IAL_SIGNATURE_STACK, 0, {0, 1, 0}},
+    {"ial_run", run, IAL_RUN_STACK, 1, {0, 7, 24}},
+    {"ial_run_each", run_each, IAL_RUN_EACH_STACK, 1, {0, 30401, 9}},
+    {"ial_translate", translate, IAL_TRANSLATE_STACK, 1, {0, 0, 0}},
+    {"ial_write", write_long, IAL_WRITE_STACK, 1, {0, WRITTEN, 0}},
+    {"ial_write, buffer short", write_short, IAL_WRITE_STACK, 1, {32, 0, 0}},
 };
-
-/* It needs so little that a quarter suffices as well. */
-static const struct entry small = {"ial_has_signature", has_signature, IAL_SIGNATURE_STACK, 0, 1, 0};
-
-static ucontext_t here, there;
-
-/* Makes the call on a stack of so many bytes, and ends the child with 0 where it answers as it should. */
-static void call_on(const struct entry *e, size_t stack) {
-    uint8_t *room = mmap(NULL, 4096 + stack, PROT_READ | PROT_WRITE, MAP_PRIVATE | MAP_ANONYMOUS, -1, 0);
-    if (room == MAP_FAILED || mprotect(room, 4096, PROT_NONE) || getcontext(&there))
-        _exit(2);
-    there.uc_stack.ss_sp = room + 4096;
-    there.uc_stack.ss_size = stack;
-    there.uc_link = &here;
-    makecontext(&there, e->call, 0);
-    if (swapcontext(&here, &there))
-        _exit(2);
-    _exit(answer.number == e->number && answer.value == e->value && answer.steps == e->steps ? 0 : 1);
-}
-
-/* How the child ended that made the call. */
-static int status_on(const struct entry *e, size_t stack) {
-    int status = 0;
-    pid_t child = fork();
-    if (child == 0)
-        call_on(e, stack);
-    return child > 0 && waitpid(child, &status, 0) == child ? status : -1;
-}
-
-/* The stated stack suffices, and a quarter of it does not: so the number says something. */
-static int stacks(void) {
-    int wrong = status_on(&small, small.stack) != 0;
-    if (wrong)
-        printf("%s on %zu bytes of stack\n", small.name, small.stack);
-    for (size_t i = 0; i < sizeof entries / sizeof *entries; i++) {
-        const struct entry *e = entries + i;
-        int enough = status_on(e, e->stack), short_of = status_on(e, e->stack / 4);
-        if (enough != 0 || !WIFSIGNALED(short_of) || WTERMSIG(short_of) != SIGSEGV) {
-            printf("%s: status %d on %zu bytes of stack, %d on a quarter\n", e->name, enough, e->stack, short_of);
-            wrong = 1;
-        }
-    }
-    return wrong;
-}
+enum { ENTRIES = sizeof entries / sizeof *entries };
 
 static int is(const char *what, ial_answer a, uint64_t number, uint64_t place) {
     if (a.number == number && a.place == place)
@@ -149,10 +101,12 @@ static int nulls(void) {
     return wrong;
 }
 
-int main(void) {
+int main(int argc, char **argv) {
     write_text();
     if (is("the text", ial_read(text, sizeof text, table, IAL_TABLE), 0, 0)
         || is("half", ial_read((const uint8_t *)half, sizeof half - 1, halves, IAL_TABLE), 0, 0))
         return 1;
-    return stacks() | nulls();
+    if (argc == 2 && strcmp(argv[1], "measure") == 0)
+        return measure(entries, ENTRIES);
+    return stacks(entries, ENTRIES) | nulls();
 }

@@ -1,36 +1,9 @@
 //! The verified library and the plain implementation behind one interface: an answer, and what was lent as it is afterwards.
 
+use ial::raw as c;
 use ial_baseline::{Answer, Refusal};
 
-mod c {
-    #[repr(C)]
-    pub struct Answer {
-        pub number: u64,
-        pub place: u64,
-        pub value: u64,
-        pub steps: u64,
-    }
-
-    extern "C" {
-        pub fn ial_read(text: *const u8, n: usize, out: *mut u8, m: usize) -> Answer;
-        pub fn ial_check(table: *const u8, n: usize) -> Answer;
-        pub fn ial_run(t: *const u8, n: usize, f: u64, args: *const u64, k: usize, budget: u64, g: *mut u64, m: usize) -> Answer;
-        pub fn ial_run_each(
-            t: *const u8,
-            n: usize,
-            f: u64,
-            args: *const u64,
-            k: usize,
-            budget: u64,
-            g: *mut u64,
-            m: usize,
-            out: *mut u64,
-            j: usize,
-        ) -> Answer;
-        pub fn ial_translate(table: *const u8, n: usize, f: u64, out: *mut u8, m: usize) -> Answer;
-        pub fn ial_write(table: *const u8, n: usize, out: *mut u8, m: usize) -> Answer;
-    }
-}
+const _: () = assert!(ial::TABLE == ial_baseline::TABLE);
 
 fn answer(a: c::Answer) -> Answer {
     Answer { number: a.number, place: a.place, value: a.value, steps: a.steps }

@@ -9,12 +9,9 @@ mod stores;
 mod texts;
 mod writings;
 
-use ial_baseline::table::Function;
+use ial_baseline::table::{block_at, entry_at, function_at, register_at, row_at, Function, BLOCK_SIZE, FIRST_REGISTER, FUNCTIONS, REGISTER_SIZE, ROW_SIZE};
 use ial_baseline::{Answer, TABLE};
 use rng::Rng;
-
-/// The cells of a function.
-const FUNCTION: usize = (TABLE - 1) / 16;
 
 /// Two tables that hold the same rubbish, and how often each number was answered.
 struct Bench {
@@ -143,7 +140,7 @@ impl Bench {
 /// The largest argument of each parameter of a function, if there is such a function.
 fn params(table: &[u8], f: u64) -> Vec<u64> {
     let Ok(cells) = <&[u8; TABLE]>::try_from(table) else { return vec![] };
-    if f >= u64::from(cells[0]).min(16) {
+    if f >= u64::from(cells[0]).min(FUNCTIONS as u64) {
         return vec![];
     }
     let function = Function::of(cells, f as usize);
@@ -162,32 +159,47 @@ fn disturb(table: &mut Vec<u8>, rng: &mut Rng) {
         return table.resize(if rng.once_in(2) { n + 1 } else { n - 1 }, 0);
     }
     for _ in 0..1 + rng.below(3) {
-        let f = 1 + FUNCTION * rng.below(3);
+        let f = function_at(rng.below(3));
         let at = match rng.below(8) {
             0 => rng.below(table.len()),
             1 => rng.below(2),
-            2 => f + rng.below(73),
-            3 => f + 73 + rng.below(66 * 24),
-            4 => f + 16_969 + rng.below(69 * 8),
-            5 => f + 33_673 + rng.below(24),
-            _ => f + 21_385 + rng.below(12 * 48),
+            2 => f + rng.below(FIRST_REGISTER),
+            3 => register_at(f, 0) + rng.below(REGISTER_SIZE * 24),
+            4 => block_at(f, 0) + rng.below(BLOCK_SIZE * 8),
+            5 => entry_at(f, rng.below(24)),
+            _ => row_at(f, 0) + rng.below(ROW_SIZE * 48),
         };
         let at = at.min(table.len() - 1);
         table[at] = if rng.once_in(3) { rng.next() as u8 } else { rng.below(40) as u8 };
     }
 }
 
-fn main() {
-    let mut words = std::env::args().skip(1).map(|w| w.parse::<u64>().expect("rounds and first round are numbers"));
-    let rounds = words.next().unwrap_or(6_000);
-    let first = words.next().unwrap_or(0);
+/// These rounds; how often each number was answered. A difference ends the program.
+fn rounds(numbers: impl Iterator<Item = u64>) -> [u64; 64] {
     let mut bench = Bench { one: vec![], two: vec![], seen: [0; 64] };
-    for round in first..first + rounds {
+    for round in numbers {
         if let Err(what) = bench.round(&mut Rng::new(round + 1)) {
             println!("round {round}: {what}");
             std::process::exit(1);
         }
     }
-    let seen: Vec<String> = (0..64).filter(|&n| bench.seen[n] > 0).map(|n| format!("{n}: {}", bench.seen[n])).collect();
-    println!("{rounds} rounds agree; answers by number: {}", seen.join(", "));
+    bench.seen
+}
+
+fn main() {
+    let mut words = std::env::args().skip(1).map(|w| w.parse::<u64>().expect("rounds and first round are numbers"));
+    let count = words.next().unwrap_or(6_000);
+    let first = words.next().unwrap_or(0);
+    let threads = std::thread::available_parallelism().map_or(1, usize::from);
+    let mut seen = [0; 64];
+    std::thread::scope(|scope| {
+        let part = |t: usize| scope.spawn(move || rounds((first..first + count).skip(t).step_by(threads)));
+        let parts: Vec<_> = (0..threads).map(part).collect();
+        for part in parts {
+            let more = part.join().expect("no call panics");
+            (0..64).for_each(|n| seen[n] += more[n]);
+        }
+    });
+    let seen: Vec<String> = (0..64).filter(|&n| seen[n] > 0).map(|n| format!("{n}: {}", seen[n])).collect();
+    println!("{count} rounds agree; answers by number: {}", seen.join(", "));
 }

@@ -1,36 +1,10 @@
 //! The verified merge and the plain one behind one interface: an answer's number, and the store as it is afterwards.
 
+use ::merge::raw as c;
 use ial_baseline::merge::{self, Record};
 use ial_baseline::Refusal;
 
-mod c {
-    #[repr(C)]
-    pub struct Merged {
-        pub number: u64,
-        pub place: u64,
-    }
-
-    #[repr(C)]
-    #[derive(Debug, Default, PartialEq, Eq)]
-    pub struct Look {
-        pub number: u64,
-        pub found: u64,
-        pub appliance: u64,
-        pub time: u64,
-        pub fail: u64,
-        pub tablet: u64,
-        pub reading: u64,
-    }
-
-    extern "C" {
-        pub fn merge_empty(s: *mut u8, n: usize) -> Merged;
-        pub fn merge_record(s: *mut u8, n: usize, t: *const u8, m: usize, f: u64, budget: u64, appliance: u64, time: u64, tablet: u64, reading: u64) -> Merged;
-        pub fn merge_records(s: *mut u8, n: usize, t: *const u8, m: usize, f: u64, budget: u64, numbers: *const u64, k: usize) -> Merged;
-        pub fn merge_store(s: *mut u8, n: usize, other: *const u8, m: usize) -> Merged;
-        pub fn merge_look(s: *const u8, n: usize, appliance: u64) -> Look;
-        pub fn merge_nth(s: *const u8, n: usize, i: u64) -> Look;
-    }
-}
+const _: () = assert!(::merge::STORE == merge::STORE);
 
 /// The function that gives verdicts, and its budget.
 #[derive(Clone, Copy)]

@@ -1,22 +1,20 @@
 //! Names that writing may have to make or to pass by, and the table that a text read back must give.
 
 use crate::rng::Rng;
-use ial_baseline::table::{Function, FunctionMut, Row, Table};
+use ial_baseline::table::{block_at, function_at, register_at, Function, FunctionMut, Row, Table};
 use ial_baseline::TABLE;
 use std::collections::HashSet;
 
 /// The longest text.
-pub const LONGEST: usize = 65_536;
-
-const FUNCTION: usize = (TABLE - 1) / 16;
+pub const LONGEST: usize = ial::TEXT;
 
 /// The length cell of the name of register or block i of function f.
 fn register_name(f: usize, i: usize) -> usize {
-    1 + FUNCTION * f + 74 + 66 * i
+    register_at(function_at(f), i) + 1
 }
 
 fn block_name(f: usize, i: usize) -> usize {
-    1 + FUNCTION * f + 16_973 + 69 * i
+    block_at(function_at(f), i) + 4
 }
 
 fn set_name(table: &mut [u8], at: usize, name: &[u8]) {

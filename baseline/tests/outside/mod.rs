@@ -1,15 +1,10 @@
-//! Where the outside vectors are, and how their expected answers are read.
-//!
-//! They are looked for in `IAL_VECTORS`, else in `shared/vectors` beside the repository or one folder further up.
+//! Where the outside vectors are, and how their expected answers are read: those in vectors/, or in the folder that IAL_VECTORS names.
 
 use std::path::{Path, PathBuf};
 
-fn folder() -> Option<PathBuf> {
-    if let Some(path) = std::env::var_os("IAL_VECTORS") {
-        return Some(PathBuf::from(path)).filter(|path| path.is_dir());
-    }
-    let root = Path::new(env!("CARGO_MANIFEST_DIR")).join("..");
-    ["../shared/vectors", "../../shared/vectors"].iter().map(|path| root.join(path)).find(|path| path.is_dir())
+fn folder() -> PathBuf {
+    let own = Path::new(env!("CARGO_MANIFEST_DIR")).join("../vectors");
+    std::env::var_os("IAL_VECTORS").map_or(own, PathBuf::from)
 }
 
 /// The rest of an expected answer.
@@ -34,11 +29,7 @@ impl<'a> Expected<'a> {
 
 /// Tries each text of a folder of vectors with its expected answer; `vector` panics where they differ, and counts what it compared.
 pub fn all(part: &str, vector: impl Fn(&[u8], &[u8]) -> usize + std::panic::RefUnwindSafe) {
-    let Some(folder) = folder().map(|folder| folder.join(part)).filter(|folder| folder.is_dir()) else {
-        eprintln!("no vectors found: skipped (set IAL_VECTORS)");
-        return;
-    };
-    let mut paths: Vec<PathBuf> = std::fs::read_dir(folder).unwrap().map(|entry| entry.unwrap().path()).collect();
+    let mut paths: Vec<PathBuf> = std::fs::read_dir(folder().join(part)).unwrap().map(|entry| entry.unwrap().path()).collect();
     paths.retain(|path| path.extension().is_some_and(|extension| extension == "ial"));
     paths.sort();
     let mut failed = Vec::new();
@@ -52,5 +43,5 @@ pub fn all(part: &str, vector: impl Fn(&[u8], &[u8]) -> usize + std::panic::RefU
         }
     }
     println!("{} vectors, {compared} lines compared", paths.len());
-    assert!(failed.is_empty(), "vectors that differ: {failed:?}");
+    assert!(failed.is_empty() && !paths.is_empty(), "vectors that differ: {failed:?}");
 }

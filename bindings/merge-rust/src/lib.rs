@@ -21,9 +21,12 @@
 //! A call needs free stack, since the library has no heap: [`RECORD_STACK`], [`RECORDS_STACK`], [`JOIN_STACK`] and [`LOOK_STACK`] say how much. Give a
 //! thread that calls it some KiB more for itself.
 
+pub mod raw;
 mod refused;
 
 pub use refused::Refused;
+
+use raw::*;
 
 /// The bytes of a store.
 pub const STORE: usize = 40_968;
@@ -42,52 +45,6 @@ pub const JOIN_STACK: usize = 64 * 1024;
 
 /// The same for [`Store::empty`], [`Store::from_bytes`], [`Store::look`] and each step of [`Store::iter`].
 pub const LOOK_STACK: usize = 16 * 1024;
-
-#[repr(C)]
-struct Answer {
-    number: u64,
-    place: u64,
-}
-
-#[repr(C)]
-struct LookAnswer {
-    number: u64,
-    found: u64,
-    appliance: u64,
-    time: u64,
-    fail: u64,
-    tablet: u64,
-    reading: u64,
-}
-
-extern "C" {
-    fn merge_empty(store: *mut u8, store_length: usize) -> Answer;
-    fn merge_record(
-        store: *mut u8,
-        store_length: usize,
-        table: *const u8,
-        table_length: usize,
-        function: u64,
-        budget: u64,
-        appliance: u64,
-        time: u64,
-        tablet: u64,
-        reading: u64,
-    ) -> Answer;
-    fn merge_records(
-        store: *mut u8,
-        store_length: usize,
-        table: *const u8,
-        table_length: usize,
-        function: u64,
-        budget: u64,
-        numbers: *const u64,
-        number_count: usize,
-    ) -> Answer;
-    fn merge_store(store: *mut u8, store_length: usize, other: *const u8, other_length: usize) -> Answer;
-    fn merge_look(store: *const u8, store_length: usize, appliance: u64) -> LookAnswer;
-    fn merge_nth(store: *const u8, store_length: usize, n: u64) -> LookAnswer;
-}
 
 impl Answer {
     fn done(self) -> Result<(), Refused> {
@@ -219,7 +176,7 @@ fn zeroed() -> Box<[u8; STORE]> {
     vec![0; STORE].into_boxed_slice().try_into().unwrap()
 }
 
-impl LookAnswer {
+impl Look {
     fn record(self) -> Option<Record> {
         let test = Test { appliance: self.appliance, time: self.time, tablet: self.tablet, reading: self.reading as i64 };
         let verdict = if self.fail == 0 { Verdict::Pass } else { Verdict::Fail };
@@ -271,7 +228,7 @@ mod tests {
     use super::*;
     use std::ptr::{null, null_mut};
 
-    fn numbers(a: LookAnswer) -> [u64; 7] {
+    fn numbers(a: Look) -> [u64; 7] {
         [a.number, a.found, a.appliance, a.time, a.fail, a.tablet, a.reading]
     }
 

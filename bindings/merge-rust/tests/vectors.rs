@@ -1,9 +1,5 @@
-//! Outside vectors of the merge, some of each of ten kinds; MERGE_VECTORS names another folder of them.
-//!
-//! A vector is the text of a limit function (`NNNN.ial`) and a history of calls with their answers (`NNNN.expect`), fields parted by tabs.
-//! Stores are numbered, and empty at first. `record` store function budget appliance time tablet reading number place verdict;
-//! `merge` store other number place; `look` store appliance `none`, or store appliance time tablet reading verdict; `store` store N, then N
-//! lines appliance time tablet reading verdict: all that it holds, by rising appliance.
+//! Outside vectors of the merge, some of each of ten kinds: the text of a limit function and a history of calls, as vectors/README.md has them.
+//! IAL_VECTORS names another folder laid out like vectors/.
 
 use merge::{Limit, Record, Refused, Store, Test, Verdict, STORE};
 use std::collections::HashMap;
@@ -109,8 +105,8 @@ fn vector(text: &[u8], answers: &str) -> usize {
 
 #[test]
 fn all_vectors() {
-    let own = Path::new(env!("CARGO_MANIFEST_DIR")).join("tests/vectors");
-    let folder = std::env::var_os("MERGE_VECTORS").map_or(own, PathBuf::from);
+    let own = Path::new(env!("CARGO_MANIFEST_DIR")).join("../../vectors");
+    let folder = std::env::var_os("IAL_VECTORS").map_or(own, PathBuf::from).join("requests/a8");
     let mut paths: Vec<PathBuf> = std::fs::read_dir(folder).unwrap().map(|entry| entry.unwrap().path()).collect();
     paths.retain(|path| path.extension().is_some_and(|extension| extension == "ial"));
     paths.sort();

@@ -13,9 +13,12 @@
 //! A call needs free stack, since the library has no heap: [`READ_STACK`], [`CHECK_STACK`], [`SIGNATURE_STACK`], [`RUN_STACK`], [`RUN_EACH_STACK`],
 //! [`TRANSLATE_STACK`] and [`WRITE_STACK`] say how much. Give a thread that calls it some KiB more for itself: `std::thread::Builder::new().stack_size(ial::READ_STACK + 16 * 1024)`.
 
+pub mod raw;
 mod refused;
 
 pub use refused::Refused;
+
+use raw::*;
 
 /// The bytes of a table.
 pub const TABLE: usize = 555_153;
@@ -47,51 +50,6 @@ pub const TRANSLATE_STACK: usize = 16 * 1024;
 
 /// The same for [`Table::write`] and [`Table::write_into`].
 pub const WRITE_STACK: usize = 16 * 1024;
-
-#[repr(C)]
-struct Answer {
-    number: u64,
-    place: u64,
-    value: u64,
-    steps: u64,
-}
-
-extern "C" {
-    fn ial_read(text: *const u8, text_length: usize, table: *mut u8, table_length: usize) -> Answer;
-    fn ial_check(table: *const u8, table_length: usize) -> Answer;
-    fn ial_has_signature(
-        table: *const u8,
-        table_length: usize,
-        function: u64,
-        result: u8,
-        types: *const u8,
-        type_count: usize,
-    ) -> u64;
-    fn ial_run(
-        table: *const u8,
-        table_length: usize,
-        function: u64,
-        arguments: *const u64,
-        argument_count: usize,
-        budget: u64,
-        registers: *mut u64,
-        register_count: usize,
-    ) -> Answer;
-    fn ial_run_each(
-        table: *const u8,
-        table_length: usize,
-        function: u64,
-        arguments: *const u64,
-        argument_count: usize,
-        budget: u64,
-        registers: *mut u64,
-        register_count: usize,
-        output: *mut u64,
-        output_count: usize,
-    ) -> Answer;
-    fn ial_translate(table: *const u8, table_length: usize, function: u64, output: *mut u8, output_length: usize) -> Answer;
-    fn ial_write(table: *const u8, table_length: usize, buffer: *mut u8, buffer_length: usize) -> Answer;
-}
 
 impl Answer {
     /// The value, if it was not refused; only for calls that do not stop.

@@ -1,7 +1,8 @@
 """Runs made by document 01: 20, 21 and 22 with their order, budgets, and anything in the cells that are not needed."""
+from .layout import TABLE
 from .papers import TURN, TURNS, jump, one_instruction, turn_registers
 from .programs import Function, Row, dump, text, translation
-from .script import CELLS, TABLE, Script, ran
+from .script import CELLS, Script, ran
 from .tables import cells, gaps
 
 LAST = 2**64 - 1

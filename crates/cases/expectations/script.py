@@ -1,6 +1,6 @@
 """A script of calls for the program `cases`, with what it must print for each. src/records.rt has the layout."""
+from .layout import TABLE
 
-TABLE = 555153
 CELLS = 300
 TEXT = 65536
 PAGE = 65600  # the most bytes lent for a text
@@ -68,14 +68,13 @@ class Script:
         words = f'refused {refused[0]} at {refused[1]}' if refused else f'wrote {len(text)}'
         self.add(SHOW_TRANSLATED if translated else SHOW, label, words.encode() + b', text right\n', b'', b'' if refused else text, source, lent=lent)
 
-    def write(self, path):
+    def data(self):
+        """The script's file."""
         base = 8 + 88 * len(self.records)
         out = numbers([len(self.records)])
         for kind, label, source, function, budget, lent, given, want in self.records:
             out += numbers([kind, base + label[0], label[1], source, function, budget, lent, base + given[0], given[1],
                             base + want[0], want[1]])
         out += self.blob
-        assert len(out) <= 262144, (path, len(out))
-        with open(path, 'wb') as f:
-            f.write(out)
-        return self.printed
+        assert len(out) <= 262144, len(out)
+        return out

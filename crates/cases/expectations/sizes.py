@@ -1,7 +1,8 @@
 """Texts made by document 01: each size at its limit and one past, and outputs of other lengths than a table's."""
+from .layout import TABLE
 from .programs import Function, Row, dump, text
 from .runs import LEAVE
-from .script import TABLE, Script
+from .script import Script
 from .tables import cells
 
 

@@ -1,10 +1,10 @@
-"""The cells of a table, by docs/TABLE.md, from the lines of a dump as the outside vectors have them."""
+"""The cells of a table from the lines of a dump as the outside vectors have them."""
+from .layout import NAME_OFFSET, TABLE, block_at, entry_at, function_at, register_at, row_at
 
 TYPES = 'int8 int16 int32 int64 uint8 uint16 uint32 uint64 int uint void'.split()
 INSTRUCTIONS = ('nop load.i8 load.ui8 load.i16 load.ui16 load.i32 load.ui32 load.i64 load.ui64 ari.add ari.sub ari.mul ari.div ari.rem '
                 'ari.neg bit.and bit.or bit.xor bit.neg shl shr rol ror cmp.eq cmp.neq cmp.gt cmp.lt cmp.gteq cmp.lteq conv copy phi '
                 'jump jump.cond return leave').split()
-LENGTH, FUNCTION = 555153, 34697
 
 
 def two(n):
@@ -26,17 +26,17 @@ def needed(lines):
     for line in lines:
         p = line.split('\t')
         if p[0] == 'function':
-            a, entries = 1 + FUNCTION * functions, 0
+            a, entries = function_at(functions), 0
             functions += 1
             n = {k: int(v) for k, v in (x.split('=') for x in p[5:])}
             put(a, int(p[3] == 'ssa'), TYPES.index(p[4]), *two(n['params']), *two(n['registers']), n['blocks'], n['entry'])
-            name(a + 8, p[2])
+            name(a + NAME_OFFSET, p[2])
         elif p[0] == 'register':
-            k = a + 73 + 66 * int(p[1])
+            k = register_at(a, int(p[1]))
             put(k, TYPES.index(p[2]))
             name(k + 1, p[3])
         elif p[0] == 'block':
-            k = a + 16969 + 69 * int(p[1])
+            k = block_at(a, int(p[1]))
             put(k, *two(int(p[3])), *two(int(p[4])))
             name(k + 4, p[2])
         else:
@@ -47,7 +47,7 @@ def needed(lines):
 
 def put_row(put, a, p, entries):
     """A row's cells, where so many phi entries came before; how many it has."""
-    k = a + 21385 + 12 * int(p[1])
+    k = row_at(a, int(p[1]))
     put(k, INSTRUCTIONS.index(p[2]))
     if p[3] != '-':
         put(k + 1, int(p[3]))
@@ -61,7 +61,7 @@ def put_row(put, a, p, entries):
     elif kind == 'registers':
         es = list(map(int, operand.split(',')))
         put(k + 4, *two(entries), *two(len(es)))
-        put(a + 33673 + entries, *es)
+        put(entry_at(a, entries), *es)
         return len(es)
     return 0
 
@@ -74,7 +74,7 @@ def cells(lines):
 def gaps(lines):
     """Where cells that are not needed begin and end."""
     out, at = [], 0
-    for k in sorted(needed(lines)) + [LENGTH]:
+    for k in sorted(needed(lines)) + [TABLE]:
         if at < k:
             out.append((at, k))
         at = k + 1

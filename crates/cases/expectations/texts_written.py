@@ -1,10 +1,11 @@
 """Tables written as text, by document 02's A1: the forms of its lines, numbers, made names, buffers, refusals, and the limit of a text."""
 from dataclasses import replace
 
+from .layout import TABLE, function_at
 from .papers import TURN, jump
 from .programs import Function, Row, dump, text, translation
 from .runs import LEAVE, NONE
-from .script import PAGE, TABLE, TEXT, Script
+from .script import PAGE, TEXT, Script
 from .tables import cells, gaps
 from .translations import phi_function
 from .writing import named, written
@@ -200,7 +201,7 @@ def refusals(script):
         script.show(' ', b'', (number, 2048 + row))
         script.show(' no byte lent ', b'', (number, 2048 + row), lent=0)
     script.read('9 in the second function: ', text([NONE, TURN]), cells(dump([NONE, TURN])))
-    script.put([(1 + 34697, 2)])
+    script.put([(function_at(1), 2)])
     script.show(' ', b'', (9, 1))
     script.show(' no byte lent ', b'', (9, 1), lent=0)
 

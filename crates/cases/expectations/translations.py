@@ -1,8 +1,9 @@
 """Translations made by document 01: 21, 30, 31 and 22 with their order, each size of 31 at its limit and one past."""
+from .layout import TABLE
 from .papers import TURN, jump
 from .programs import Function, Row, dump, translation
 from .runs import LAST, LEAVE, NONE, read
-from .script import TABLE, Script, ran
+from .script import Script, ran
 from .tables import cells
 
 PLAIN = Function('plain', params=[('int8', 'a')], blocks=[('entry', [LEAVE])])

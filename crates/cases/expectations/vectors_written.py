@@ -1,9 +1,10 @@
 """Outside vectors of A1: each text read, its table checked and written, also with names taken away or changed and translated; what is written is read
 back and written again."""
+from .layout import NAME_OFFSET, block_at, function_at, register_at
 from .parsing import parse
 from .programs import dump, translation
 from .script import PAGE, Script
-from .tables import FUNCTION, cells
+from .tables import cells
 from .writing import written
 
 # Short ones of each of the ten kinds, by number mod 10.
@@ -30,8 +31,8 @@ class Lines:
 
 def name_cells(kind, function, index, name):
     """A name's length cell and those of its bytes, as many as there is room for."""
-    a = 1 + FUNCTION * int(function)
-    k = {'function': a + 8, 'register': a + 74 + 66 * int(index), 'block': a + 16973 + 69 * int(index)}[kind]
+    a, i = function_at(int(function)), int(index)
+    k = {'function': a + NAME_OFFSET, 'register': register_at(a, i) + 1, 'block': block_at(a, i) + 4}[kind]
     b = b'' if name == '-' else bytes.fromhex(name)
     return {k: len(b), **{k + 1 + i: c for i, c in enumerate(b[:64].ljust(64, b'\0'))}}
 
