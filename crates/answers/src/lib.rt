@@ -1,12 +1,12 @@
 // What a call answers: the cases, the four numbers they have at the C boundary, and places. Every crate that answers stands above this one.
-mod numbers;
+mod figures;
 mod places;
 
-pub use numbers::Answer;
-pub use numbers::put_numbers;
-pub use numbers::run_numbers;
-pub use numbers::verdict_numbers;
-pub use numbers::write_numbers;
+pub use figures::Answer;
+pub use figures::put_numbers;
+pub use figures::run_numbers;
+pub use figures::verdict_numbers;
+pub use figures::write_numbers;
 pub use places::row_place;
 
 // What is answered where a table is filled or judged: done, or refused with a number of document 01 and its place.

@@ -17,7 +17,7 @@ use Rattle.flow.proofs.Accepted.{accepted-sized, accepted-params}
 use Rattle.answers.specs.declared.Ran.{Ran}
 use Rattle.answers.specs.Cases.{ranOf}
 use Rattle.answers.specs.Lent.{finishedOf}
-use Rattle.calling.specs.Words.{functionNumber}
+use Rattle.calling.specs.Words.{functionByWord}
 use Rattle.calling.specs.Lines.{ranLine}
 use Rattle.calling.specs.Calls.{Given, firstOutside, argumentsOf, callFunction, runLine}
 
@@ -51,7 +51,7 @@ module _ (t : List ℕ) (e : checkAnswer t ≡ Verdict.accepted) (i : ℕ) (l : 
   pub few-arguments : n ≤ registerCount t (functionAt i)
   few-arguments = omega (arith, accepted-params t e i l)
 
-  pub most-arguments : n ≤ 256
+  pub most-arguments : n ≤ maxRegisters
   most-arguments = omega (arith, few-arguments, accepted-sized t e i l .registers)
 
 module _ (t : List ℕ) (i : ℕ) (g : Given) (budget : ℕ) where
@@ -103,7 +103,7 @@ module _ (t : List ℕ) (i : ℕ) (g : Given) (budget : ℕ) where
 
 pub run-line :
     (p : Program) (word : List ℕ) (g : Given) (budget : ℕ) {i kind : ℕ} {x : Ranᴸ}
-    → i ≡ functionNumber p word
+    → i ≡ functionByWord p word
     → kind ≡ getD p i noFunction .result
     → x ≡ callFunction p i g budget
     → runLine p word g budget ≡ ranLine kind x

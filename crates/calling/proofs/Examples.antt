@@ -14,21 +14,21 @@ use Rattle.theorems.proofs.TurnWritten.{turnedText, turned-written}
 use Rattle.decimal.specs.Meanings.{bitsIn}
 use Rattle.decimal.specs.Numbers.{isDigit, decimalFrom, unsigned, numberOf}
 use Rattle.calling.specs.declared.words.Budget.the-variants as budgets
-use Rattle.calling.specs.Words.{functionNamed, functionNumber, budgetOf, keptBits}
-use Rattle.calling.specs.Lines.{valueOf}
+use Rattle.calling.specs.Words.{functionNamed, functionByWord, budgetOf, keptBits}
+use Rattle.calling.specs.Lines.{valueWritten}
 use Rattle.calling.specs.Calls.{Given, givenOf, firstOutside, argumentsOf, callFunction, runLine, translatedLine, translateLine, shownLine, textLine, readLine, runPrinted, translatePrinted}
 
 unfoldable calling : Unit {0}
-unfolding computing numberInRange bitsOf placeOf refusedRun runFunction digits line refusedLine bitsIn isDigit decimalFrom unsigned numberOf functionNamed functionNumber budgetOf keptBits valueOf firstOutside argumentsOf callFunction runLine translatedLine translateLine
+unfolding computing numberInRange bitsOf placeOf refusedRun runFunction digits line refusedLine bitsIn isDigit decimalFrom unsigned numberOf functionNamed functionByWord budgetOf keptBits valueWritten firstOutside argumentsOf callFunction runLine translatedLine translateLine
 calling = tt
 
 -- ---- words
 
-functions : functionNumber (turn ∷ []) (bytesOf "turn") ∷ functionNumber (turn ∷ []) (bytesOf "007") ∷ functionNumber (turn ∷ []) (bytesOf "-0") ∷ functionNumber (turn ∷ []) (bytesOf "tur") ∷ [] ≡ 0 ∷ 7 ∷ 1 ∷ 1 ∷ []
+functions : functionByWord (turn ∷ []) (bytesOf "turn") ∷ functionByWord (turn ∷ []) (bytesOf "007") ∷ functionByWord (turn ∷ []) (bytesOf "-0") ∷ functionByWord (turn ∷ []) (bytesOf "tur") ∷ [] ≡ 0 ∷ 7 ∷ 1 ∷ 1 ∷ []
 unfolding calling turn
 functions = refl
 
-large-number : functionNumber (turn ∷ []) (bytesOf "18446744073709551616") ≡ 18446744073709551615
+large-number : functionByWord (turn ∷ []) (bytesOf "18446744073709551616") ≡ 18446744073709551615
 unfolding calling turn
 large-number = refl
 
@@ -37,7 +37,7 @@ unfolding calling
 budgets-said = refl
 
 -- P4: int8 100 + 100 = -56
-least-values : valueOf 0 200 ∷ valueOf 0 128 ∷ valueOf 4 200 ∷ [] ≡ bytesOf "-56" ∷ bytesOf "-128" ∷ bytesOf "200" ∷ []
+least-values : valueWritten 0 200 ∷ valueWritten 0 128 ∷ valueWritten 4 200 ∷ [] ≡ bytesOf "-56" ∷ bytesOf "-128" ∷ bytesOf "200" ∷ []
 unfolding calling
 least-values = refl
 

@@ -17,7 +17,7 @@ use Rattle.decimal.specs.Writing.{Written}
 use Rattle.decimal.specs.declared.ranges.Meant.{Meant}
 use Rattle.answers.specs.declared.Ran.{Ran}
 use Rattle.answers.specs.Cases.{ranOf}
-use Rattle.calling.specs.Lines.{decimalOf, valueOf, ranLine}
+use Rattle.calling.specs.Lines.{decimalOf, valueWritten, ranLine}
 
 -- ---- the lowest bits
 
@@ -43,12 +43,12 @@ negative (pos n) e h =
 negative (negsuc n) e h = ap (λ (m : Meant). minus ∷ digits (m .magnitude)) (sym e)
 
 module _ (kind v : ℕ) {x : ℕ} {m : Meant} (low : x ≡ v % 2 ^ width kind) (means : m ≡ meantBy (meaning kind x)) where
-  pub value-plain : m .negative ≡ false → valueOf kind v ≡ digits (m .magnitude)
-  unfolding valueOf
+  pub value-plain : m .negative ≡ false → valueWritten kind v ≡ digits (m .magnitude)
+  unfolding valueWritten
   value-plain h = rw (← low) (plain (meaning kind x) means h)
 
-  pub value-negative : m .negative ≡ true → valueOf kind v ≡ minus ∷ digits (m .magnitude)
-  unfolding valueOf
+  pub value-negative : m .negative ≡ true → valueWritten kind v ≡ minus ∷ digits (m .magnitude)
+  unfolding valueWritten
   value-negative h = rw (← low) (negative (meaning kind x) means h)
 
 -- ---- lines
@@ -56,9 +56,9 @@ module _ (kind v : ℕ) {x : ℕ} {m : Meant} (low : x ≡ v % 2 ^ width kind) (
 regroup-value : (a v d e : List ℕ) → (a ++ (tab ∷ v)) ++ (d ++ []) ++ e ≡ (a ++ (tab ∷ [])) ++ v ++ d ++ e
 regroup-value a v d e = simp (append-assoc, append-nil)
 
-pub returned-parts : (kind v s : ℕ) → ranLine kind (Ranᴸ.returned v s) ≡ (bytesOf "returned" ++ (tab ∷ [])) ++ valueOf kind v ++ (tab ∷ digits s) ++ (lineFeed ∷ [])
+pub returned-parts : (kind v s : ℕ) → ranLine kind (Ranᴸ.returned v s) ≡ (bytesOf "returned" ++ (tab ∷ [])) ++ valueWritten kind v ++ (tab ∷ digits s) ++ (lineFeed ∷ [])
 unfolding line
-returned-parts kind v s = regroup-value (bytesOf "returned") (valueOf kind v) (tab ∷ digits s) (lineFeed ∷ [])
+returned-parts kind v s = regroup-value (bytesOf "returned") (valueWritten kind v) (tab ∷ digits s) (lineFeed ∷ [])
 
 regroup-one : (s a e : List ℕ) → s ++ (a ++ []) ++ e ≡ s ++ a ++ e
 regroup-one s a e = simp (append-assoc, append-nil)

@@ -15,7 +15,7 @@ use Rattle.language.specs.Listing.{refusedLine}
 use Rattle.language.specs.MadeNames.{written}
 use Rattle.decimal.specs.declared.ranges.Bits.{Bits}
 use Rattle.decimal.specs.declared.ranges.Bits.the-variants as bits
-use Rattle.calling.specs.Words.{functionNumber, keptBits}
+use Rattle.calling.specs.Words.{functionByWord, keptBits}
 use Rattle.calling.specs.Lines.{ranLine}
 
 abbrev pub isOutside : Bits → Bool
@@ -61,7 +61,7 @@ callFunction p i g budget =
 
 unfoldable pub runLine : Program → (word : List ℕ) → Given → (budget : ℕ) → List ℕ
 runLine p word g budget =
-    let i = functionNumber p word in
+    let i = functionByWord p word in
     ranLine (getD p i noFunction .result) (callFunction p i g budget)
 
 -- What writing left in a buffer: the text, or the refusal.
@@ -82,7 +82,7 @@ translatedLine p i =
     (refusedLine 21 0)
 
 unfoldable pub translateLine : Program → (word : List ℕ) → List ℕ
-translateLine p word = translatedLine p (functionNumber p word)
+translateLine p word = translatedLine p (functionByWord p word)
 
 -- Of an accepted program, or its refusal by the check.
 abbrev pub checkedLine : (Program → List ℕ) → Program → List ℕ

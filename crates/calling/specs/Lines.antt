@@ -15,12 +15,16 @@ decimalOf (pos n) = digits n
 decimalOf (negsuc n) = minus ∷ digits (suc n)
 
 -- A returned number by meaning: the function's return type reads its lowest w bits, which are all it has.
-unfoldable pub valueOf : (type value : ℕ) → List ℕ
-valueOf t v = decimalOf (meaning t (v % 2 ^ width t))
+unfoldable pub valueWritten : (type value : ℕ) → List ℕ
+valueWritten t v = decimalOf (meaning t (v % 2 ^ width t))
+
+-- How many bytes such a line takes at most.
+abbrev pub ranMost : ℕ
+ranMost = 100
 
 -- The answer of a run of a function with this return type.
 abbrev pub ranLine : (type : ℕ) → Ran → List ℕ
-ranLine t (Ran.returned v s) = line (bytesOf "returned" ++ (tab ∷ valueOf t v)) (s ∷ [])
+ranLine t (Ran.returned v s) = line (bytesOf "returned" ++ (tab ∷ valueWritten t v)) (s ∷ [])
 ranLine t (Ran.left s) = line (bytesOf "left") (s ∷ [])
 ranLine t (Ran.stopped n p s) = line (bytesOf "stopped") (n ∷ p ∷ s ∷ [])
 ranLine t (Ran.refused n p) = refusedLine n p

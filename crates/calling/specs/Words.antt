@@ -32,12 +32,12 @@ numberOr decimals.Malformed k = k
 numberOr (decimals.Value s n) k = cond s k n
 numberOr (decimals.Beyond s) k = cond s k most
 
-unfoldable pub functionNumber : Program → List ℕ → ℕ
-functionNumber p word = numberOr (numberOf word) (functionNamed p word)
+unfoldable pub functionByWord : Program → List ℕ → ℕ
+functionByWord p word = numberOr (numberOf word) (functionNamed p word)
 
 -- The same in a table: one that the check refuses has none, and 0 stands for it.
 unfoldable pub functionMeant : (t word : List ℕ) → ℕ
-functionMeant t word = ifAccepted (checkAnswer t) (λ n p. 0) (functionNumber (decode t) word)
+functionMeant t word = ifAccepted (checkAnswer t) (λ n p. 0) (functionByWord (decode t) word)
 
 -- ---- a budget
 

@@ -7,10 +7,12 @@ ghost use Rattle.language.specs.Table.{registerCount, decodeFunction, InTable};
 ghost use Rattle.decimal.specs.Numbers.{numberOf};
 ghost use Rattle.calling.specs.Words.{signIn, magnitudeIn, keptBits};
 ghost use Rattle.calling.specs.Calls.{givenOf, firstOutside, argumentsOf};
+ghost use Rattle.language.specs.Programs.{maxRegisters};
 use decimal::Bits;
 use decimal::Decimal;
 use decimal::read_decimal;
 use decimal::to_bits;
+use table::MAX_REGISTERS;
 use table::register_type;
 
 // 0 for no sign, 1 for a minus, 2 for a magnitude of 2^64 or more, 3 for no number.
@@ -36,14 +38,14 @@ fn magnitude_of(d: Decimal) -> u64
 
 // Keeps argument word i, and says whether it is a number. Those past the first 256 are not kept: no function has more parameters.
 pub fn keep_argument(word: &[u8], i: usize, signs: &mut [u8], magnitudes: &mut [u64]) -> bool
-    requires { ⌜ (length (now signs) ≡ 256) × (length (now magnitudes) ≡ 256) ⌝ }
+    requires { ⌜ (length (now signs) ≡ maxRegisters) × (length (now magnitudes) ≡ maxRegisters) ⌝ }
     ensures { λ r. ⌜ r ≡ ltb (signIn (numberOf (now (word .entry)))) 3 ⌝ }
     ensures { λ r. ⌜ now (signs .exit) ≡ set (now (signs .entry)) i (signIn (numberOf (now (word .entry)))) ⌝ }
     ensures { λ r. ⌜ now (magnitudes .exit) ≡ set (now (magnitudes .entry)) i (magnitudeIn (numberOf (now (word .entry)))) ⌝ }
 {
     let d = read_decimal(word);
     let s = sign_of(d);
-    if 256 <= i {
+    if MAX_REGISTERS <= i {
         return s < 3;
     }
     signs[i] = s;
@@ -70,8 +72,8 @@ pub fn fill_arguments(
     magnitudes: &[u64],
     out: &mut [u64],
 ) -> usize
-    requires { ⌜ (InTable (now t) a) × (n ≤ registerCount (now t) a) × (n ≤ 256) ⌝ }
-    requires { ⌜ (length (now signs) ≡ 256) × (length (now magnitudes) ≡ 256) × (length (now out) ≡ 256) ⌝ }
+    requires { ⌜ (InTable (now t) a) × (n ≤ registerCount (now t) a) × (n ≤ maxRegisters) ⌝ }
+    requires { ⌜ (length (now signs) ≡ maxRegisters) × (length (now magnitudes) ≡ maxRegisters) × (length (now out) ≡ maxRegisters) ⌝ }
     ensures { λ r. ⌜ (r ≡ firstOutside (decodeFunction (now (t .entry)) a) (givenOf n (now (signs .entry)) (now (magnitudes .entry)))) × (r ≤ n) ⌝ }
     ensures { λ r. ⌜ (r ≡ n → take n (now (out .exit)) ≡ argumentsOf (decodeFunction (now (t .entry)) a) (givenOf n (now (signs .entry)) (now (magnitudes .entry)))) ⌝ }
 {

@@ -10,6 +10,7 @@ mod translations;
 mod words;
 
 pub use arguments::keep_argument;
+pub use listing::LISTING_MOST;
 pub use listings::list_text;
 pub use runs::run_text;
 pub use texts::write_text;

@@ -9,20 +9,16 @@ ghost use Rattle.language.specs.Listing.{line};
 ghost use Rattle.language.specs.Answers.{Ran as Ranᴸ};
 ghost use Rattle.decimal.specs.Writing.{Written};
 ghost use Rattle.answers.specs.Cases.{ranOf};
-ghost use Rattle.calling.specs.Lines.{valueOf, ranLine};
+ghost use Rattle.calling.specs.Lines.{valueWritten, ranLine, ranMost};
+use decimal::LINE_FEED;
+use decimal::MINUS;
 use decimal::of_bits;
 use decimal::put_digits;
 use ial::Ran;
 use instructions::width;
 use listing::list_refusal;
 use listing::put_field;
-use table::put_bytes;
-
-const TAB: u8 = 9;
-
-const LINE_FEED: u8 = 10;
-
-const MINUS: u8 = 45;
+use numbers::put_bytes;
 
 // The lowest bits of a number, as many as a type is wide.
 fn lowest(kind: u8, v: u64) -> u64
@@ -40,7 +36,7 @@ fn lowest(kind: u8, v: u64) -> u64
 // A value by meaning.
 fn put_value(kind: u8, v: u64, out: &mut [u8], at: usize) -> usize
     requires { ⌜ at + 21 ≤ length (now out) ⌝ }
-    ensures { λ r. ⌜ Written (now (out .entry)) at (valueOf kind v) (now (out .exit)) r × (r ≤ at + 21) ⌝ }
+    ensures { λ r. ⌜ Written (now (out .entry)) at (valueWritten kind v) (now (out .exit)) r × (r ≤ at + 21) ⌝ }
 {
     let m = of_bits(kind, lowest(kind, v));
     if !m.negative {
@@ -52,8 +48,8 @@ fn put_value(kind: u8, v: u64, out: &mut [u8], at: usize) -> usize
 
 // `returned`, the value, the steps.
 fn put_returned(kind: u8, v: u64, steps: u64, out: &mut [u8]) -> usize
-    requires { ⌜ 100 ≤ length (now out) ⌝ }
-    ensures { λ r. ⌜ Written (now (out .entry)) 0 (ranLine kind (Ranᴸ.returned v steps)) (now (out .exit)) r × (r ≤ 100) ⌝ }
+    requires { ⌜ ranMost ≤ length (now out) ⌝ }
+    ensures { λ r. ⌜ Written (now (out .entry)) 0 (ranLine kind (Ranᴸ.returned v steps)) (now (out .exit)) r × (r ≤ ranMost) ⌝ }
 {
     put_bytes(out, 0, b"returned\t");
     let e = put_value(kind, v, out, 9);
@@ -64,8 +60,8 @@ fn put_returned(kind: u8, v: u64, steps: u64, out: &mut [u8]) -> usize
 
 // `left`, the steps.
 fn put_left(steps: u64, out: &mut [u8]) -> usize
-    requires { ⌜ 100 ≤ length (now out) ⌝ }
-    ensures { λ r. ⌜ Written (now (out .entry)) 0 (line (bytesOf "left") (steps ∷ [])) (now (out .exit)) r × (r ≤ 100) ⌝ }
+    requires { ⌜ ranMost ≤ length (now out) ⌝ }
+    ensures { λ r. ⌜ Written (now (out .entry)) 0 (line (bytesOf "left") (steps ∷ [])) (now (out .exit)) r × (r ≤ ranMost) ⌝ }
 {
     put_bytes(out, 0, b"left");
     let e = put_field(steps, out, 4);
@@ -75,8 +71,8 @@ fn put_left(steps: u64, out: &mut [u8]) -> usize
 
 // `stopped`, the number, its place, the steps.
 fn put_stopped(number: u8, place: usize, steps: u64, out: &mut [u8]) -> usize
-    requires { ⌜ 100 ≤ length (now out) ⌝ }
-    ensures { λ r. ⌜ Written (now (out .entry)) 0 (line (bytesOf "stopped") (number ∷ place ∷ steps ∷ [])) (now (out .exit)) r × (r ≤ 100) ⌝ }
+    requires { ⌜ ranMost ≤ length (now out) ⌝ }
+    ensures { λ r. ⌜ Written (now (out .entry)) 0 (line (bytesOf "stopped") (number ∷ place ∷ steps ∷ [])) (now (out .exit)) r × (r ≤ ranMost) ⌝ }
 {
     put_bytes(out, 0, b"stopped");
     let e = put_field(number as u64, out, 7);
@@ -88,8 +84,8 @@ fn put_stopped(number: u8, place: usize, steps: u64, out: &mut [u8]) -> usize
 
 // The line of an answer of a function with this return type.
 pub fn put_answer(kind: u8, r: Ran, out: &mut [u8]) -> usize
-    requires { ⌜ 100 ≤ length (now out) ⌝ }
-    ensures { λ e. ⌜ Written (now (out .entry)) 0 (ranLine kind (ranOf r)) (now (out .exit)) e × (e ≤ 100) ⌝ }
+    requires { ⌜ ranMost ≤ length (now out) ⌝ }
+    ensures { λ e. ⌜ Written (now (out .entry)) 0 (ranLine kind (ranOf r)) (now (out .exit)) e × (e ≤ ranMost) ⌝ }
 {
     match r {
         Ran::Returned(v, s) => put_returned(kind, v, s, out),

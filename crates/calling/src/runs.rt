@@ -3,12 +3,13 @@ ghost use mathlib.Core.Path.{_≡_};
 ghost use Prim.Native.Nat.{_≤_};
 ghost use lib.ListN.{length, getD};
 ghost use Rattle.language.specs.Checking.{Verdict as Verdictᴸ};
-ghost use Rattle.language.specs.Programs.{noFunction};
+ghost use Rattle.language.specs.Programs.{noFunction, maxRegisters};
 ghost use Rattle.language.specs.Table.{decode};
 ghost use Rattle.language.specs.Answers.{checkAnswer, runFunction};
 ghost use Rattle.decimal.specs.Writing.{Written};
 ghost use Rattle.answers.specs.Cases.{ranOf};
 ghost use Rattle.calling.specs.Calls.{givenOf, callFunction, runLine, runPrinted};
+ghost use Rattle.calling.specs.Lines.{ranMost};
 use crate::accepting::accept;
 use crate::arguments::fill_arguments;
 use crate::lines::put_answer;
@@ -47,7 +48,7 @@ fn run_here(t: &[u8], function: u64, args: &[u64], budget: u64) -> Ran
 // A call by meaning: 21, then 20 with the count, then 20 with the first argument outside its range, then the run.
 fn call(t: &[u8], function: u64, count: usize, signs: &[u8], magnitudes: &[u64], budget: u64) -> Ran
     requires { ⌜ checkAnswer (now t) ≡ Verdictᴸ.accepted ⌝ }
-    requires { ⌜ (length (now signs) ≡ 256) × (length (now magnitudes) ≡ 256) ⌝ }
+    requires { ⌜ (length (now signs) ≡ maxRegisters) × (length (now magnitudes) ≡ maxRegisters) ⌝ }
     ensures { λ r. ⌜ ranOf r ≡ callFunction (decode (now (t .entry))) function (givenOf count (now (signs .entry)) (now (magnitudes .entry))) budget ⌝ }
 {
     if function_count(t) as u64 <= function {
@@ -76,8 +77,8 @@ fn run_checked(
     out: &mut [u8],
 ) -> usize
     requires { ⌜ checkAnswer (now t) ≡ Verdictᴸ.accepted ⌝ }
-    requires { ⌜ (length (now signs) ≡ 256) × (length (now magnitudes) ≡ 256) × (100 ≤ length (now out)) ⌝ }
-    ensures { λ r. ⌜ Written (now (out .entry)) 0 (runLine (decode (now (t .entry))) (now (word .entry)) (givenOf count (now (signs .entry)) (now (magnitudes .entry))) budget) (now (out .exit)) r × (r ≤ 100) ⌝ }
+    requires { ⌜ (length (now signs) ≡ maxRegisters) × (length (now magnitudes) ≡ maxRegisters) × (ranMost ≤ length (now out)) ⌝ }
+    ensures { λ r. ⌜ Written (now (out .entry)) 0 (runLine (decode (now (t .entry))) (now (word .entry)) (givenOf count (now (signs .entry)) (now (magnitudes .entry))) budget) (now (out .exit)) r × (r ≤ ranMost) ⌝ }
 {
     let i = function_number(t, word);
     put_answer(
@@ -97,8 +98,8 @@ pub fn run_text(
     budget: u64,
     out: &mut [u8],
 ) -> usize
-    requires { ⌜ (length (now signs) ≡ 256) × (length (now magnitudes) ≡ 256) × (100 ≤ length (now out)) ⌝ }
-    ensures { λ r. ⌜ Written (now (out .entry)) 0 (runPrinted (now (text .entry)) (now (word .entry)) (givenOf count (now (signs .entry)) (now (magnitudes .entry))) budget) (now (out .exit)) r × (r ≤ 100) ⌝ }
+    requires { ⌜ (length (now signs) ≡ maxRegisters) × (length (now magnitudes) ≡ maxRegisters) × (ranMost ≤ length (now out)) ⌝ }
+    ensures { λ r. ⌜ Written (now (out .entry)) 0 (runPrinted (now (text .entry)) (now (word .entry)) (givenOf count (now (signs .entry)) (now (magnitudes .entry))) budget) (now (out .exit)) r × (r ≤ ranMost) ⌝ }
 {
     let mut t = [0u8; TABLE_LENGTH];
     match accept(text, &mut t) {

@@ -5,6 +5,7 @@ ghost use Rattle.language.specs.Checking.{Verdict as Verdictᴸ};
 ghost use Rattle.language.specs.Table.{decode};
 ghost use Rattle.language.specs.Answers.{checkAnswer};
 ghost use Rattle.calling.specs.Calls.{textLine, writePrinted, Prints};
+ghost use Rattle.language.specs.Programs.{maxText};
 use crate::accepting::accept;
 use ial::Verdict;
 use ial::Wrote;
@@ -15,7 +16,7 @@ use table::TABLE_LENGTH;
 // Of an accepted table. The buffer has room for any text, so 33 alone can refuse it.
 pub fn write_lines(t: &[u8], out: &mut [u8]) -> usize
     requires { ⌜ checkAnswer (now t) ≡ Verdictᴸ.accepted ⌝ }
-    requires { ⌜ length (now out) ≡ 65536 ⌝ }
+    requires { ⌜ length (now out) ≡ maxText ⌝ }
     ensures { λ r. ⌜ Prints (now (out .exit)) r (textLine (decode (now (t .entry)))) ⌝ }
 {
     match write(t, out) {
@@ -26,7 +27,7 @@ pub fn write_lines(t: &[u8], out: &mut [u8]) -> usize
 
 // Of a text.
 pub fn write_text(text: &[u8], out: &mut [u8]) -> usize
-    requires { ⌜ length (now out) ≡ 65536 ⌝ }
+    requires { ⌜ length (now out) ≡ maxText ⌝ }
     ensures { λ r. ⌜ Prints (now (out .exit)) r (writePrinted (now (text .entry))) ⌝ }
 {
     let mut t = [0u8; TABLE_LENGTH];

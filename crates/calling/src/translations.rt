@@ -5,6 +5,7 @@ ghost use Rattle.language.specs.Checking.{Verdict as Verdictᴸ};
 ghost use Rattle.language.specs.Table.{decode};
 ghost use Rattle.language.specs.Answers.{checkAnswer};
 ghost use Rattle.calling.specs.Calls.{translatedLine, translatePrinted, Prints};
+ghost use Rattle.language.specs.Programs.{maxText};
 use crate::accepting::accept;
 use crate::texts::write_lines;
 use crate::words::function_number;
@@ -16,7 +17,7 @@ use table::TABLE_LENGTH;
 // Of function i of an accepted table.
 fn translate_function(t: &[u8], function: u64, out: &mut [u8]) -> usize
     requires { ⌜ checkAnswer (now t) ≡ Verdictᴸ.accepted ⌝ }
-    requires { ⌜ length (now out) ≡ 65536 ⌝ }
+    requires { ⌜ length (now out) ≡ maxText ⌝ }
     ensures { λ r. ⌜ Prints (now (out .exit)) r (translatedLine (decode (now (t .entry))) function) ⌝ }
 {
     let mut x = [0u8; TABLE_LENGTH];
@@ -28,7 +29,7 @@ fn translate_function(t: &[u8], function: u64, out: &mut [u8]) -> usize
 
 // Of a text.
 pub fn translate_text(text: &[u8], word: &[u8], out: &mut [u8]) -> usize
-    requires { ⌜ length (now out) ≡ 65536 ⌝ }
+    requires { ⌜ length (now out) ≡ maxText ⌝ }
     ensures { λ r. ⌜ Prints (now (out .exit)) r (translatePrinted (now (text .entry)) (now (word .entry))) ⌝ }
 {
     let mut t = [0u8; TABLE_LENGTH];

@@ -3,7 +3,7 @@ ghost use mathlib.Core.Path.{_≡_};
 ghost use Rattle.language.specs.Checking.{Verdict as Verdictᴸ};
 ghost use Rattle.language.specs.Table.{decode};
 ghost use Rattle.language.specs.Answers.{checkAnswer};
-ghost use Rattle.calling.specs.Words.{functionNamed, functionNumber, functionMeant, numberOr, budgetFrom, budgetOf};
+ghost use Rattle.calling.specs.Words.{functionNamed, functionByWord, functionMeant, numberOr, budgetFrom, budgetOf};
 use decimal::Decimal;
 use decimal::read_decimal;
 use ial::Verdict;
@@ -45,7 +45,7 @@ fn number_or(d: Decimal, named: u64) -> u64
 // The number of the function that a word means.
 pub fn function_number(t: &[u8], word: &[u8]) -> u64
     requires { ⌜ checkAnswer (now t) ≡ Verdictᴸ.accepted ⌝ }
-    ensures { λ r. ⌜ r ≡ functionNumber (decode (now (t .entry))) (now (word .entry)) ⌝ }
+    ensures { λ r. ⌜ r ≡ functionByWord (decode (now (t .entry))) (now (word .entry)) ⌝ }
 {
     number_or(read_decimal(word), function_named(t, word))
 }

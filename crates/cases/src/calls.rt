@@ -11,6 +11,7 @@ use crate::saying::say_wrote;
 use crate::tables::compare;
 use crate::tables::compare_text;
 use crate::tables::poison;
+use calling::LISTING_MOST;
 use calling::list_text;
 use loading::upto;
 
@@ -31,7 +32,7 @@ pub(crate) fn read(s: &[u8], r: Record, t: &mut [u8]) {
 
 // Lists a text.
 pub(crate) fn list(s: &[u8], r: Record) {
-    let mut lines = [0u8; 2384];
+    let mut lines = [0u8; LISTING_MOST];
     let k = list_text(part(s, r.given_at, r.given_len), &mut lines);
     say(upto(&lines, k));
 }

@@ -29,7 +29,7 @@ pub(crate) fn number_at(s: &[u8], k: usize) -> u64 {
     if s.len() - 8 < k {
         return 0;
     }
-    table::eight_at(s, k)
+    numbers::eight_at(s, k)
 }
 
 fn place_at(s: &[u8], k: usize) -> usize {

@@ -11,7 +11,7 @@ pub(crate) fn put_cells(t: &mut [u8], cells: &[u8]) {
     let n = cells.len() / 4;
     let mut i = 0;
     while i < n {
-        put_cell(t, table::four_at(cells, 4 * i));
+        put_cell(t, numbers::four_at(cells, 4 * i));
         i += 1;
     }
 }
@@ -122,8 +122,8 @@ pub(crate) fn fill_gaps(t: &mut [u8], gaps: &[u8], seed: u64) {
     let mut x = (seed % 4294967296) as usize;
     let mut i = 0;
     while i < n {
-        let a = table::four_at(gaps, 8 * i);
-        let e = table::four_at(gaps, 8 * i + 4);
+        let a = numbers::four_at(gaps, 8 * i);
+        let e = numbers::four_at(gaps, 8 * i + 4);
         x = scatter(t, a, e, x);
         i += 1;
     }

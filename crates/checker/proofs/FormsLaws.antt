@@ -12,7 +12,7 @@ use lib.ListN.{length, getD, take}
 use lib.Seq.{take-suc, take-all}
 use Rattle.laws.specs.Lists.{below, empty}
 use Rattle.laws.proofs.Ranges.{foldl-below-suc}
-use Rattle.language.specs.Programs.{Row, Func, rowsAt, firstRow}
+use Rattle.language.specs.Programs.{Row, Func, rowsAt, firstRow, maxRows}
 use Rattle.language.specs.Checking.{spotAt, spotsFrom, spotsIn, rowNumber}
 use Rattle.language.specs.Table.{blockCount, blockFirst, blockRows, rowCount, decodeFunction}
 use Rattle.language.proofs.TableView.{first-row-is, block-rows-count}
@@ -108,7 +108,7 @@ pub record Here (t : List ℕ) (a b first rows : ℕ) : Type 0 where
   pub place : first ≡ firstRow (decodeFunction t a) b
   pub count : rows ≡ length (rowsAt (decodeFunction t a) b)
   pub within : first + rows ≤ rowCount t a
-  pub few : first + rows ≤ 1024
+  pub few : first + rows ≤ maxRows
 
 pub here : {t : List ℕ} {a b first rows : ℕ} → Sized t a → b < blockCount t a → first ≡ blockFirst t a b → rows ≡ blockRows t a b → Here t a b first rows
 here {t} {a} {b} s h p q =

@@ -16,21 +16,21 @@ use Rattle.language.specs.Table.{blockLength, blockNamesOffset, functionLength,
 use Rattle.language.specs.Checking.{spelledOrNone, distinct}
 use Rattle.table.specs.Named.{isNamed, firstNamed}
 use Rattle.spelling.specs.Names.{namesIn}
-use Rattle.checker.specs.Parts.{namesBefore, listedRight, namesRight}
+use Rattle.checker.specs.Parts.{tableNamesBefore, listedRight, allNamesRight}
 
 -- ---- among the names before
 
-any-named : (t n : List ℕ) (i : ℕ) → any (same n) (namesBefore t i) ≡ any (isNamed t functionNamesOffset functionLength n) (below i)
-unfolding namesBefore
+any-named : (t n : List ℕ) (i : ℕ) → any (same n) (tableNamesBefore t i) ≡ any (isNamed t functionNamesOffset functionLength n) (below i)
+unfolding tableNamesBefore
 any-named t n zero = refl
 any-named t n (suc i) =
     let here : functionName t (functionAt i) ≡ nameAt t (functionNamesOffset + functionLength * i) = ap (nameAt t) (omega arith) in
     let first : same n (functionName t (functionAt i)) ≡ isNamed t functionNamesOffset functionLength n i = ap (same n) here ∙ same-sym n (nameAt t (functionNamesOffset + functionLength * i)) in
-    ap (λ b. b || any (same n) (namesBefore t i)) first ∙ ap (λ b. isNamed t functionNamesOffset functionLength n i || b) (any-named t n i)
+    ap (λ b. b || any (same n) (tableNamesBefore t i)) first ∙ ap (λ b. isNamed t functionNamesOffset functionLength n i || b) (any-named t n i)
     ∙ or-comm (isNamed t functionNamesOffset functionLength n i) (any (isNamed t functionNamesOffset functionLength n) (below i))
     ∙ sym (any-below-suc (isNamed t functionNamesOffset functionLength n) i)
 
-pub named-before : (t n : List ℕ) (i : ℕ) → ltb (firstNamed t functionNamesOffset functionLength i n) i ≡ any (same n) (namesBefore t i)
+pub named-before : (t n : List ℕ) (i : ℕ) → ltb (firstNamed t functionNamesOffset functionLength i n) i ≡ any (same n) (tableNamesBefore t i)
 unfolding firstNamed
 named-before t n i =
     ap (ltb (position (isNamed t functionNamesOffset functionLength n) (below i))) (sym (length-below i)) ∙ sym (any-position (isNamed t functionNamesOffset functionLength n) (below i))
@@ -48,20 +48,20 @@ module _ (t : List ℕ) (at stride n : ℕ) where
   listed-spelled e = rw e
 
 module _ (t : List ℕ) (i a : ℕ) where
-  pub own-wrong : spelled (functionName t a) ≡ false → false ≡ namesRight t i a
-  unfolding namesRight
+  pub own-wrong : spelled (functionName t a) ≡ false → false ≡ allNamesRight t i a
+  unfolding allNamesRight
   own-wrong e = rw e
 
   module _ (own : spelled (functionName t a) ≡ true) where
-    pub own-twice : any (same (functionName t a)) (namesBefore t i) ≡ true → false ≡ namesRight t i a
-    unfolding namesRight
+    pub own-twice : any (same (functionName t a)) (tableNamesBefore t i) ≡ true → false ≡ allNamesRight t i a
+    unfolding allNamesRight
     own-twice e = rw (own, e)
 
-    module _ (once : any (same (functionName t a)) (namesBefore t i) ≡ false) where
-      pub registers-wrong : listedRight t (a + registerNamesOffset) registerLength (registerCount t a) ≡ false → false ≡ namesRight t i a
-      unfolding namesRight
+    module _ (once : any (same (functionName t a)) (tableNamesBefore t i) ≡ false) where
+      pub registers-wrong : listedRight t (a + registerNamesOffset) registerLength (registerCount t a) ≡ false → false ≡ allNamesRight t i a
+      unfolding allNamesRight
       registers-wrong e = rw (own, once, e)
 
-      pub registers-named : listedRight t (a + registerNamesOffset) registerLength (registerCount t a) ≡ true → listedRight t (a + blockNamesOffset) blockLength (blockCount t a) ≡ namesRight t i a
-      unfolding namesRight
+      pub registers-named : listedRight t (a + registerNamesOffset) registerLength (registerCount t a) ≡ true → listedRight t (a + blockNamesOffset) blockLength (blockCount t a) ≡ allNamesRight t i a
+      unfolding allNamesRight
       registers-named e = rw (own, once, e)

@@ -15,7 +15,7 @@ use Rattle.language.specs.Answers.{checkAnswer}
 use Rattle.language.proofs.TableView.{function-count, function-is}
 use Rattle.checker.specs.declared.forms.Lowest.{Lowest}
 use Rattle.checker.specs.Notes.{notedOf}
-use Rattle.checker.specs.Parts.{namesBefore, soundAt}
+use Rattle.checker.specs.Parts.{tableNamesBefore, soundAt}
 use Rattle.checker.proofs.Faults.{first-fault}
 use Rattle.checker.proofs.Notes.{answer}
 use Rattle.checker.proofs.Parts.{sound-at}
@@ -27,11 +27,11 @@ after v w = elim v [ Verdict.accepted ↦ w | Verdict.refused k r ↦ Verdict.re
 module _ (t : List ℕ) where
   -- The functions from number i on.
   pub judgedFrom : ℕ → Verdict
-  judgedFrom i = judgeFrom (namesBefore t i) i (drop i (decode t))
+  judgedFrom i = judgeFrom (tableNamesBefore t i) i (drop i (decode t))
 
   -- Function number i.
   abbrev pub judged : ℕ → Verdict
-  judged i = judge (namesBefore t i) i (decodeFunction t (functionAt i))
+  judged i = judge (tableNamesBefore t i) i (decodeFunction t (functionAt i))
 
   -- A length or a function count that no table has.
   pub other-length : (length t ≡ tableLength → ⊥) → Verdict.refused 9 0 ≡ checkAnswer t
@@ -43,7 +43,7 @@ module _ (t : List ℕ) where
   too-many e h = rw (eq-eqb (length t) tableLength e, function-count t, lt-leb (functionCount t) maxFunctions h)
 
   pub start : length t ≡ tableLength → functionCount t ≤ maxFunctions → checkAnswer t ≡ judgedFrom 0
-  unfolding checkAnswer check judgedFrom namesBefore
+  unfolding checkAnswer check judgedFrom tableNamesBefore
   start e h = rw (eq-eqb (length t) tableLength e, function-count t, le-leb (functionCount t) maxFunctions h)
 
   module _ (i : ℕ) (h : i < functionCount t) where
@@ -51,8 +51,8 @@ module _ (t : List ℕ) where
     here = drop-cons (decode t) i noFunction (omega (arith, function-count t)) ∙ ap (λ f. f ∷ drop (suc i) (decode t)) (function-is t i h)
 
     step : judgedFrom i ≡ after (judged i) (judgedFrom (suc i))
-    unfolding judgedFrom judgeFrom namesBefore decodeFunction
-    step = ap (judgeFrom (namesBefore t i) i) here
+    unfolding judgedFrom judgeFrom tableNamesBefore decodeFunction
+    step = ap (judgeFrom (tableNamesBefore t i) i) here
 
     pub goes-on : judged i ≡ Verdict.accepted → judgedFrom i ≡ judgedFrom (suc i)
     goes-on e = step ∙ ap (λ v. after v (judgedFrom (suc i))) e
@@ -62,7 +62,7 @@ module _ (t : List ℕ) where
 
   pub all-judged : (i : ℕ) → functionCount t ≤ i → judgedFrom i ≡ Verdict.accepted
   unfolding judgedFrom judgeFrom
-  all-judged i h = ap (judgeFrom (namesBefore t i) i) (drop-of-length-le (decode t) {i = i} (omega (arith, function-count t)))
+  all-judged i h = ap (judgeFrom (tableNamesBefore t i) i) (drop-of-length-le (decode t) {i = i} (omega (arith, function-count t)))
 
 -- ---- one function
 

@@ -26,7 +26,7 @@ use Rattle.paths.specs.Formed.{Formed}
 use Rattle.checker.specs.Notes.{RowsRanged, notedOf}
 use Rattle.spelling.specs.Names.{namesIn}
 use Rattle.checker.proofs.Faults.{formed}
-use Rattle.checker.specs.Parts.{namesBefore, headRight, typesRight, blocksRight, rowsRight, listedRight, namesRight, soundAt}
+use Rattle.checker.specs.Parts.{tableNamesBefore, headRight, typesRight, blocksRight, rowsRight, listedRight, allNamesRight, soundAt}
 
 -- a test that is equal to one that holds
 moved : {a b : Bool} → a ≡ b → T b → T a
@@ -78,25 +78,25 @@ module _ (t : List ℕ) (a : ℕ) where
       pub entries : entriesBefore t a (rowCount t a) ≤ maxEntries
       pub ranges : T (all (λ k. inRange (decodeFunction t a) (decodeRow t a k)) (below (rowCount t a)))
       pub name : T (spelled (functionName t a))
-      pub apart : T (not (any (same (functionName t a)) (namesBefore t i)))
+      pub apart : T (not (any (same (functionName t a)) (tableNamesBefore t i)))
       pub registerNames : T (all spelledOrNone (map (registerName t a) (below (registerCount t a))))
       pub blockNames : T (all spelledOrNone (map (blockName t a) (below (blockCount t a))))
       pub registersDistinct : T (distinct (map (registerName t a) (below (registerCount t a))))
       pub blocksDistinct : T (distinct (map (blockName t a) (below (blockCount t a))))
 
     pub right-parts : T (soundAt t i a) → Right
-    unfolding soundAt headRight blocksRight rowsRight namesRight listedRight namesIn
+    unfolding soundAt headRight blocksRight rowsRight allNamesRight listedRight namesIn
     right-parts h = search (and-l, and-r, leb→le) depth 12
 
     parts-right : Right → T (soundAt t i a)
-    unfolding soundAt headRight blocksRight rowsRight namesRight listedRight namesIn
+    unfolding soundAt headRight blocksRight rowsRight allNamesRight listedRight namesIn
     parts-right h = search (and-i, le→leb) depth 12
 
-    cells-sound : T (sound (namesBefore t i) (decodeFunction t a)) → Right
+    cells-sound : T (sound (tableNamesBefore t i) (decodeFunction t a)) → Right
     unfolding decodeFunction
     cells-sound h =
         let f = decodeFunction t a in
-        let p = sound-parts (namesBefore t i) f h in
+        let p = sound-parts (tableNamesBefore t i) f h in
         let sequence : T (blocksPlaced t a) = and-l (blocksPlaced t a) (phisPlaced t a) (p .placed) in
         let placed : blocksPlaced t a ≡ true = is-true (blocksPlaced t a) sequence in
         let entry : functionEntry t a < blockCount t a = omega (arith, block-count t a) in
@@ -115,19 +115,19 @@ module _ (t : List ℕ) (a : ℕ) where
           entries = omega (arith, sequence-entries t a placed);
           ranges = moved (sym (ranges-are placed)) (p .ranges);
           name = p .name;
-          apart = sound-apart (namesBefore t i) f h;
+          apart = sound-apart (tableNamesBefore t i) f h;
           registerNames = moved (sym (spelled-names (λ r. r .name) (f .registers) register-names)) (p .registerNames);
           blockNames = moved (sym (spelled-names (λ b. b .name) (f .blocks) block-names)) (p .blockNames);
           registersDistinct = moved (sym (ap distinct register-names)) (p .registersDistinct);
           blocksDistinct = moved (sym (ap distinct block-names)) (p .blocksDistinct);
         }
 
-    sound-cells : Right → T (sound (namesBefore t i) (decodeFunction t a))
+    sound-cells : Right → T (sound (tableNamesBefore t i) (decodeFunction t a))
     unfolding decodeFunction
     sound-cells h =
         let f = decodeFunction t a in
         let placed : blocksPlaced t a ≡ true = is-true (blocksPlaced t a) (h .sequence) in
-        parts-sound-among (namesBefore t i) f
+        parts-sound-among (tableNamesBefore t i) f
         (record {
           placed = and-i (blocksPlaced t a) (phisPlaced t a) (h .sequence) (h .phis);
           registers = omega (arith, register-count t a);
@@ -149,9 +149,9 @@ module _ (t : List ℕ) (a : ℕ) where
         })
         (h .apart)
 
-    pub sound-at : sound (namesBefore t i) (decodeFunction t a) ≡ soundAt t i a
+    pub sound-at : sound (tableNamesBefore t i) (decodeFunction t a) ≡ soundAt t i a
     sound-at =
-        both-ways (sound (namesBefore t i) (decodeFunction t a)) (soundAt t i a) (λ h. parts-right (cells-sound h))
+        both-ways (sound (tableNamesBefore t i) (decodeFunction t a)) (soundAt t i a) (λ h. parts-right (cells-sound h))
         (λ h. sound-cells (right-parts h))
 
     -- What the tests of the rows take for granted.

@@ -3,7 +3,7 @@
 use mathlib.Core.Bool.{Bool, true, false, cond, and-false}
 use mathlib.Core.Path.{_≡_, refl, sym, ap, _∙_}
 use mathlib.Core.List.{List}
-use Prim.Native.Nat.{ℕ, _+_, _≤_, _<_}
+use Prim.Native.Nat.{ℕ, suc, _+_, _≤_, _<_}
 use native.Mathlib.Numerals.{add-one}
 use native.Mathlib.Omega.{arith}
 use lib.Dec.{eqb}
@@ -16,6 +16,7 @@ use Rattle.language.specs.Table.{blockCount, blockFirst, blockRows, rowsBefore,
 use Rattle.language.specs.Checking.{inRange}
 use Rattle.language.specs.Instructions.{phiOp}
 use Rattle.checker.specs.Parts.{blocksRight, placedRows, entriesAfter, rowsRight}
+use Rattle.language.specs.Programs.{maxRows, maxEntries}
 
 module _ (t : List ℕ) (a : ℕ) where
   -- ---- blocks
@@ -24,26 +25,26 @@ module _ (t : List ℕ) (a : ℕ) where
   pub record Blocks (b n : ℕ) : Type 0 where
     pub upto : b ≤ blockCount t a
     pub rows : n ≡ rowsBefore t a b
-    pub few : n ≤ 1024
+    pub few : n ≤ maxRows
     pub firsts : (j : ℕ) → j < b → eqb (blockFirst t a j) (rowsBefore t a j) ≡ true
 
   pub no-blocks : Blocks 0 0
   no-blocks = record { upto = omega arith; rows = refl; few = omega arith; firsts = below-none _ }
 
   module _ {b n : ℕ} (h : Blocks b n) (l : b < blockCount t a) where
-    pub block-misplaced : (blockFirst t a b ≡ n → ⊥) → 1025 ≡ placedRows t a
+    pub block-misplaced : (blockFirst t a b ≡ n → ⊥) → suc maxRows ≡ placedRows t a
     unfolding placedRows blocksRight blocksPlaced
     block-misplaced w =
         rw
         (all-below-not (λ b. eqb (blockFirst t a b) (rowsBefore t a b)) (blockCount t a) b l
         (ne-eqb (blockFirst t a b) (rowsBefore t a b) (λ e. w (e ∙ sym (h .rows)))))
 
-    pub rows-too-many : 1024 < n + blockRows t a b → 1025 ≡ placedRows t a
+    pub rows-too-many : maxRows < n + blockRows t a b → suc maxRows ≡ placedRows t a
     unfolding placedRows blocksRight
     rows-too-many w =
-        rw (lt-leb (rowCount t a) 1024 (omega (arith, h .rows, sum-below-le (blockRows t a) b (blockCount t a) l)), and-false)
+        rw (lt-leb (rowCount t a) maxRows (omega (arith, h .rows, sum-below-le (blockRows t a) b (blockCount t a) l)), and-false)
 
-    pub block-more : blockFirst t a b ≡ n → n + blockRows t a b ≤ 1024 → Blocks (b + 1) (n + blockRows t a b)
+    pub block-more : blockFirst t a b ≡ n → n + blockRows t a b ≤ maxRows → Blocks (b + 1) (n + blockRows t a b)
     block-more e w =
         record {
           upto = omega arith;
@@ -58,7 +59,7 @@ module _ (t : List ℕ) (a : ℕ) where
       let same : b ≡ blockCount t a = omega (arith, h .upto) in
       let count : n ≡ rowCount t a = h .rows ∙ ap (rowsBefore t a) same in
       rw
-      (all-below (λ b. eqb (blockFirst t a b) (rowsBefore t a b)) (blockCount t a) (λ j c. h .firsts j (omega arith)), le-leb (rowCount t a) 1024 (omega (arith, h .few)))
+      (all-below (λ b. eqb (blockFirst t a b) (rowsBefore t a b)) (blockCount t a) (λ j c. h .firsts j (omega arith)), le-leb (rowCount t a) maxRows (omega (arith, h .few)))
       count
 
   -- ---- phi entries
@@ -69,7 +70,7 @@ module _ (t : List ℕ) (a : ℕ) where
     no-phi h = rw (ne-eqb (rowOp t a k) phiOp (λ e. h (o ∙ e)))
 
     module _ (is : op ≡ phiOp) {first : ℕ} (f : first ≡ phiFirst t a k) where
-      pub phi-misplaced : (first ≡ n → ⊥) → 1025 ≡ entriesAfter t a k n
+      pub phi-misplaced : (first ≡ n → ⊥) → suc maxEntries ≡ entriesAfter t a k n
       unfolding entriesAfter
       phi-misplaced h = rw (eq-eqb (rowOp t a k) phiOp (sym o ∙ is), ne-eqb (phiFirst t a k) n (λ e. h (f ∙ e)))
 
@@ -87,7 +88,7 @@ module _ (t : List ℕ) (a : ℕ) where
   pub record Rows (k n : ℕ) : Type 0 where
     pub upto : k ≤ rowCount t a
     pub entries : n ≡ entriesBefore t a k
-    pub few : n ≤ 1024
+    pub few : n ≤ maxEntries
     pub phis : (j : ℕ) → j < k → phiPlaced j ≡ true
     pub ranges : (j : ℕ) → j < k → inRange (decodeFunction t a) (decodeRow t a j) ≡ true
 
@@ -98,14 +99,14 @@ module _ (t : List ℕ) (a : ℕ) where
   pub record Entries (k n : ℕ) : Type 0 where
     pub sum : entriesAfter t a k n ≡ n + rowEntries t a k
     pub phi : phiPlaced k ≡ true
-    pub within : rowOp t a k ≡ phiOp → phiFirst t a k + phiCount t a k ≤ 1024
+    pub within : rowOp t a k ≡ phiOp → phiFirst t a k + phiCount t a k ≤ maxEntries
 
   module _ {k n : ℕ} (h : Rows k n) (l : k < rowCount t a) where
-    pub entries-right : entriesAfter t a k n ≤ 1024 → Entries k n
+    pub entries-right : entriesAfter t a k n ≤ maxEntries → Entries k n
     unfolding entriesAfter
     entries-right w = by (eqb (rowOp t a k) phiOp) (eqb (phiFirst t a k) n) refl refl w
       where
-        by : (b c : Bool) → eqb (rowOp t a k) phiOp ≡ b → eqb (phiFirst t a k) n ≡ c → cond b (cond c (n + phiCount t a k) 1025) n ≤ 1024 → Entries k n
+        by : (b c : Bool) → eqb (rowOp t a k) phiOp ≡ b → eqb (phiFirst t a k) n ≡ c → cond b (cond c (n + phiCount t a k) (suc maxEntries)) n ≤ maxEntries → Entries k n
         by true true p q w =
             let first : phiFirst t a k ≡ n = eqb-true (phiFirst t a k) n q in
             record {
@@ -116,15 +117,15 @@ module _ (t : List ℕ) (a : ℕ) where
         by true false p q w = absurd (omega arith)
         by false c p q w = record { sum = rw p (omega arith); phi = rw p; within = λ o. absurd (eqb-false (rowOp t a k) phiOp p o) }
 
-    pub entries-wrong : 1024 < entriesAfter t a k n → false ≡ rowsRight t a
+    pub entries-wrong : maxEntries < entriesAfter t a k n → false ≡ rowsRight t a
     unfolding entriesAfter rowsRight phisPlaced
     entries-wrong w = by (eqb (rowOp t a k) phiOp) (eqb (phiFirst t a k) n) refl refl w
       where
-        by : (b c : Bool) → eqb (rowOp t a k) phiOp ≡ b → eqb (phiFirst t a k) n ≡ c → 1024 < cond b (cond c (n + phiCount t a k) 1025) n → false ≡ rowsRight t a
+        by : (b c : Bool) → eqb (rowOp t a k) phiOp ≡ b → eqb (phiFirst t a k) n ≡ c → maxEntries < cond b (cond c (n + phiCount t a k) (suc maxEntries)) n → false ≡ rowsRight t a
         by true true p q w =
             let here : rowEntries t a k ≡ phiCount t a k = rw p in
             rw
-            (lt-leb (entriesBefore t a (rowCount t a)) 1024 (omega (arith, h .entries, here, sum-below-le (rowEntries t a) k (rowCount t a) l)), and-false)
+            (lt-leb (entriesBefore t a (rowCount t a)) maxEntries (omega (arith, h .entries, here, sum-below-le (rowEntries t a) k (rowCount t a) l)), and-false)
         by true false p q w =
             rw
             (all-below-not phiPlaced (rowCount t a) k l
@@ -136,7 +137,7 @@ module _ (t : List ℕ) (a : ℕ) where
     range-wrong e =
         rw (all-below-not (λ k. inRange (decodeFunction t a) (decodeRow t a k)) (rowCount t a) k l e, and-false, and-false)
 
-    pub row-more : entriesAfter t a k n ≤ 1024 → inRange (decodeFunction t a) (decodeRow t a k) ≡ true → Rows (k + 1) (entriesAfter t a k n)
+    pub row-more : entriesAfter t a k n ≤ maxEntries → inRange (decodeFunction t a) (decodeRow t a k) ≡ true → Rows (k + 1) (entriesAfter t a k n)
     row-more w e =
         let here = entries-right w in
         record {
@@ -153,4 +154,4 @@ module _ (t : List ℕ) (a : ℕ) where
       let same : k ≡ rowCount t a = omega (arith, h .upto) in
       let count : n ≡ entriesBefore t a (rowCount t a) = h .entries ∙ ap (entriesBefore t a) same in
       rw
-      (all-below phiPlaced (rowCount t a) (λ j c. h .phis j (omega arith)), le-leb (entriesBefore t a (rowCount t a)) 1024 (omega (arith, h .few)), all-below (λ k. inRange (decodeFunction t a) (decodeRow t a k)) (rowCount t a) (λ j c. h .ranges j (omega arith)))
+      (all-below phiPlaced (rowCount t a) (λ j c. h .phis j (omega arith)), le-leb (entriesBefore t a (rowCount t a)) maxEntries (omega (arith, h .few)), all-below (λ k. inRange (decodeFunction t a) (decodeRow t a k)) (rowCount t a) (λ j c. h .ranges j (omega arith)))

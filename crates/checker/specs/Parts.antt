@@ -14,9 +14,9 @@ use Rattle.language.specs.Checking.{inRange, spelledOrNone, distinct}
 use Rattle.spelling.specs.Names.{namesIn}
 
 -- The names of the functions before number i, the last first.
-unfoldable pub namesBefore : List ℕ → ℕ → List (List ℕ)
-namesBefore t zero = []
-namesBefore t (suc i) = functionName t (functionAt i) ∷ namesBefore t i
+unfoldable pub tableNamesBefore : List ℕ → ℕ → List (List ℕ)
+tableNamesBefore t zero = []
+tableNamesBefore t (suc i) = functionName t (functionAt i) ∷ tableNamesBefore t i
 
 -- The mark, the return type, the counts, and entry: a block, with a name of no bytes.
 unfoldable pub headRight : List ℕ → ℕ → Bool
@@ -56,15 +56,15 @@ unfoldable pub listedRight : List ℕ → ℕ → ℕ → ℕ → Bool
 listedRight t at stride count = all spelledOrNone (namesIn t at stride count) && distinct (namesIn t at stride count)
 
 -- The names of the function, its registers and its blocks.
-unfoldable pub namesRight : List ℕ → ℕ → ℕ → Bool
-namesRight t i a =
+unfoldable pub allNamesRight : List ℕ → ℕ → ℕ → Bool
+allNamesRight t i a =
     spelled (functionName t a)
-    && (not (any (same (functionName t a)) (namesBefore t i))
+    && (not (any (same (functionName t a)) (tableNamesBefore t i))
     && (listedRight t (a + registerNamesOffset) registerLength (registerCount t a) && listedRight t (a + blockNamesOffset) blockLength (blockCount t a)))
 
 -- All of it.
 unfoldable pub soundAt : List ℕ → ℕ → ℕ → Bool
-soundAt t i a = headRight t a && (typesRight t a && (blocksRight t a && (rowsRight t a && namesRight t i a)))
+soundAt t i a = headRight t a && (typesRight t a && (blocksRight t a && (rowsRight t a && allNamesRight t i a)))
 
 -- How many rows the function has if so; else one more than there may be.
 unfoldable pub soundRows : List ℕ → ℕ → ℕ → ℕ

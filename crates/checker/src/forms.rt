@@ -3,6 +3,7 @@ ghost use mathlib.Core.Path.{_≡_};
 ghost use Prim.Native.Nat.{_<_, _≤_};
 ghost use Rattle.language.specs.Table.{blockCount, decodeFunction};
 ghost use Rattle.checker.specs.Notes.{RowsRanged, noted as notedᴸ, notedIn, notedOf};
+ghost use Rattle.language.specs.Programs.{maxRows};
 use rules::form_fault;
 use table::block_first;
 use table::block_rows;
@@ -31,8 +32,8 @@ impl Lowest {
 // What is noted of the rows of block b. "A block with no rows is placed at the row where it would begin": 10.
 fn note_block(t: &[u8], a: usize, m: &[u16], b: usize, low: Lowest) -> Lowest
     requires { ⌜ RowsRanged (now t) a (now m) ⌝ }
-    requires { ⌜ (b < blockCount (now t) a) × (low .row ≤ 1024) ⌝ }
-    ensures { λ r. ⌜ (r ≡ notedIn (decodeFunction (now (t .entry)) a) low b) × (r .row ≤ 1024) ⌝ }
+    requires { ⌜ (b < blockCount (now t) a) × (low .row ≤ maxRows) ⌝ }
+    ensures { λ r. ⌜ (r ≡ notedIn (decodeFunction (now (t .entry)) a) low b) × (r .row ≤ maxRows) ⌝ }
 {
     let first = block_first(t, a, b);
     let rows = block_rows(t, a, b);
@@ -57,7 +58,7 @@ fn note_block(t: &[u8], a: usize, m: &[u16], b: usize, low: Lowest) -> Lowest
 pub fn note_blocks(t: &[u8], a: usize, m: &[u16], blocks: usize) -> Lowest
     requires { ⌜ RowsRanged (now t) a (now m) ⌝ }
     requires { ⌜ blocks ≡ blockCount (now t) a ⌝ }
-    ensures { λ r. ⌜ (r ≡ notedOf (decodeFunction (now (t .entry)) a)) × (r .row ≤ 1024) ⌝ }
+    ensures { λ r. ⌜ (r ≡ notedOf (decodeFunction (now (t .entry)) a)) × (r .row ≤ maxRows) ⌝ }
 {
     let mut x = Lowest { number: 17, row: 0 };
     let mut b = 0;

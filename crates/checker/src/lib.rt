@@ -4,7 +4,7 @@ ghost use mathlib.Core.List.{[], _∷_};
 ghost use Prim.Native.Nat.{_<_};
 ghost use lib.Dec.{T};
 ghost use lib.ListN.{length};
-ghost use Rattle.language.specs.Programs.{isSsa};
+ghost use Rattle.language.specs.Programs.{isSsa, maxFunctions};
 ghost use Rattle.language.specs.Table.{functionAt, rowCount, decodeFunction, tableLength};
 ghost use Rattle.language.specs.Checking.{breaks17, rowsThat, firstFault, judge};
 ghost use Rattle.language.specs.Answers.{checkAnswer};
@@ -14,7 +14,7 @@ ghost use Rattle.flow.specs.Sized.{Sized};
 ghost use Rattle.flow.specs.Prepared.{Prepared};
 ghost use Rattle.paths.specs.Formed.{Formed};
 ghost use Rattle.answers.specs.Cases.{verdictOf};
-ghost use Rattle.checker.specs.Parts.{namesBefore};
+ghost use Rattle.checker.specs.Parts.{tableNamesBefore};
 
 mod forms;
 mod sound;
@@ -36,7 +36,7 @@ use table::function_ssa;
 
 // 17 of function i, where it breaks none of 9 to 16.
 fn check_paths(t: &[u8], i: usize, a: usize, m: &[u16], rows: usize) -> Verdict
-    requires { ⌜ Sized (now t) a × Prepared (decodeFunction (now t) a) (now m) × (i < 16) × (rows ≡ rowCount (now t) a) ⌝ }
+    requires { ⌜ Sized (now t) a × Prepared (decodeFunction (now t) a) (now m) × (i < maxFunctions) × (rows ≡ rowCount (now t) a) ⌝ }
     requires { ⌜ (T (isSsa (decodeFunction (now t) a)) → Formed (decodeFunction (now t) a)) ⌝ }
     ensures { λ r. ⌜ verdictOf r ≡ firstFault i 17 (rowsThat (decodeFunction (now (t .entry)) a) (breaks17 (decodeFunction (now (t .entry)) a)) ∷ []) ⌝ }
 {
@@ -52,8 +52,8 @@ fn check_paths(t: &[u8], i: usize, a: usize, m: &[u16], rows: usize) -> Verdict
 
 // Function i, from 9 to 17.
 fn check_function(t: &[u8], i: usize, classes: &[u8; 256], m: &mut [u16]) -> Verdict
-    requires { ⌜ (length (now t) ≡ tableLength) × (i < 16) × (now classes ≡ classTable) × (length (now m) ≡ flowLength) ⌝ }
-    ensures { λ r. ⌜ verdictOf r ≡ judge (namesBefore (now (t .entry)) i) i (decodeFunction (now (t .entry)) (functionAt i)) ⌝ }
+    requires { ⌜ (length (now t) ≡ tableLength) × (i < maxFunctions) × (now classes ≡ classTable) × (length (now m) ≡ flowLength) ⌝ }
+    ensures { λ r. ⌜ verdictOf r ≡ judge (tableNamesBefore (now (t .entry)) i) i (decodeFunction (now (t .entry)) (functionAt i)) ⌝ }
 {
     let a = function_at(i);
     let rows = sound_rows(t, i, a, classes);

@@ -1,11 +1,13 @@
 // 9 of one function, in parts: each looks only at cells that the parts before it have found to be there.
 ghost use mathlib.Core.Path.{_≡_};
-ghost use Prim.Native.Nat.{_+_, _*_, _<_, _≤_};
+ghost use Prim.Native.Nat.{_<_, _≤_};
 ghost use lib.ListN.{length};
 ghost use Rattle.laws.specs.Lists.{any, same};
 ghost use Rattle.language.specs.Table.{registerCount, blockCount, functionName, rowCount, InTable, tableLength};
 ghost use Rattle.lexer.specs.Lexing.{classTable};
-ghost use Rattle.checker.specs.Parts.{namesBefore, headRight, typesRight, placedRows, entriesAfter, rowsRight, listedRight, namesRight, soundRows};
+ghost use Rattle.checker.specs.Parts.{tableNamesBefore, headRight, typesRight, placedRows, entriesAfter, rowsRight, listedRight, allNamesRight, soundRows};
+ghost use Rattle.language.specs.Programs.{maxRows, maxBlocks, maxRegisters, maxFunctions};
+ghost use Rattle.table.specs.Named.{NamesWithin};
 use instructions::ops;
 use instructions::types;
 use rules::in_range;
@@ -70,7 +72,7 @@ fn head_right(t: &[u8], a: usize) -> bool
 
 // Every register's type.
 fn types_right(t: &[u8], a: usize, registers: usize) -> bool
-    requires { ⌜ (InTable (now t) a) × (registers ≡ registerCount (now t) a) × (registers ≤ 256) ⌝ }
+    requires { ⌜ (InTable (now t) a) × (registers ≡ registerCount (now t) a) × (registers ≤ maxRegisters) ⌝ }
     ensures { λ r. ⌜ r ≡ typesRight (now (t .entry)) a ⌝ }
 {
     let mut i = 0;
@@ -85,7 +87,7 @@ fn types_right(t: &[u8], a: usize, registers: usize) -> bool
 
 // How many rows there are, if the blocks' rows are in sequence and not too many; else one more than there may be.
 fn placed_rows(t: &[u8], a: usize, blocks: usize) -> usize
-    requires { ⌜ (InTable (now t) a) × (blocks ≡ blockCount (now t) a) × (blocks ≤ 64) ⌝ }
+    requires { ⌜ (InTable (now t) a) × (blocks ≡ blockCount (now t) a) × (blocks ≤ maxBlocks) ⌝ }
     ensures { λ r. ⌜ r ≡ placedRows (now (t .entry)) a ⌝ }
 {
     let mut n = 0;
@@ -106,7 +108,7 @@ fn placed_rows(t: &[u8], a: usize, blocks: usize) -> usize
 // How many phi entries there are up to row k and with it, n being those before it; one more than there may be, if they are too many
 // or the row's do not begin at n.
 fn entries_after(t: &[u8], a: usize, k: usize, n: usize) -> usize
-    requires { ⌜ (InTable (now t) a) × (k < 1024) × (n ≤ 1024) ⌝ }
+    requires { ⌜ (InTable (now t) a) × (k < maxRows) × (n ≤ maxRows) ⌝ }
     ensures { λ r. ⌜ r ≡ entriesAfter (now (t .entry)) a k n ⌝ }
 {
     if row_op(t, a, k) != ops::PHI {
@@ -121,7 +123,7 @@ fn entries_after(t: &[u8], a: usize, k: usize, n: usize) -> usize
 // Every row's numbers, and where its phi entries stand.
 fn rows_right(t: &[u8], a: usize, registers: usize, blocks: usize, rows: usize) -> bool
     requires { ⌜ (InTable (now t) a) × (registers ≡ registerCount (now t) a) × (blocks ≡ blockCount (now t) a) ⌝ }
-    requires { ⌜ (rows ≡ rowCount (now t) a) × (rows ≤ 1024) ⌝ }
+    requires { ⌜ (rows ≡ rowCount (now t) a) × (rows ≤ maxRows) ⌝ }
     ensures { λ r. ⌜ r ≡ rowsRight (now (t .entry)) a ⌝ }
 {
     let mut entries = 0;
@@ -141,8 +143,8 @@ fn rows_right(t: &[u8], a: usize, registers: usize, blocks: usize, rows: usize) 
 
 // Whether a function before number i has the name of the one at cell a.
 fn named_before(t: &[u8], i: usize, a: usize) -> bool
-    requires { ⌜ (length (now t) ≡ tableLength) × (i < 16) × (InTable (now t) a) ⌝ }
-    ensures { λ r. ⌜ r ≡ any (same (functionName (now (t .entry)) a)) (namesBefore (now (t .entry)) i) ⌝ }
+    requires { ⌜ (length (now t) ≡ tableLength) × (i < maxFunctions) × (InTable (now t) a) ⌝ }
+    ensures { λ r. ⌜ r ≡ any (same (functionName (now (t .entry)) a)) (tableNamesBefore (now (t .entry)) i) ⌝ }
 {
     let name = function_name(t, a);
     find_name(t, FUNCTION_NAMES_OFFSET, FUNCTION_LENGTH, i, name) < i
@@ -150,7 +152,7 @@ fn named_before(t: &[u8], i: usize, a: usize) -> bool
 
 // Names that stand `stride` apart from cell `at` on: each is none or one that a text can spell, and none stands twice.
 fn listed_right(t: &[u8], at: usize, stride: usize, count: usize, classes: &[u8; 256]) -> bool
-    requires { ⌜ (at + stride * count + 256 ≤ length (now t) + stride) × (count ≤ 256) × (now classes ≡ classTable) ⌝ }
+    requires { ⌜ NamesWithin (now t) at stride count × (count ≤ maxRegisters) × (now classes ≡ classTable) ⌝ }
     ensures { λ r. ⌜ r ≡ listedRight (now (t .entry)) at stride count ⌝ }
 {
     if !all_spelled(t, at, stride, count, classes) {
@@ -168,9 +170,9 @@ fn names_right(
     blocks: usize,
     classes: &[u8; 256],
 ) -> bool
-    requires { ⌜ (length (now t) ≡ tableLength) × (i < 16) × (InTable (now t) a) × (now classes ≡ classTable) ⌝ }
-    requires { ⌜ (registers ≡ registerCount (now t) a) × (registers ≤ 256) × (blocks ≡ blockCount (now t) a) × (blocks ≤ 64) ⌝ }
-    ensures { λ r. ⌜ r ≡ namesRight (now (t .entry)) i a ⌝ }
+    requires { ⌜ (length (now t) ≡ tableLength) × (i < maxFunctions) × (InTable (now t) a) × (now classes ≡ classTable) ⌝ }
+    requires { ⌜ (registers ≡ registerCount (now t) a) × (registers ≤ maxRegisters) × (blocks ≡ blockCount (now t) a) × (blocks ≤ maxBlocks) ⌝ }
+    ensures { λ r. ⌜ r ≡ allNamesRight (now (t .entry)) i a ⌝ }
 {
     if !spelled(function_name(t, a), classes) {
         return false;
@@ -192,7 +194,7 @@ fn names_right(
 
 // How many rows the function has, if 9 does not hold of it; else one more than it may have.
 pub fn sound_rows(t: &[u8], i: usize, a: usize, classes: &[u8; 256]) -> usize
-    requires { ⌜ (length (now t) ≡ tableLength) × (i < 16) × (InTable (now t) a) × (now classes ≡ classTable) ⌝ }
+    requires { ⌜ (length (now t) ≡ tableLength) × (i < maxFunctions) × (InTable (now t) a) × (now classes ≡ classTable) ⌝ }
     ensures { λ r. ⌜ r ≡ soundRows (now (t .entry)) i a ⌝ }
 {
     if !head_right(t, a) {

@@ -12,35 +12,36 @@ use lib.Seq.{take-suc, take-all}
 use borrow.Author.Tests.{lt-ltb, le-ltb, ltb-true, ltb-false, eq-eqb, ne-eqb}
 use Rattle.laws.specs.Lists.{all, empty}
 use Rattle.laws.proofs.Joining.{all-both}
+use Rattle.instructions.specs.Ranges.{beyond}
 use Rattle.decimal.specs.declared.words.Decimal.{Decimal}
 use Rattle.decimal.specs.declared.words.Decimal.the-variants as decimals
 use Rattle.decimal.specs.declared.words.Amount.the-variants as amounts
-use Rattle.decimal.specs.Numbers.{isDigit, beyond, withDigit, valueOf, amountOf, decimalFrom, unsigned, numberOf}
+use Rattle.decimal.specs.Numbers.{isDigit, withDigit, valueOf, amountKept, decimalFrom, unsigned, numberOf}
 
 -- ---- a number and how it is kept
 
-pub amount-exact : {v n : ℕ} → amounts.Exact v ≡ amountOf n → (v ≡ n) × (n < beyond)
-unfolding amountOf
+pub amount-exact : {v n : ℕ} → amounts.Exact v ≡ amountKept n → (v ≡ n) × (n < beyond)
+unfolding amountKept
 amount-exact {v} {n} e = by (ltb n beyond) refl e
   where
     by : (t : Bool) → ltb n beyond ≡ t → amounts.Exact v ≡ cond t (amounts.Exact n) amounts.Large → (v ≡ n) × (n < beyond)
     by true p q = (cc, ltb-true n beyond p)
     by false p q = absurd (let z : _≡_ {A = ℕ} 0 1 = cc in omega arith)
 
-pub amount-large : {n : ℕ} → amounts.Large ≡ amountOf n → beyond ≤ n
-unfolding amountOf
+pub amount-large : {n : ℕ} → amounts.Large ≡ amountKept n → beyond ≤ n
+unfolding amountKept
 amount-large {n} e = by (ltb n beyond) refl e
   where
     by : (t : Bool) → ltb n beyond ≡ t → amounts.Large ≡ cond t (amounts.Exact n) amounts.Large → beyond ≤ n
     by true p q = absurd (let z : _≡_ {A = ℕ} 0 1 = cc in omega arith)
     by false p q = ltb-false n beyond p
 
-pub kept-exact : (n : ℕ) → n < beyond → amounts.Exact n ≡ amountOf n
-unfolding amountOf
+pub kept-exact : (n : ℕ) → n < beyond → amounts.Exact n ≡ amountKept n
+unfolding amountKept
 kept-exact n h = rw (lt-ltb n beyond h)
 
-pub kept-large : (n : ℕ) → beyond ≤ n → amounts.Large ≡ amountOf n
-unfolding amountOf
+pub kept-large : (n : ℕ) → beyond ≤ n → amounts.Large ≡ amountKept n
+unfolding amountKept
 kept-large n h = rw (le-ltb n beyond h)
 
 pub says-exact : (s : Bool) (n : ℕ) → n < beyond → decimals.Value s n ≡ decimalFrom s n

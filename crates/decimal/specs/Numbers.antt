@@ -5,6 +5,7 @@ use Prim.Native.Nat.{ℕ, _+_, _-_, _*_}
 use lib.Dec.{eqb, leb, ltb}
 use Rattle.laws.specs.Lists.{all, empty}
 use Rattle.language.specs.Bytes.{minus, digitZero}
+use Rattle.instructions.specs.Ranges.{beyond}
 use Rattle.decimal.specs.declared.words.Decimal.{Decimal}
 use Rattle.decimal.specs.declared.words.Decimal.the-variants as decimals
 use Rattle.decimal.specs.declared.words.Amount.{Amount}
@@ -14,10 +15,6 @@ use Rattle.decimal.specs.declared.words.Amount.the-variants as amounts
 unfoldable pub isDigit : ℕ → Bool
 isDigit b = leb 48 b && ltb b 58
 
--- 2^64
-abbrev pub beyond : ℕ
-beyond = 18446744073709551616
-
 -- The number that decimal digits say.
 abbrev pub withDigit : ℕ → ℕ → ℕ
 withDigit n b = 10 * n + (b - digitZero)
@@ -26,8 +23,8 @@ abbrev pub valueOf : List ℕ → ℕ
 valueOf ds = foldl withDigit 0 ds
 
 -- How a magnitude is kept: itself below 2^64.
-unfoldable pub amountOf : ℕ → Amount
-amountOf n = cond (ltb n beyond) (amounts.Exact n) amounts.Large
+unfoldable pub amountKept : ℕ → Amount
+amountKept n = cond (ltb n beyond) (amounts.Exact n) amounts.Large
 
 -- A number with its sign: itself below 2^64, else its sign alone.
 unfoldable pub decimalFrom : (negative : Bool) (magnitude : ℕ) → Decimal

@@ -2,14 +2,18 @@
 ghost use mathlib.Core.Path.{_≡_};
 ghost use Prim.Native.Nat.{_+_, _<_, _≤_};
 ghost use lib.ListN.{length};
+ghost use Rattle.language.specs.Bytes.{digitZero};
 ghost use Rattle.language.specs.Listing.{digits};
 ghost use Rattle.decimal.specs.Writing.{Written};
 
-fn digit(n: u64) -> u8
+const ZERO: u8 = 48;
+
+// The digit of a number below 10.
+pub fn digit(n: u64) -> u8
     requires { ⌜ n < 10 ⌝ }
-    ensures { λ r. ⌜ r ≡ 48 + n ⌝ }
+    ensures { λ r. ⌜ r ≡ digitZero + n ⌝ }
 {
-    48 + n as u8
+    ZERO + n as u8
 }
 
 // The digits of n from place `at` on, the first one first; the place after them.

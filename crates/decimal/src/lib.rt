@@ -3,6 +3,14 @@ mod digits;
 mod ranges;
 mod words;
 
+// Bytes of the lines that programs read and print.
+pub const TAB: u8 = 9;
+
+pub const LINE_FEED: u8 = 10;
+
+pub const MINUS: u8 = 45;
+
+pub use digits::digit;
 pub use digits::put_digits;
 pub use instructions::types;
 pub use ranges::Bits;

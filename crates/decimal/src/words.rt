@@ -2,7 +2,7 @@
 ghost use mathlib.Core.Path.{_≡_};
 ghost use Prim.Native.Nat.{ℕ, _+_, _-_, _*_, _<_};
 ghost use lib.Dec.{T};
-ghost use Rattle.decimal.specs.Numbers.{isDigit, amountOf, unsigned, numberOf, decimalFrom};
+ghost use Rattle.decimal.specs.Numbers.{isDigit, amountKept, unsigned, numberOf, decimalFrom};
 
 // What a word says: nothing, a number below 2^64 with its sign, or one beyond.
 pub enum Decimal {
@@ -29,7 +29,7 @@ fn is_digit(b: u8) -> bool
 // One digit more.
 fn grown(a: Amount, digit: u64) -> Amount
     requires { ⌜ digit < 10 ⌝ }
-    ensures { λ r. ⌜ ((n : ℕ) → a ≡ amountOf n → r ≡ amountOf (10 * n + digit)) ⌝ }
+    ensures { λ r. ⌜ ((n : ℕ) → a ≡ amountKept n → r ≡ amountKept (10 * n + digit)) ⌝ }
 {
     let Amount::Exact(v) = a else {
         return Amount::Large;
@@ -42,7 +42,7 @@ fn grown(a: Amount, digit: u64) -> Amount
 
 // The word's sign and digits as a number.
 fn signed_amount(negative: bool, a: Amount) -> Decimal
-    ensures { λ r. ⌜ ((n : ℕ) → a ≡ amountOf n → r ≡ decimalFrom negative n) ⌝ }
+    ensures { λ r. ⌜ ((n : ℕ) → a ≡ amountKept n → r ≡ decimalFrom negative n) ⌝ }
 {
     match a {
         Amount::Exact(v) => Decimal::Value(negative, v),

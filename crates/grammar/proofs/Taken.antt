@@ -10,7 +10,7 @@ use Rattle.laws.proofs.Branches.{branches, by-true, by-false}
 use Rattle.language.specs.Grammar.{Move as Moveᴸ, Act as Actᴸ, Stage as Stageᴸ, to, wrongMove, wordAlone, anInstruction, onName, onWord, onNumber, onBlock, onMarkOr, onEndOr}
 use Rattle.language.specs.Words.{entryWord}
 use Rattle.language.specs.Tokens.{Token as Tokenᴸ}
-use Rattle.grammar.specs.Meaning.{Spot, nameOf, magnitudeOf, tokenOf, moveOf, actOf, stageIs, isMark, named}
+use Rattle.grammar.specs.Meaning.{TokenSpot, nameOf, magnitudeOf, tokenOf, moveOf, actOf, stageIs, isMark, namedMove}
 use Rattle.lexer.specs.declared.Token.{Token}
 use Rattle.lexer.specs.declared.Token.the-variants.{Name, Word, Number, Mark, End}
 use Rattle.grammar.specs.declared.Stage.{Stage}
@@ -26,13 +26,13 @@ abbrev Only : List ℕ → Token → Type 0
 Only ks t = OneOf ks (tagOf declared.the-type t)
 
 -- A move that is known.
-pub is-move : (s : Spot) (m m' : Move) (x : Moveᴸ) → m ≡ m' → moveOf s m' ≡ x → moveOf s m ≡ x
+pub is-move : (s : TokenSpot) (m m' : Move) (x : Moveᴸ) → m ≡ m' → moveOf s m' ≡ x → moveOf s m ≡ x
 is-move s m m' x e p = ap (moveOf s) e ∙ p
 
 pub is-stage : (m m' : Stage) (x : Stageᴸ) → m ≡ m' → stageIs m' ≡ x → stageIs m ≡ x
 is-stage m m' x e p = ap stageIs e ∙ p
 
-module _ (s : Spot) (x : Moveᴸ) where
+module _ (s : TokenSpot) (x : Moveᴸ) where
   pub by-name : (k : List ℕ → Moveᴸ) (t : Token) (n : ℕ) → t ≡ Name n → x ≡ k (nameOf s n) → x ≡ onName k (tokenOf s t)
   by-name k t n e p = rw e p
 
@@ -132,15 +132,15 @@ module _ (s : Spot) (x : Moveᴸ) where
     by-no-block End h g p = p
 
 -- A move to a stage that is known.
-pub with-stage : (s : Spot) (x : Stage) (a : Act) (y : Stageᴸ) (b : Actᴸ) → stageIs x ≡ y → actOf s a ≡ b → moveOf s (record { stage = x; act = a }) ≡ to y b
+pub with-stage : (s : TokenSpot) (x : Stage) (a : Act) (y : Stageᴸ) (b : Actᴸ) → stageIs x ≡ y → actOf s a ≡ b → moveOf s (record { stage = x; act = a }) ≡ to y b
 with-stage s x a y b e f = ap (λ (z : Stageᴸ). to z (actOf s a)) e ∙ ap (to y) f
 
 -- A block's name taken apart.
-module _ (t : Token) (r : Named) (f : (s : Spot) (k : List ℕ → Moveᴸ) → named s k r ≡ onBlock k (tokenOf s t)) (s : Spot) (k : List ℕ → Moveᴸ) (x : Moveᴸ) where
+module _ (t : Token) (r : Named) (f : (s : TokenSpot) (k : List ℕ → Moveᴸ) → namedMove s k r ≡ onBlock k (tokenOf s t)) (s : TokenSpot) (k : List ℕ → Moveᴸ) (x : Moveᴸ) where
   pub by-named : (n : ℕ) → r ≡ Bytes n → x ≡ k (nameOf s n) → x ≡ onBlock k (tokenOf s t)
-  by-named n e p = p ∙ ap (named s k) (sym e) ∙ f s k
+  by-named n e p = p ∙ ap (namedMove s k) (sym e) ∙ f s k
 
-pub by-unnamed : (t : Token) (r : Named) (f : (s : Spot) (k : List ℕ → Moveᴸ) → named s k r ≡ onBlock k (tokenOf s t)) (s : Spot) (k : List ℕ → Moveᴸ) (x : Moveᴸ) → OneOf (1 ∷ []) (tagOf declared-named.the-type r) → x ≡ wrongMove → x ≡ onBlock k (tokenOf s t)
+pub by-unnamed : (t : Token) (r : Named) (f : (s : TokenSpot) (k : List ℕ → Moveᴸ) → namedMove s k r ≡ onBlock k (tokenOf s t)) (s : TokenSpot) (k : List ℕ → Moveᴸ) (x : Moveᴸ) → OneOf (1 ∷ []) (tagOf declared-named.the-type r) → x ≡ wrongMove → x ≡ onBlock k (tokenOf s t)
 by-unnamed t (Bytes n) f s k x h p = absurd (miss (1 ∷ []) 0 tt h)
 by-unnamed t Nothing f s k x h p = p ∙ f s k
 

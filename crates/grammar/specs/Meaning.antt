@@ -17,20 +17,20 @@ use Rattle.grammar.specs.declared.Named.{Named}
 use Rattle.grammar.specs.declared.Named.the-variants.{Bytes, Nothing}
 
 -- Where a token stands: the text, the token's place in it, and the magnitude of a number that is 2^64 or more, by the value kept of it.
-pub record Spot : Type 0 where
+pub record TokenSpot : Type 0 where
   pub text : List ℕ
   pub place : ℕ
   pub large : ℕ → ℕ
 
 -- So many bytes of the text, from the token's place.
-abbrev pub nameOf : Spot → ℕ → List ℕ
+abbrev pub nameOf : TokenSpot → ℕ → List ℕ
 nameOf s n = take n (drop (s .place) (s .text))
 
-abbrev pub magnitudeOf : Spot → ℕ → Bool → ℕ
+abbrev pub magnitudeOf : TokenSpot → ℕ → Bool → ℕ
 magnitudeOf s v true = s .large v
 magnitudeOf s v false = v
 
-abbrev pub tokenOf : Spot → Token → Tokenᴸ
+abbrev pub tokenOf : TokenSpot → Token → Tokenᴸ
 tokenOf s (Name n) = Tokenᴸ.name (nameOf s n)
 tokenOf s (Word w) = Tokenᴸ.word w
 tokenOf s (Number neg v over) = Tokenᴸ.number neg (magnitudeOf s v over)
@@ -57,7 +57,7 @@ stages m d =
 abbrev pub stageOf : (kind more detail : ℕ) → Stageᴸ
 stageOf k m d = getD (stages m d) k Stageᴸ.instructionEnd
 
-abbrev pub actOf : Spot → Act → Actᴸ
+abbrev pub actOf : TokenSpot → Act → Actᴸ
 actOf s Act.Wrong = Actᴸ.wrong
 actOf s Act.Pass = Actᴸ.pass
 actOf s Act.BeginFunction = Actᴸ.beginFunction
@@ -107,12 +107,12 @@ actBytes Act.EndFunction = 0
 abbrev pub stageIs : Stage → Stageᴸ
 stageIs x = stageOf (x .kind) (x .more) (x .detail)
 
-abbrev pub moveOf : Spot → Move → Moveᴸ
+abbrev pub moveOf : TokenSpot → Move → Moveᴸ
 moveOf s m = to (stageIs (m .stage)) (actOf s (m .act))
 
 -- Wherever this token stands, m is the move that g makes of it.
 abbrev pub Moves : (Tokenᴸ → Moveᴸ) → Token → Move → Type 0
-Moves g t m = (s : Spot) → moveOf s m ≡ g (tokenOf s t)
+Moves g t m = (s : TokenSpot) → moveOf s m ≡ g (tokenOf s t)
 
 abbrev pub stageFrom : (kind more detail : ℕ) → Stage
 stageFrom k m d = record { kind = k; more = m; detail = d }
@@ -137,6 +137,6 @@ abbrev pub instructionAt : ℕ → Stageᴸ
 instructionAt k = cond (eqb k 18) Stageᴸ.nextInstruction Stageᴸ.firstInstruction
 
 -- The move that a block's name makes, if there is one.
-abbrev pub named : Spot → (List ℕ → Moveᴸ) → Named → Moveᴸ
-named s k (Bytes n) = k (nameOf s n)
-named s k Nothing = wrongMove
+abbrev pub namedMove : TokenSpot → (List ℕ → Moveᴸ) → Named → Moveᴸ
+namedMove s k (Bytes n) = k (nameOf s n)
+namedMove s k Nothing = wrongMove

@@ -12,7 +12,7 @@ ghost use mathlib.Core.List.{List};
 ghost use Prim.Native.Nat.{ℕ};
 ghost use Rattle.language.specs.Words.{isType, isInstruction};
 ghost use Rattle.language.specs.Grammar.{gram as gramOf, aResult, wordWithTarget, wordAlone, inOperand, onMark, onWord, onBlock, isWord, afterSources, afterSource, afterMention, Stage as Stageᴸ, Move as Moveᴸ, sources as sourcesᴸ};
-ghost use Rattle.grammar.specs.Meaning.{Spot, Moves, moveOf, tokenOf, moveTo, stageIs, stageFrom, operandFrom, isMark, endsBlock, instructionAt, named};
+ghost use Rattle.grammar.specs.Meaning.{TokenSpot, Moves, moveOf, tokenOf, moveTo, stageIs, stageFrom, operandFrom, isMark, endsBlock, instructionAt, namedMove};
 
 // What comes next: a kind, how many sources or blocks come after the next one, and a type or an operand's number.
 pub struct Stage {
@@ -94,7 +94,7 @@ fn is_mark(token: Token, byte: u8) -> bool
 
 // This mark and no other token.
 fn mark(token: Token, byte: u8, next: Move) -> Move
-    ensures { λ r. ⌜ ((s : Spot) → moveOf s r ≡ onMark byte (moveOf s next) (tokenOf s token)) ⌝ }
+    ensures { λ r. ⌜ ((s : TokenSpot) → moveOf s r ≡ onMark byte (moveOf s next) (tokenOf s token)) ⌝ }
 {
     let Token::Mark(b) = token else {
         return Move::wrong();
@@ -107,7 +107,7 @@ fn mark(token: Token, byte: u8, next: Move) -> Move
 
 // This word and no other token.
 fn word(token: Token, number: u8, next: Move) -> Move
-    ensures { λ r. ⌜ ((s : Spot) → moveOf s r ≡ onWord (isWord number (moveOf s next)) (tokenOf s token)) ⌝ }
+    ensures { λ r. ⌜ ((s : TokenSpot) → moveOf s r ≡ onWord (isWord number (moveOf s next)) (tokenOf s token)) ⌝ }
 {
     let Token::Word(w) = token else {
         return Move::wrong();
@@ -144,7 +144,7 @@ fn top(token: Token) -> Move
 
 // "return type or `void`"
 fn result_word(w: u8) -> Move
-    ensures { λ r. ⌜ ((s : Spot) → moveOf s r ≡ aResult w) ⌝ }
+    ensures { λ r. ⌜ ((s : TokenSpot) → moveOf s r ≡ aResult w) ⌝ }
 {
     if w == words::VOID {
         return Move::to(FUNCTION_NAME, Act::SetResult(types::VOID));
@@ -299,7 +299,7 @@ enum Named {
 
 // "`entry` or a name"
 fn block(token: Token) -> Named
-    ensures { λ r. ⌜ ((s : Spot) (k : List ℕ → Moveᴸ) → named s k r ≡ onBlock k (tokenOf s token)) ⌝ }
+    ensures { λ r. ⌜ ((s : TokenSpot) (k : List ℕ → Moveᴸ) → namedMove s k r ≡ onBlock k (tokenOf s token)) ⌝ }
 {
     if let Token::Name(n) = token {
         return Named::Bytes(n);
@@ -345,7 +345,7 @@ fn after_word(sources: u8, operand: u8) -> Stage
 
 // An instruction word that stands without a target.
 fn word_alone(w: u8) -> Move
-    ensures { λ r. ⌜ ((s : Spot) → moveOf s r ≡ wordAlone w) ⌝ }
+    ensures { λ r. ⌜ ((s : TokenSpot) → moveOf s r ≡ wordAlone w) ⌝ }
 {
     if !is_instruction(w) {
         return Move::wrong();
@@ -364,7 +364,7 @@ fn word_alone(w: u8) -> Move
 
 // The instruction word after a target.
 fn word_with_target(w: u8) -> Move
-    ensures { λ r. ⌜ ((s : Spot) → moveOf s r ≡ wordWithTarget w) ⌝ }
+    ensures { λ r. ⌜ ((s : TokenSpot) → moveOf s r ≡ wordWithTarget w) ⌝ }
 {
     if !is_instruction(w) {
         return Move::wrong();

@@ -11,6 +11,7 @@ ghost use Rattle.naming.specs.Numbered.{RegistersNumbered};
 ghost use Rattle.page.specs.Page.{page, puts};
 ghost use Rattle.token_text.specs.Spaced.{spaced};
 ghost use Rattle.head_text.specs.Heads.{typedBytes, parameterBytes, registerBytes, Declared};
+ghost use Rattle.language.specs.Programs.{maxRegisters};
 use page::put_part;
 use table::function_name;
 use table::function_params;
@@ -28,7 +29,7 @@ const SSA: u8 = 1;
 
 // A register's type and name.
 fn put_typed(t: &[u8], a: usize, made: &[u16], r: usize, out: &mut [u8], at: usize) -> usize
-    requires { ⌜ Declared (now t) a × RegistersNumbered (decodeFunction (now t) a) (now made) × (256 ≤ length (now made)) × (r < registerCount (now t) a) ⌝ }
+    requires { ⌜ Declared (now t) a × RegistersNumbered (decodeFunction (now t) a) (now made) × (maxRegisters ≤ length (now made)) × (r < registerCount (now t) a) ⌝ }
     ensures { λ p. ⌜ page (now (out .exit)) p ≡ puts (page (now (out .entry)) at) (typedBytes (namedFunction (decodeFunction (now (t .entry)) a)) r) ⌝ }
 {
     let p = put_type(register_type(t, a, r), out, at);
@@ -37,7 +38,7 @@ fn put_typed(t: &[u8], a: usize, made: &[u16], r: usize, out: &mut [u8], at: usi
 
 // A parameter, parted by a comma from the one before it.
 fn put_parameter(t: &[u8], a: usize, made: &[u16], r: usize, out: &mut [u8], at: usize) -> usize
-    requires { ⌜ Declared (now t) a × RegistersNumbered (decodeFunction (now t) a) (now made) × (256 ≤ length (now made)) × (r < registerCount (now t) a) ⌝ }
+    requires { ⌜ Declared (now t) a × RegistersNumbered (decodeFunction (now t) a) (now made) × (maxRegisters ≤ length (now made)) × (r < registerCount (now t) a) ⌝ }
     ensures { λ p. ⌜ page (now (out .exit)) p ≡ puts (page (now (out .entry)) at) (parameterBytes (namedFunction (decodeFunction (now (t .entry)) a)) r) ⌝ }
 {
     if r == 0 {
@@ -49,7 +50,7 @@ fn put_parameter(t: &[u8], a: usize, made: &[u16], r: usize, out: &mut [u8], at:
 
 // All parameters.
 fn put_parameters(t: &[u8], a: usize, made: &[u16], out: &mut [u8], at: usize) -> usize
-    requires { ⌜ Declared (now t) a × RegistersNumbered (decodeFunction (now t) a) (now made) × (256 ≤ length (now made)) ⌝ }
+    requires { ⌜ Declared (now t) a × RegistersNumbered (decodeFunction (now t) a) (now made) × (maxRegisters ≤ length (now made)) ⌝ }
     ensures { λ p.
         let g = namedFunction (decodeFunction (now (t .entry)) a) in
         ⌜ page (now (out .exit)) p ≡ puts (page (now (out .entry)) at) (spaced (parted (map parameterPart (take (functionParams (now (t .entry)) a) (g .registers))))) ⌝ }
@@ -77,7 +78,7 @@ fn put_mark(t: &[u8], a: usize, out: &mut [u8], at: usize) -> usize
 
 // "a head with its `{`"
 pub fn put_head(t: &[u8], a: usize, made: &[u16], out: &mut [u8], at: usize) -> usize
-    requires { ⌜ Declared (now t) a × RegistersNumbered (decodeFunction (now t) a) (now made) × (256 ≤ length (now made)) ⌝ }
+    requires { ⌜ Declared (now t) a × RegistersNumbered (decodeFunction (now t) a) (now made) × (maxRegisters ≤ length (now made)) ⌝ }
     ensures { λ p. ⌜ page (now (out .exit)) p ≡ puts (page (now (out .entry)) at) (lineBytes (headLine (namedFunction (decodeFunction (now (t .entry)) a)))) ⌝ }
 {
     let word = put_part(out, at, b"function ");
@@ -91,7 +92,7 @@ pub fn put_head(t: &[u8], a: usize, made: &[u16], out: &mut [u8], at: usize) -> 
 
 // A register's declaration.
 fn put_declaration(t: &[u8], a: usize, made: &[u16], r: usize, out: &mut [u8], at: usize) -> usize
-    requires { ⌜ Declared (now t) a × RegistersNumbered (decodeFunction (now t) a) (now made) × (256 ≤ length (now made)) × (r < registerCount (now t) a) ⌝ }
+    requires { ⌜ Declared (now t) a × RegistersNumbered (decodeFunction (now t) a) (now made) × (maxRegisters ≤ length (now made)) × (r < registerCount (now t) a) ⌝ }
     ensures { λ p. ⌜ page (now (out .exit)) p ≡ puts (page (now (out .entry)) at) (registerBytes (namedFunction (decodeFunction (now (t .entry)) a)) r) ⌝ }
 {
     let word = put_part(out, at, b"register ");
@@ -101,7 +102,7 @@ fn put_declaration(t: &[u8], a: usize, made: &[u16], r: usize, out: &mut [u8], a
 
 // The declarations of all registers past the parameters.
 pub fn put_registers(t: &[u8], a: usize, made: &[u16], out: &mut [u8], at: usize) -> usize
-    requires { ⌜ Declared (now t) a × RegistersNumbered (decodeFunction (now t) a) (now made) × (256 ≤ length (now made)) ⌝ }
+    requires { ⌜ Declared (now t) a × RegistersNumbered (decodeFunction (now t) a) (now made) × (maxRegisters ≤ length (now made)) ⌝ }
     ensures { λ p.
         let g = namedFunction (decodeFunction (now (t .entry)) a) in
         let params = functionParams (now (t .entry)) a in

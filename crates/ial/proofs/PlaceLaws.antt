@@ -5,11 +5,11 @@ use mathlib.Core.Bool.{true}
 use mathlib.Core.List.{List, []}
 use Prim.Native.Nat.{ℕ, _+_, _<_}
 use native.Mathlib.Omega.{arith}
-use Rattle.language.specs.Programs.{Func, firstRow}
+use Rattle.language.specs.Programs.{Func, firstRow, maxRows, maxFunctions}
 use Rattle.language.specs.Table.{decodeFunction}
 use Rattle.language.specs.Running.{Place, Outcome, Run, runOf, argumentsFit}
 use Rattle.language.specs.Answers.{Ran, placeOf, ranAs}
-use Rattle.theorems.specs.Clean.{Clean, At}
+use Rattle.theorems.specs.Clean.{Clean, AtPlace}
 use Rattle.theorems.proofs.AcceptanceCheck.{sound-parts}
 use Rattle.theorems.proofs.Values.{Stays, run-stays}
 use Rattle.theorems.proofs.Spots.{first-within}
@@ -20,17 +20,17 @@ use Rattle.ial.specs.Runs.{stopPlace}
 module _ (f : Func) (c : Clean f) where
   -- The place of a run is a row of the function.
   abbrev OnRow : Run → Type 0
-  OnRow (Run.going p g) = firstRow f (p .block) + p .row < 1024
-  OnRow (Run.ended o p g) = firstRow f (p .block) + p .row < 1024
+  OnRow (Run.going p g) = firstRow f (p .block) + p .row < maxRows
+  OnRow (Run.ended o p g) = firstRow f (p .block) + p .row < maxRows
 
-  row-within : (p : Place) → At f p → firstRow f (p .block) + p .row < 1024
+  row-within : (p : Place) → AtPlace f p → firstRow f (p .block) + p .row < maxRows
   row-within p v = omega (arith, first-within f (p .block) (v .block), v .row, sound-parts [] f (c .head) .rows)
 
   run-within : (x : Run) → Stays f x → OnRow x
   run-within (Run.going p g) s = row-within p (s .0)
   run-within (Run.ended o p g) s = row-within p (s .0)
 
-  place-small : (i : ℕ) → i < 16 → (x : Run) → OnRow x → stopPlace (ranAs i f x) < 32768
+  place-small : (i : ℕ) → i < maxFunctions → (x : Run) → OnRow x → stopPlace (ranAs i f x) < 32768
   unfolding placeOf
   place-small i l (Run.going p g) w = omega arith
   place-small i l (Run.ended (Outcome.returned v) p g) w = omega arith
@@ -40,7 +40,7 @@ module _ (f : Func) (c : Clean f) where
 -- so the code's place is
 pub answer-small :
     {t : List ℕ} {a : ℕ} {args : List ℕ} {budget n : ℕ} {r : Runᶜ} {h : List ℕ} (i : ℕ)
-    → i < 16
+    → i < maxFunctions
     → Clean (decodeFunction t a)
     → argumentsFit (decodeFunction t a) args ≡ true
     → Answers t a args budget n r h

@@ -8,7 +8,7 @@ use Rattle.language.specs.Answers.{zeros, readAnswer, checkAnswer, signatureAns
 use Rattle.answers.specs.declared.Verdict.{Verdict}
 use Rattle.answers.specs.declared.Ran.{Ran}
 use Rattle.answers.specs.declared.Wrote.{Wrote}
-use Rattle.answers.specs.declared.numbers.Answer.{Answer}
+use Rattle.answers.specs.declared.figures.Answer.{Answer}
 use Rattle.answers.specs.Cases.{verdictOf}
 use Rattle.answers.specs.Numbers.{numbersOf}
 use Rattle.answers.specs.Lent.{filledOf, finishedOf, listedOf, shownOf}

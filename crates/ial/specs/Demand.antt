@@ -15,7 +15,7 @@ use Rattle.answers.specs.declared.Verdict.{Verdict}
 use Rattle.answers.specs.declared.Verdict.the-variants as verdicts
 use Rattle.answers.specs.declared.Ran.{Ran}
 use Rattle.answers.specs.declared.Ran.the-variants as rans
-use Rattle.answers.specs.declared.numbers.Answer.{Answer}
+use Rattle.answers.specs.declared.figures.Answer.{Answer}
 use Rattle.answers.specs.Cases.{ranOf}
 use Rattle.answers.specs.Numbers.{numbersOf}
 use Rattle.answers.specs.Lent.{filledOf}

@@ -14,7 +14,7 @@ use Rattle.answers.specs.declared.Verdict.the-variants as verdicts
 use Rattle.answers.specs.declared.Ran.{Ran}
 use Rattle.answers.specs.declared.Wrote.{Wrote}
 use Rattle.answers.specs.declared.Wrote.the-variants as wrotes
-use Rattle.answers.specs.declared.numbers.Answer.{Answer}
+use Rattle.answers.specs.declared.figures.Answer.{Answer}
 use Rattle.answers.specs.Numbers.{numbersOf}
 use Rattle.answers.specs.Lent.{filledOf}
 use Rattle.ial.specs.Demand.{noRefusal}

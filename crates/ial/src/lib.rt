@@ -29,9 +29,10 @@ pub use answers::Verdict;
 pub use answers::Wrote;
 use checker::check_table;
 pub use instructions::types;
+use numbers::zero;
 use reader::read_text;
+pub use table::MAX_TEXT;
 pub use table::TABLE_LENGTH;
-use table::zero;
 ghost use mathlib.Core.Path.{_≡_};
 ghost use Prim.Native.Nat.{_≤_};
 ghost use lib.ListN.{length};
@@ -41,10 +42,11 @@ ghost use Rattle.language.specs.Table.{tableLength};
 ghost use Rattle.answers.specs.Cases.{verdictOf};
 ghost use Rattle.ial.specs.Verdicts.{Into, Aside, otherLength};
 ghost use Rattle.ial.specs.Calls.{ReadCalled, CheckCalled};
+ghost use Rattle.language.specs.Programs.{maxText};
 
 // The text read into a table of the right length that is all zero.
 fn read_into(text: &[u8], t: &mut [u8]) -> Verdict
-    requires { ⌜ (length (now text) ≤ 65536) × (now t ≡ zeros tableLength) ⌝ }
+    requires { ⌜ (length (now text) ≤ maxText) × (now t ≡ zeros tableLength) ⌝ }
     ensures { λ r. ⌜ Into (now (t .exit)) (readOf (now (text .entry))) r ⌝ }
 {
     let mut pend = [0u8; SCRATCH_LENGTH];
@@ -67,7 +69,7 @@ fn other_length(r: Verdict) -> Verdict
 
 // A text for an output that has no room for a table: 1 to 8 come first, so it is read into a table of this function's own.
 fn read_aside(text: &[u8]) -> Verdict
-    requires { ⌜ length (now text) ≤ 65536 ⌝ }
+    requires { ⌜ length (now text) ≤ maxText ⌝ }
     ensures { λ r. ⌜ Aside (readOf (now (text .entry))) r ⌝ }
 {
     let mut aside = [0u8; TABLE_LENGTH];
@@ -87,7 +89,7 @@ pub fn read(text: &[u8], out: &mut [u8]) -> Verdict
         return other_length(r);
     }
     zero(out);
-    if 65536 < text.len() {
+    if MAX_TEXT < text.len() {
         return Verdict::Refused(1, 0);
     }
     if out.len() < TABLE_LENGTH {

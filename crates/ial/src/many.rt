@@ -12,6 +12,7 @@ ghost use Rattle.flow.specs.Predecessors.{Flowed};
 ghost use Rattle.answers.specs.Numbers.{numbersOf};
 ghost use Rattle.ial.specs.Runs.{cellsFrom};
 ghost use Rattle.ial.specs.Calls.{RunEachCalled};
+ghost use Rattle.language.specs.Programs.{maxRows};
 use crate::running::run_prepared;
 use answers::Answer;
 use answers::Verdict;
@@ -22,6 +23,7 @@ use checker::check_table;
 use flow::FLOW_LENGTH;
 use flow::prepare_predecessors;
 use machine::start;
+use table::MAX_ROWS;
 use table::function_at;
 use table::function_count;
 
@@ -50,7 +52,7 @@ fn run_all(
 )
     requires { ⌜ checkAnswer (now t) ≡ Verdictᴸ.accepted ⌝ }
     requires { ⌜ i < functionCount (now t) ⌝ }
-    requires { ⌜ Flowed (decodeFunction (now t) (functionAt i)) (now m) (blockCount (now t) (functionAt i)) × (length (now taken) ≡ 1024) ⌝ }
+    requires { ⌜ Flowed (decodeFunction (now t) (functionAt i)) (now m) (blockCount (now t) (functionAt i)) × (length (now taken) ≡ maxRows) ⌝ }
     requires { ⌜ length (now out) ≡ 4 * length (now args) ⌝ }
     ensures { λ _. ⌜ now (out .exit) ≡ cellsFrom (λ a. ranNumbers (runFunction (decode (now (t .entry))) i (a ∷ []) budget (length (now (registers .entry))) .answer)) (now (args .entry)) ⌝ }
 {
@@ -83,7 +85,7 @@ fn each_checked(
     let i = function as usize;
     let mut m = [0u16; FLOW_LENGTH];
     prepare_predecessors(t, function_at(i), &mut m);
-    let mut taken = [0u64; 1024];
+    let mut taken = [0u64; MAX_ROWS];
     run_all(t, i, &m, args, budget, &mut taken, registers, out);
 }
 

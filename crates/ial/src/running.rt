@@ -11,6 +11,7 @@ ghost use Rattle.answers.specs.Cases.{ranOf};
 ghost use Rattle.answers.specs.Lent.{finishedOf};
 ghost use Rattle.ial.specs.Runs.{stopPlace, RunsTo};
 ghost use Rattle.ial.specs.Calls.{RunCalled};
+ghost use Rattle.language.specs.Programs.{maxRows};
 use answers::Ran;
 use answers::Verdict;
 use answers::row_place;
@@ -22,6 +23,7 @@ use machine::Run;
 use machine::first_unfit;
 use machine::run_on;
 use machine::start;
+use table::MAX_ROWS;
 use table::function_at;
 use table::function_count;
 use table::function_params;
@@ -55,7 +57,7 @@ pub fn run_prepared(
 ) -> Ran
     requires { ⌜ checkAnswer (now t) ≡ Verdictᴸ.accepted ⌝ }
     requires { ⌜ i < functionCount (now t) ⌝ }
-    requires { ⌜ Flowed (decodeFunction (now t) (functionAt i)) (now m) (blockCount (now t) (functionAt i)) × (length (now taken) ≡ 1024) ⌝ }
+    requires { ⌜ Flowed (decodeFunction (now t) (functionAt i)) (now m) (blockCount (now t) (functionAt i)) × (length (now taken) ≡ maxRows) ⌝ }
     ensures { λ r. ⌜ RunsTo (decode (now (t .entry))) i (now (args .entry)) budget (now (registers .entry)) r (now (registers .exit)) ⌝ }
 {
     let a = function_at(i);
@@ -84,7 +86,7 @@ fn run_checked(t: &[u8], function: u64, args: &[u64], budget: u64, registers: &m
     let i = function as usize;
     let mut m = [0u16; FLOW_LENGTH];
     prepare_predecessors(t, function_at(i), &mut m);
-    let mut taken = [0u64; 1024];
+    let mut taken = [0u64; MAX_ROWS];
     run_prepared(t, i, &m, args, budget, &mut taken, registers)
 }
 

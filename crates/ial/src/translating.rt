@@ -10,11 +10,11 @@ use answers::Verdict;
 use checker::check_table;
 use flow::FLOW_LENGTH;
 use flow::prepare;
+use numbers::zero;
 use table::TABLE_LENGTH;
 use table::function_at;
 use table::function_count;
 use table::function_ssa;
-use table::zero;
 use translator::fits;
 use translator::translate_into;
 

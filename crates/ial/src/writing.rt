@@ -10,11 +10,9 @@ ghost use Rattle.ial.specs.Calls.{WriteCalled};
 use answers::Verdict;
 use answers::Wrote;
 use checker::check_table;
-use table::zero;
+use numbers::zero;
+use table::MAX_TEXT;
 use writer::write_table;
-
-// The longest text.
-const TEXT: usize = 65536;
 
 // A table that passes its check: "33 if the text exceeds 65,536 bytes, then 32 exactly if it exceeds the buffer".
 fn write_checked(t: &[u8], out: &mut [u8]) -> Wrote
@@ -22,7 +20,7 @@ fn write_checked(t: &[u8], out: &mut [u8]) -> Wrote
     ensures { λ r. ⌜ shownOf r (now (out .exit)) ≡ show (length (now (out .entry))) (written (decode (now (t .entry)))) ⌝ }
 {
     let n = write_table(out, t);
-    if TEXT < n {
+    if MAX_TEXT < n {
         zero(out);
         return Wrote::Refused(33, 0);
     }

@@ -2,10 +2,12 @@
 ghost use mathlib.Core.Path.{_≡_};
 ghost use Prim.Native.Nat.{_≤_};
 ghost use lib.ListN.{length};
+ghost use Rattle.language.specs.Programs.{maxRegisters};
 
 mod files;
 
 use calling::Budget;
+use calling::LISTING_MOST;
 use calling::keep_argument;
 use calling::list_text;
 use calling::read_budget;
@@ -18,16 +20,12 @@ use files::say_argument;
 use files::say_budget;
 use files::say_wrong;
 use loading::upto;
+use table::MAX_REGISTERS;
+use table::MAX_TEXT;
 use table::same;
 
-// Room for the lines of 16 functions.
-const LINES: usize = 2384;
-
-// The longest text that is written.
-const WRITTEN: usize = 65536;
-
 // One byte more than a text may have: such a text is refused as too long, whatever follows.
-const TEXT: usize = 65537;
+const TEXT: usize = MAX_TEXT + 1;
 
 // The longest word that Linux hands to a program, its end included: no word is cut.
 const WORD: usize = 131072;
@@ -36,7 +34,7 @@ const WORD: usize = 131072;
 const ARGUMENTS: usize = 5;
 
 // The arguments that are kept: no function has more parameters.
-const KEPT: usize = 256;
+const KEPT: usize = MAX_REGISTERS;
 
 // `list FILE`: the listing of document 01.
 fn list(path: &[u8]) {
@@ -45,7 +43,7 @@ fn list(path: &[u8]) {
     if TEXT < n {
         return;
     }
-    let mut out = [0u8; LINES];
+    let mut out = [0u8; LISTING_MOST];
     let k = list_text(upto(&text, n), &mut out);
     answer(upto(&out, k));
 }
@@ -57,7 +55,7 @@ fn write(path: &[u8]) {
     if TEXT < n {
         return;
     }
-    let mut out = [0u8; WRITTEN];
+    let mut out = [0u8; MAX_TEXT];
     let k = write_text(upto(&text, n), &mut out);
     answer(upto(&out, k));
 }
@@ -69,14 +67,14 @@ fn translate(path: &[u8], word: &[u8]) {
     if TEXT < n {
         return;
     }
-    let mut out = [0u8; WRITTEN];
+    let mut out = [0u8; MAX_TEXT];
     let k = translate_text(upto(&text, n), word, &mut out);
     answer(upto(&out, k));
 }
 
 // Keeps word i as an argument, and says whether it is a number.
 fn keep_word(i: usize, signs: &mut [u8], magnitudes: &mut [u64]) -> bool
-    requires { ⌜ (5 ≤ i) × (length (now signs) ≡ 256) × (length (now magnitudes) ≡ 256) ⌝ }
+    requires { ⌜ (5 ≤ i) × (length (now signs) ≡ maxRegisters) × (length (now magnitudes) ≡ maxRegisters) ⌝ }
 {
     let mut word = [0u8; WORD];
     let n = os::arg(i, &mut word);
@@ -85,7 +83,7 @@ fn keep_word(i: usize, signs: &mut [u8], magnitudes: &mut [u64]) -> bool
 
 // Keeps the arguments among so many words, and says whether each is a number.
 fn keep_words(words: usize, signs: &mut [u8], magnitudes: &mut [u64]) -> bool
-    requires { ⌜ (length (now signs) ≡ 256) × (length (now magnitudes) ≡ 256) ⌝ }
+    requires { ⌜ (length (now signs) ≡ maxRegisters) × (length (now magnitudes) ≡ maxRegisters) ⌝ }
 {
     let mut i = ARGUMENTS;
     while i < words {
@@ -112,7 +110,7 @@ fn run(path: &[u8], word: &[u8], budget: u64, words: usize)
     if TEXT < n {
         return;
     }
-    let mut out = [0u8; LINES];
+    let mut out = [0u8; LISTING_MOST];
     let k = run_text(
         upto(&text, n),
         word,

@@ -2,7 +2,7 @@
 -- Assumes nothing.
 use mathlib.Core.List.{List, [], _∷_, _++_, append-assoc, append-nil}
 use mathlib.Core.Path.{_≡_, refl, sym, _∙_, ap}
-use Prim.Native.Nat.{ℕ, _+_, _*_, _≤_, _<_}
+use Prim.Native.Nat.{ℕ, _+_, _≤_, _<_}
 use native.Mathlib.Omega.{arith}
 use lib.ListN.{length}
 use lib.Seq.{sets}
@@ -13,19 +13,19 @@ use Rattle.laws.proofs.Storing.{Stored, sets-over, stored-pad, pad-stored}
 use Rattle.laws.proofs.Appending.{gather-append}
 use Rattle.language.specs.Table.{eightBytes}
 use Rattle.records.specs.declared.Record.{Record}
-use Rattle.records.specs.Stores.{capacity, storeLength, recordCells, storeCells}
+use Rattle.records.specs.Stores.{capacity, storeLength, recordCells, storeCells, recordOffset}
 use Rattle.records.proofs.Cells.{length-before, length-records}
-use Rattle.joining.specs.Joints.{begun}
+use Rattle.joining.specs.Joints.{begunStore}
 
-pub length-begun : (es : List Record) → length es ≤ capacity → length (begun es) ≡ storeLength
-unfolding begun
+pub length-begun : (es : List Record) → length es ≤ capacity → length (begunStore es) ≡ storeLength
+unfolding begunStore
 length-begun es h = length-pad storeLength (eightBytes 0 ++ gather recordCells es) (omega (arith, length-before 0 es))
 
 -- the records fs behind the records es
 pub begun-more :
-    (es fs : List Record) → length es + length fs ≤ capacity → {m : ℕ} → m ≡ 8 + 40 * length es
-    → sets (begun es) m (gather recordCells fs) ≡ begun (es ++ fs)
-unfolding begun
+    (es fs : List Record) → length es + length fs ≤ capacity → {m : ℕ} → m ≡ recordOffset (length es)
+    → sets (begunStore es) m (gather recordCells fs) ≡ begunStore (es ++ fs)
+unfolding begunStore
 begun-more es fs h e =
     let xs : List ℕ = eightBytes 0 ++ gather recordCells es in
     let ys : List ℕ = gather recordCells fs in
@@ -37,13 +37,13 @@ begun-more es fs h e =
 
 -- the same for one record
 pub begun-one :
-    (es : List Record) (x : Record) → length es < capacity → {m : ℕ} → m ≡ 8 + 40 * length es
-    → sets (begun es) m (recordCells x) ≡ begun (es ++ (x ∷ []))
+    (es : List Record) (x : Record) → length es < capacity → {m : ℕ} → m ≡ recordOffset (length es)
+    → sets (begunStore es) m (recordCells x) ≡ begunStore (es ++ (x ∷ []))
 begun-one es x h {m} e =
-    ap (sets (begun es) m) (sym (append-nil (recordCells x))) ∙ begun-more es (x ∷ []) (omega arith) e
+    ap (sets (begunStore es) m) (sym (append-nil (recordCells x))) ∙ begun-more es (x ∷ []) (omega arith) e
 
-pub begun-counted : (es : List Record) → sets (begun es) 0 (eightBytes (length es)) ≡ storeCells es
-unfolding begun storeCells
+pub begun-counted : (es : List Record) → sets (begunStore es) 0 (eightBytes (length es)) ≡ storeCells es
+unfolding begunStore storeCells
 begun-counted es =
     let ys : List ℕ = gather recordCells es in
     let put : Stored (eightBytes 0 ++ ys) 0 (eightBytes (length es)) (eightBytes (length es) ++ ys) =

@@ -3,7 +3,7 @@
 use mathlib.Core.Bool.{Bool, true, false, false≢true}
 use mathlib.Core.List.{List, [], _∷_, _++_, append-assoc, append-nil}
 use mathlib.Core.Path.{_≡_, refl, sym, _∙_, ap}
-use Prim.Native.Nat.{ℕ, _+_, _-_, _*_, _≤_, _<_}
+use Prim.Native.Nat.{ℕ, _+_, _-_, _≤_, _<_}
 use native.Mathlib.Decide.{decLt}
 use native.Mathlib.Omega.{arith}
 use lib.ListN.{length, length-append}
@@ -12,10 +12,10 @@ use borrow.Author.Tests.{le-leb, lt-leb}
 use Rattle.laws.specs.Lists.{gather}
 use Rattle.language.specs.Table.{eightBytes}
 use Rattle.records.specs.declared.Record.{Record}
-use Rattle.records.specs.Stores.{capacity, recordCells, storeCells, countOf, recordsOf, joined}
+use Rattle.records.specs.Stores.{capacity, recordCells, storeCells, countOf, recordsOf, joined, recordOffset}
 use Rattle.records.specs.Answers.{kept, keptAs}
 use Rattle.joining.specs.declared.Joint.{Joint}
-use Rattle.joining.specs.Joints.{recordsFrom, begun, Walked, JoinFilled}
+use Rattle.joining.specs.Joints.{recordsFrom, begunStore, Walked, JoinFilled}
 use Rattle.joining.proofs.Begun.{begun-more, begun-counted}
 use Rattle.joining.proofs.Parts.{records-none, records-all, length-records-from}
 use Rattle.joining.proofs.Steps.{joined-some}
@@ -76,7 +76,7 @@ module _ (s u : List ℕ) (n k : ℕ) {x : Joint} {out : List ℕ} (h : Walked s
 
     -- the rest of both is put behind what is written, and then the count
     pub all-put :
-        {a b c : List ℕ} → a ≡ sets out (8 + 40 * x .w) (gather recordCells es) → b ≡ sets a (8 + 40 * (x .w + (n - x .i))) (gather recordCells fs)
+        {a b c : List ℕ} → a ≡ sets out (recordOffset (x .w)) (gather recordCells es) → b ≡ sets a (recordOffset (x .w + (n - x .i))) (gather recordCells fs)
         → c ≡ sets b 0 (eightBytes (x .w + (n - x .i) + (k - x .j))) → c ≡ storeCells all
     all-put {a} {b} {c} p q o =
         let ws : List Record = h .joining .written in
@@ -84,12 +84,12 @@ module _ (s u : List ℕ) (n k : ℕ) {x : Joint} {out : List ℕ} (h : Walked s
         let ee : length es ≡ n - x .i = length-records-from s (x .i) n in
         let ef : length fs ≡ k - x .j = length-records-from u (x .j) k in
         let em : length (ws ++ es) ≡ x .w + (n - x .i) = length-append ws es ∙ omega arith in
-        let p′ : a ≡ begun (ws ++ es) =
-        p ∙ ap (λ (t : List ℕ). sets t (8 + 40 * x .w) (gather recordCells es)) (h .joining .bytes) ∙ begun-more ws es (omega arith) (omega arith) in
-        let q′ : b ≡ begun (ws ++ es ++ fs) =
-        q ∙ ap (λ (t : List ℕ). sets t (8 + 40 * (x .w + (n - x .i))) (gather recordCells fs)) p′ ∙ begun-more (ws ++ es) fs (omega arith) (omega arith) in
+        let p′ : a ≡ begunStore (ws ++ es) =
+        p ∙ ap (λ (t : List ℕ). sets t (recordOffset (x .w)) (gather recordCells es)) (h .joining .bytes) ∙ begun-more ws es (omega arith) (omega arith) in
+        let q′ : b ≡ begunStore (ws ++ es ++ fs) =
+        q ∙ ap (λ (t : List ℕ). sets t (recordOffset (x .w + (n - x .i))) (gather recordCells fs)) p′ ∙ begun-more (ws ++ es) fs (omega arith) (omega arith) in
         o ∙ ap (λ (m : ℕ). sets b 0 (eightBytes m)) (sym count-is)
-        ∙ ap (λ (t : List ℕ). sets t 0 (eightBytes (length all))) (q′ ∙ ap begun (sym all-is)) ∙ begun-counted all
+        ∙ ap (λ (t : List ℕ). sets t 0 (eightBytes (length all))) (q′ ∙ ap begunStore (sym all-is)) ∙ begun-counted all
 
 -- ---- for all the records of both
 

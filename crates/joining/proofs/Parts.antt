@@ -3,7 +3,7 @@
 use mathlib.Core.Bool.{Bool, true, false, cond}
 use mathlib.Core.List.{List, [], _∷_, _++_, map, append-nil}
 use mathlib.Core.Path.{_≡_, refl, sym, _∙_, ap}
-use Prim.Native.Nat.{ℕ, suc, _+_, _-_, _*_, _≤_, _<_}
+use Prim.Native.Nat.{ℕ, suc, _+_, _-_, _≤_, _<_}
 use native.Mathlib.Numerals.{add-one}
 use native.Mathlib.Omega.{arith}
 use lib.ListN.{length}
@@ -14,7 +14,7 @@ use Rattle.laws.proofs.Ranges.{length-map-from, map-from-append}
 use Rattle.laws.proofs.Appending.{gather-append}
 use Rattle.records.specs.declared.Record.{Record}
 use Rattle.records.specs.Records.{wins, best}
-use Rattle.records.specs.Stores.{recordCells, countOf, recordAt, recordsOf}
+use Rattle.records.specs.Stores.{recordCells, countOf, recordAt, recordsOf, recordOffset, HasRoom}
 use Rattle.records.proofs.Cells.{length-records}
 use Rattle.joining.specs.Joints.{recordsFrom}
 
@@ -50,32 +50,32 @@ module _ (s : List ℕ) where
 
 module _ (s out : List ℕ) (i w : ℕ) where
   abbrev pub Put : ℕ → List ℕ → Type 0
-  Put d out′ = out′ ≡ sets out (8 + 40 * w) (gather recordCells (recordsFrom s i (i + d)))
+  Put d out′ = out′ ≡ sets out (recordOffset w) (gather recordCells (recordsFrom s i (i + d)))
 
   pub put-none : Put 0 out
-  put-none = ap (λ (es : List Record). sets out (8 + 40 * w) (gather recordCells es)) (sym (records-none s i (i + 0) (omega arith)))
+  put-none = ap (λ (es : List Record). sets out (recordOffset w) (gather recordCells es)) (sym (records-none s i (i + 0) (omega arith)))
 
   pub put-more :
-      (d : ℕ) {x : Record} {t t′ : List ℕ} → Put d t → x ≡ recordAt s (i + d) → t′ ≡ sets t (8 + 40 * (w + d)) (recordCells x) → Put (d + 1) t′
+      (d : ℕ) {x : Record} {t t′ : List ℕ} → Put d t → x ≡ recordAt s (i + d) → t′ ≡ sets t (recordOffset (w + d)) (recordCells x) → Put (d + 1) t′
   put-more d {x} {t} {t′} p q o =
       let es : List Record = recordsFrom s i (i + d) in
       let size : length es ≡ i + d - i = length-records-from s i (i + d) in
-      let behind : 8 + 40 * (w + d) ≡ 8 + 40 * w + length (gather recordCells es) = omega (arith, length-records es) in
+      let behind : recordOffset (w + d) ≡ recordOffset w + length (gather recordCells es) = omega (arith, length-records es) in
       let grown : gather recordCells es ++ recordCells x ≡ gather recordCells (recordsFrom s i (i + (d + 1))) =
       ap (λ (l : List ℕ). gather recordCells es ++ l) (sym (append-nil (recordCells x)))
       ∙ sym (gather-append recordCells es (x ∷ []))
       ∙ ap (λ (y : Record). gather recordCells (es ++ (y ∷ []))) q
       ∙ ap (gather recordCells) (sym (records-snoc s i d)) in
-      sets-then out (gather recordCells es) (recordCells x) (8 + 40 * w) behind p o ∙ ap (sets out (8 + 40 * w)) grown
+      sets-then out (gather recordCells es) (recordCells x) (recordOffset w) behind p o ∙ ap (sets out (recordOffset w)) grown
 
-  pub put-all : (d n : ℕ) {t : List ℕ} → Put d t → i + d ≡ n → t ≡ sets out (8 + 40 * w) (gather recordCells (recordsFrom s i n))
-  put-all d n p e = p ∙ ap (λ (m : ℕ). sets out (8 + 40 * w) (gather recordCells (recordsFrom s i m))) e
+  pub put-all : (d n : ℕ) {t : List ℕ} → Put d t → i + d ≡ n → t ≡ sets out (recordOffset w) (gather recordCells (recordsFrom s i n))
+  put-all d n p e = p ∙ ap (λ (m : ℕ). sets out (recordOffset w) (gather recordCells (recordsFrom s i m))) e
 
 -- ---- the one or the other, of store and place
 
 module _ (s u : List ℕ) (i j : ℕ) where
   pub chosen-room :
-      (b : Bool) {t : List ℕ} {k : ℕ} → 48 + 40 * i ≤ length s → 48 + 40 * j ≤ length u → t ≡ cond b u s → k ≡ cond b j i → 48 + 40 * k ≤ length t
+      (b : Bool) {t : List ℕ} {k : ℕ} → HasRoom s (i + 1) → HasRoom u (j + 1) → t ≡ cond b u s → k ≡ cond b j i → HasRoom t (k + 1)
   chosen-room true h l e f = rw (e, f) l
   chosen-room false h l e f = rw (e, f) h
 

@@ -3,7 +3,7 @@
 use mathlib.Core.Bool.{Bool, true, false, cond}
 use mathlib.Core.List.{List, [], _∷_, _++_, append-assoc}
 use mathlib.Core.Path.{_≡_, refl, sym, _∙_, ap, subst⁻¹}
-use Prim.Native.Nat.{ℕ, _+_, _*_, _≤_, _<_}
+use Prim.Native.Nat.{ℕ, _+_, _≤_, _<_}
 use native.Mathlib.Decide.{decLt, ℕ-discrete}
 use native.Mathlib.Omega.{arith}
 use lib.Dec.{eqb, ltb}
@@ -14,11 +14,11 @@ use Rattle.laws.proofs.Branches.{choose}
 use Rattle.language.specs.Answers.{zeros}
 use Rattle.records.specs.declared.Record.{Record}
 use Rattle.records.specs.Records.{best}
-use Rattle.records.specs.Stores.{capacity, storeLength, recordCells, storeCells, recordAt, joined}
+use Rattle.records.specs.Stores.{capacity, storeLength, recordCells, storeCells, recordAt, joined, recordOffset}
 use Rattle.records.proofs.Cells.{empty-zeros}
 use Rattle.numbers.proofs.Zeros.{length-zeros}
 use Rattle.joining.specs.declared.Joint.{Joint}
-use Rattle.joining.specs.Joints.{recordsFrom, first, next, joint, begun, Stepped, Joining}
+use Rattle.joining.specs.Joints.{recordsFrom, first, nextJoint, joint, begunStore, JoinStepped, Joining}
 use Rattle.joining.proofs.Begun.{length-begun, begun-one}
 use Rattle.joining.proofs.Parts.{records-cons}
 
@@ -38,16 +38,16 @@ module _ (e f : Record) where
   first-gt h = rw (le-ltb (e .appliance) (f .appliance) (omega arith), ne-eqb (e .appliance) (f .appliance) (λ z. omega arith))
 
   module _ (i j w : ℕ) where
-    next-lt : e .appliance < f .appliance → next e f i j w ≡ joint (i + 1) j (w + 1)
-    unfolding next
+    next-lt : e .appliance < f .appliance → nextJoint e f i j w ≡ joint (i + 1) j (w + 1)
+    unfolding nextJoint
     next-lt h = rw (lt-ltb (e .appliance) (f .appliance) h)
 
-    next-eq : e .appliance ≡ f .appliance → next e f i j w ≡ joint (i + 1) (j + 1) (w + 1)
-    unfolding next
+    next-eq : e .appliance ≡ f .appliance → nextJoint e f i j w ≡ joint (i + 1) (j + 1) (w + 1)
+    unfolding nextJoint
     next-eq h = rw (le-ltb (e .appliance) (f .appliance) (omega arith), eq-eqb (e .appliance) (f .appliance) h)
 
-    next-gt : f .appliance < e .appliance → next e f i j w ≡ joint i (j + 1) (w + 1)
-    unfolding next
+    next-gt : f .appliance < e .appliance → nextJoint e f i j w ≡ joint i (j + 1) (w + 1)
+    unfolding nextJoint
     next-gt h = rw (le-ltb (e .appliance) (f .appliance) (omega arith), ne-eqb (e .appliance) (f .appliance) (λ z. omega arith))
 
   module _ (es fs : List Record) where
@@ -60,26 +60,26 @@ module _ (e f : Record) where
     joined-gt : f .appliance < e .appliance → joined (e ∷ es) (f ∷ fs) ≡ f ∷ joined (e ∷ es) fs
     joined-gt h = rw (le-ltb (e .appliance) (f .appliance) (omega arith), ne-eqb (e .appliance) (f .appliance) (λ z. omega arith))
 
-  put-first : (w : ℕ) (out : List ℕ) {x : Record} {out′ : List ℕ} → out′ ≡ sets out (8 + 40 * w) (recordCells x) → first e f ≡ x
-      → out′ ≡ sets out (8 + 40 * w) (recordCells (first e f))
-  put-first w out o m = o ∙ ap (λ (y : Record). sets out (8 + 40 * w) (recordCells y)) (sym m)
+  put-first : (w : ℕ) (out : List ℕ) {x : Record} {out′ : List ℕ} → out′ ≡ sets out (recordOffset w) (recordCells x) → first e f ≡ x
+      → out′ ≡ sets out (recordOffset w) (recordCells (first e f))
+  put-first w out o m = o ∙ ap (λ (y : Record). sets out (recordOffset w) (recordCells y)) (sym m)
 
   -- what the code does in each, with a and b the appliances that it read
-  module _ (i j w : ℕ) (out : List ℕ) {a b : ℕ} {x : Record} {out′ : List ℕ} (p : a ≡ e .appliance) (q : b ≡ f .appliance) (o : out′ ≡ sets out (8 + 40 * w) (recordCells x)) where
-    pub stepped-lt : a < b → x ≡ e → Stepped e f i j w out (joint (i + 1) j (w + 1)) out′
+  module _ (i j w : ℕ) (out : List ℕ) {a b : ℕ} {x : Record} {out′ : List ℕ} (p : a ≡ e .appliance) (q : b ≡ f .appliance) (o : out′ ≡ sets out (recordOffset w) (recordCells x)) where
+    pub stepped-lt : a < b → x ≡ e → JoinStepped e f i j w out (joint (i + 1) j (w + 1)) out′
     stepped-lt h m = let l : e .appliance < f .appliance = omega arith in record { bytes = put-first w out o (first-lt l ∙ sym m); reached = sym (next-lt i j w l) }
 
-    pub stepped-eq : a ≡ b → x ≡ best f e → Stepped e f i j w out (joint (i + 1) (j + 1) (w + 1)) out′
+    pub stepped-eq : a ≡ b → x ≡ best f e → JoinStepped e f i j w out (joint (i + 1) (j + 1) (w + 1)) out′
     stepped-eq h m = let l : e .appliance ≡ f .appliance = omega arith in record { bytes = put-first w out o (first-eq l ∙ sym m); reached = sym (next-eq i j w l) }
 
-    pub stepped-gt : b < a → x ≡ f → Stepped e f i j w out (joint i (j + 1) (w + 1)) out′
+    pub stepped-gt : b < a → x ≡ f → JoinStepped e f i j w out (joint i (j + 1) (w + 1)) out′
     stepped-gt h m = let l : f .appliance < e .appliance = omega arith in record { bytes = put-first w out o (first-gt l ∙ sym m); reached = sym (next-gt i j w l) }
 
 -- ---- the join goes on
 
 module _ (s u : List ℕ) (n k : ℕ) where
   pub joining-none : (out : List ℕ) → out ≡ zeros storeLength → Joining s u n k 0 0 0 out
-  unfolding begun storeCells
+  unfolding begunStore storeCells
   joining-none out e =
       record { i-within = omega arith; j-within = omega arith; room = omega arith; written = []; count = refl; bytes = e ∙ empty-zeros; coming = refl }
 
@@ -94,10 +94,10 @@ module _ (s u : List ℕ) (n k : ℕ) where
     joining-with :
         (x : Record) (i′ j′ : ℕ) {out′ : List ℕ} → i′ ≤ n → j′ ≤ k → w < capacity
         → joined (recordsFrom s i n) (recordsFrom u j k) ≡ x ∷ joined (recordsFrom s i′ n) (recordsFrom u j′ k)
-        → out′ ≡ sets out (8 + 40 * w) (recordCells x) → Joining s u n k i′ j′ (w + 1) out′
+        → out′ ≡ sets out (recordOffset w) (recordCells x) → Joining s u n k i′ j′ (w + 1) out′
     joining-with x i′ j′ a b c d o =
         let full : length (g .written) < capacity = omega (arith, g .count) in
-        let place : 8 + 40 * w ≡ 8 + 40 * length (g .written) = omega (arith, g .count) in
+        let place : recordOffset w ≡ recordOffset (length (g .written)) = omega (arith, g .count) in
         let rest : List Record = joined (recordsFrom s i′ n) (recordsFrom u j′ k) in
         record {
           i-within = a;
@@ -105,7 +105,7 @@ module _ (s u : List ℕ) (n k : ℕ) where
           room = omega arith;
           written = g .written ++ (x ∷ []);
           count = length-append (g .written) (x ∷ []) ∙ ap (λ (m : ℕ). m + 1) (g .count);
-          bytes = o ∙ ap (λ (t : List ℕ). sets t (8 + 40 * w) (recordCells x)) (g .bytes) ∙ begun-one (g .written) x full place;
+          bytes = o ∙ ap (λ (t : List ℕ). sets t (recordOffset w) (recordCells x)) (g .bytes) ∙ begun-one (g .written) x full place;
           coming = append-assoc (g .written) (x ∷ []) rest ∙ ap (λ (r : List Record). g .written ++ r) (sym d) ∙ g .coming;
         }
 
@@ -120,14 +120,14 @@ module _ (s u : List ℕ) (n k : ℕ) where
       both = rw (records-cons s i n h, records-cons u j k l)
 
       -- one step
-      pub joining-more : {r : Joint} {out′ : List ℕ} → w < capacity → Stepped e f i j w out r out′ → Joining s u n k (r .i) (r .j) (r .w) out′
+      pub joining-more : {r : Joint} {out′ : List ℕ} → w < capacity → JoinStepped e f i j w out r out′ → Joining s u n k (r .i) (r .j) (r .w) out′
       joining-more {r} {out′} c t = by (decLt (e .appliance) (f .appliance)) (ℕ-discrete (e .appliance) (f .appliance))
         where
-          to : {q : Joint} → next e f i j w ≡ q → Joining s u n k (q .i) (q .j) (q .w) out′ → Joining s u n k (r .i) (r .j) (r .w) out′
+          to : {q : Joint} → nextJoint e f i j w ≡ q → Joining s u n k (q .i) (q .j) (q .w) out′ → Joining s u n k (r .i) (r .j) (r .w) out′
           to d z = subst⁻¹ (λ (q : Joint). Joining s u n k (q .i) (q .j) (q .w) out′) (t .reached ∙ d) z
 
-          put : {x : Record} → first e f ≡ x → out′ ≡ sets out (8 + 40 * w) (recordCells x)
-          put d = t .bytes ∙ ap (λ (y : Record). sets out (8 + 40 * w) (recordCells y)) d
+          put : {x : Record} → first e f ≡ x → out′ ≡ sets out (recordOffset w) (recordCells x)
+          put d = t .bytes ∙ ap (λ (y : Record). sets out (recordOffset w) (recordCells y)) d
 
           by : Dec (e .appliance < f .appliance) → Dec (e .appliance ≡ f .appliance) → Joining s u n k (r .i) (r .j) (r .w) out′
           by (yes a) d =
@@ -148,8 +148,8 @@ module _ (s u : List ℕ) (n k : ℕ) where
               (put (first-gt e f g)))
 
 -- one record more is written in each case
-next-counts : (e f : Record) (i j w : ℕ) → next e f i j w .w ≡ w + 1
-unfolding next
+next-counts : (e f : Record) (i j w : ℕ) → nextJoint e f i j w .w ≡ w + 1
+unfolding nextJoint
 next-counts e f i j w = by (ltb (e .appliance) (f .appliance)) (eqb (e .appliance) (f .appliance))
   where
     by : (a b : Bool) → cond a (joint (i + 1) j (w + 1)) (cond b (joint (i + 1) (j + 1) (w + 1)) (joint i (j + 1) (w + 1))) .w ≡ w + 1
@@ -157,7 +157,7 @@ next-counts e f i j w = by (ltb (e .appliance) (f .appliance)) (eqb (e .applianc
     by false true = refl
     by false false = refl
 
-pub stepped-counts : {e f : Record} {i j w : ℕ} {out out′ : List ℕ} {r : Joint} → Stepped e f i j w out r out′ → r .w ≡ w + 1
+pub stepped-counts : {e f : Record} {i j w : ℕ} {out out′ : List ℕ} {r : Joint} → JoinStepped e f i j w out r out′ → r .w ≡ w + 1
 stepped-counts {e} {f} {i} {j} {w} h = ap (λ (r : Joint). r .w) (h .reached) ∙ next-counts e f i j w
 
 -- where neither store is used up something is to come

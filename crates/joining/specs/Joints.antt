@@ -3,7 +3,7 @@
 use mathlib.Core.Bool.{Bool, true, cond}
 use mathlib.Core.List.{List, _++_, map}
 use mathlib.Core.Path.{_≡_}
-use Prim.Native.Nat.{ℕ, _+_, _-_, _*_, _<_, _≤_}
+use Prim.Native.Nat.{ℕ, _+_, _-_, _<_, _≤_}
 use lib.Dec.{eqb, ltb, leb}
 use lib.ListN.{length}
 use lib.Seq.{sets}
@@ -12,7 +12,7 @@ use Rattle.laws.specs.Sections.{pad}
 use Rattle.language.specs.Table.{eightBytes}
 use Rattle.records.specs.declared.Record.{Record}
 use Rattle.records.specs.Records.{best}
-use Rattle.records.specs.Stores.{capacity, storeLength, recordCells, storeCells, recordAt, recordsOf, joined}
+use Rattle.records.specs.Stores.{capacity, storeLength, recordCells, storeCells, recordAt, recordsOf, joined, recordOffset}
 use Rattle.joining.specs.declared.Joint.{Joint}
 
 -- The records of s from place i on up to place n.
@@ -27,19 +27,19 @@ abbrev pub joint : ℕ → ℕ → ℕ → Joint
 joint i j w = record { i = i; j = j; w = w }
 
 -- How far that brings the join.
-unfoldable pub next : Record → Record → ℕ → ℕ → ℕ → Joint
-next e f i j w =
+unfoldable pub nextJoint : Record → Record → ℕ → ℕ → ℕ → Joint
+nextJoint e f i j w =
     cond (ltb (e .appliance) (f .appliance)) (joint (i + 1) j (w + 1))
     (cond (eqb (e .appliance) (f .appliance)) (joint (i + 1) (j + 1) (w + 1)) (joint i (j + 1) (w + 1)))
 
 -- The bytes of a store with these records, but that its count is not put yet.
-unfoldable pub begun : List Record → List ℕ
-begun es = pad storeLength (eightBytes 0 ++ gather recordCells es)
+unfoldable pub begunStore : List Record → List ℕ
+begunStore es = pad storeLength (eightBytes 0 ++ gather recordCells es)
 
 -- One record more is written.
-pub record Stepped (e f : Record) (i j w : ℕ) (out : List ℕ) (r : Joint) (out′ : List ℕ) : Type 0 where
-  pub bytes : out′ ≡ sets out (8 + 40 * w) (recordCells (first e f))
-  pub reached : r ≡ next e f i j w
+pub record JoinStepped (e f : Record) (i j w : ℕ) (out : List ℕ) (r : Joint) (out′ : List ℕ) : Type 0 where
+  pub bytes : out′ ≡ sets out (recordOffset w) (recordCells (first e f))
+  pub reached : r ≡ nextJoint e f i j w
 
 -- The first i records of s and j of u have made the first w of out: with what is to come of both they are all of them joined.
 pub record Joining (s u : List ℕ) (n k i j w : ℕ) (out : List ℕ) : Type 0 where
@@ -48,7 +48,7 @@ pub record Joining (s u : List ℕ) (n k i j w : ℕ) (out : List ℕ) : Type 0 
   pub room : w ≤ capacity
   pub written : List Record
   pub count : length written ≡ w
-  pub bytes : out ≡ begun written
+  pub bytes : out ≡ begunStore written
   pub coming : written ++ joined (recordsFrom s i n) (recordsFrom u j k) ≡ joined (recordsFrom s 0 n) (recordsFrom u 0 k)
 
 -- One of the two stores is used up, or there is no room for more.

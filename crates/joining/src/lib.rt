@@ -1,28 +1,25 @@
 // Two stores merged in one pass from the front. Nothing is asked of their bytes but the length.
 ghost use mathlib.Core.Bool.{cond};
 ghost use mathlib.Core.Path.{_≡_};
-ghost use Prim.Native.Nat.{_+_, _-_, _*_, _≤_};
+ghost use Prim.Native.Nat.{_+_, _-_, _≤_};
 ghost use lib.ListN.{length};
 ghost use lib.Seq.{sets};
 ghost use Rattle.laws.specs.Lists.{gather};
 ghost use Rattle.language.specs.Answers.{zeros};
 ghost use Rattle.records.specs.Records.{best};
-ghost use Rattle.records.specs.Stores.{storeLength, recordCells, recordAt, recordsOf, joined};
+ghost use Rattle.records.specs.Stores.{storeLength, recordCells, recordAt, recordsOf, joined, recordOffset, HasRoom};
 ghost use Rattle.records.specs.Answers.{kept, keptAs};
-ghost use Rattle.joining.specs.Joints.{recordsFrom, Stepped, Walked, JoinFilled};
+ghost use Rattle.joining.specs.Joints.{recordsFrom, JoinStepped, Walked, JoinFilled};
 use numbers::put_bytes;
+use records::CAPACITY;
 use records::Record;
+use records::STORE_LENGTH;
 use store::appliance_at;
 use store::beats;
 use store::count;
 use store::put_count;
 use store::put_record;
 use store::record_at;
-
-// "A store holds 1,024 appliances", and the bytes of one.
-const CAPACITY: usize = 1024;
-
-const STORE: usize = 40968;
 
 // How many records of the one store and of the other are taken, and how many are written.
 pub struct Joint {
@@ -52,7 +49,7 @@ fn chosen(i: usize, j: usize, second: bool) -> usize
 
 // The winner of record i of s and record j of u.
 fn winner<'a>(s: &'a [u8], u: &'a [u8], i: usize, j: usize) -> Record
-    requires { ⌜ (48 + 40 * i ≤ length (now s)) × (48 + 40 * j ≤ length (now u)) ⌝ }
+    requires { ⌜ HasRoom (now s) (i + 1) × HasRoom (now u) (j + 1) ⌝ }
     ensures { λ r. ⌜ r ≡ best (recordAt (now (u .entry)) j) (recordAt (now (s .entry)) i) ⌝ }
 {
     let second = beats(record_at(u, j), record_at(s, i));
@@ -61,8 +58,8 @@ fn winner<'a>(s: &'a [u8], u: &'a [u8], i: usize, j: usize) -> Record
 
 // The lower of record i of s and record j of u, or of two for one appliance the winner, becomes record w of out.
 fn step<'a>(s: &'a [u8], u: &'a [u8], out: &mut [u8], i: usize, j: usize, w: usize) -> Joint
-    requires { ⌜ (48 + 40 * i ≤ length (now s)) × (48 + 40 * j ≤ length (now u)) × (48 + 40 * w ≤ length (now out)) ⌝ }
-    ensures { λ r. ⌜ Stepped (recordAt (now (s .entry)) i) (recordAt (now (u .entry)) j) i j w (now (out .entry)) r (now (out .exit)) ⌝ }
+    requires { ⌜ HasRoom (now s) (i + 1) × HasRoom (now u) (j + 1) × HasRoom (now out) (w + 1) ⌝ }
+    ensures { λ r. ⌜ JoinStepped (recordAt (now (s .entry)) i) (recordAt (now (u .entry)) j) i j w (now (out .entry)) r (now (out .exit)) ⌝ }
 {
     let a = appliance_at(s, i);
     let b = appliance_at(u, j);
@@ -92,7 +89,7 @@ fn step<'a>(s: &'a [u8], u: &'a [u8], out: &mut [u8], i: usize, j: usize, w: usi
 
 // Records are written until one store is used up or there is no room for more.
 fn walk<'a>(s: &'a [u8], u: &'a [u8], n: usize, k: usize, out: &mut [u8]) -> Joint
-    requires { ⌜ (8 + 40 * n ≤ length (now s)) × (8 + 40 * k ≤ length (now u)) × (now out ≡ zeros storeLength) ⌝ }
+    requires { ⌜ HasRoom (now s) n × HasRoom (now u) k × (now out ≡ zeros storeLength) ⌝ }
     ensures { λ r. ⌜ Walked (now (s .entry)) (now (u .entry)) n k r (now (out .exit)) ⌝ }
 {
     let mut i = 0;
@@ -115,8 +112,8 @@ fn walk<'a>(s: &'a [u8], u: &'a [u8], n: usize, k: usize, out: &mut [u8]) -> Joi
 
 // The records of s from place i on up to n become those of out from place w on.
 fn rest(s: &[u8], i: usize, n: usize, out: &mut [u8], w: usize)
-    requires { ⌜ (i ≤ n) × (8 + 40 * n ≤ length (now s)) × (8 + 40 * (w + (n - i)) ≤ length (now out)) ⌝ }
-    ensures { λ _. ⌜ now (out .exit) ≡ sets (now (out .entry)) (8 + 40 * w) (gather recordCells (recordsFrom (now (s .entry)) i n)) ⌝ }
+    requires { ⌜ (i ≤ n) × HasRoom (now s) n × HasRoom (now out) (w + (n - i)) ⌝ }
+    ensures { λ _. ⌜ now (out .exit) ≡ sets (now (out .entry)) (recordOffset w) (gather recordCells (recordsFrom (now (s .entry)) i n)) ⌝ }
 {
     let mut d = 0;
     while d < n - i {
@@ -149,7 +146,7 @@ pub fn join(s: &mut [u8], u: &[u8]) -> bool
     requires { ⌜ (length (now s) ≡ storeLength) × (length (now u) ≡ storeLength) ⌝ }
     ensures { λ b. ⌜ keptAs b (now (s .exit)) ≡ kept (now (s .entry)) (joined (recordsOf (now (s .entry))) (recordsOf (now (u .entry)))) ⌝ }
 {
-    let mut out = [0u8; STORE];
+    let mut out = [0u8; STORE_LENGTH];
     if !join_into(s, u, &mut out) {
         return false;
     }

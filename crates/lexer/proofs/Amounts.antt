@@ -7,8 +7,9 @@ use native.Mathlib.Nat.{le-div-iff-mul-le, div-lt-iff-lt-mul, mul-comm, mul-le-m
 use native.Mathlib.Omega.{arith}
 use lib.Dec.{ltb}
 use borrow.Author.Tests.{lt-ltb, le-ltb, ltb-true, ltb-false}
-use Rattle.lexer.specs.Numbers.{amountFrom, amountOf, grownAt, beyond}
-use Rattle.lexer.specs.declared.numbers.Amount.{Amount}
+use Rattle.instructions.specs.Ranges.{beyond}
+use Rattle.lexer.specs.Numbers.{amountFrom, amountOf, grownAt}
+use Rattle.lexer.specs.declared.values.Amount.{Amount}
 
 module _ (base v d : ℕ) (pos : 0 < base) (small : d < 256) where
   -- below the quotient the sum fits

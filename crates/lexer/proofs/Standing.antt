@@ -13,13 +13,14 @@ use Rattle.language.specs.Bytes.{classOf, classNumber, hexValue}
 use Rattle.language.specs.Words.{wordOf, wordCount}
 use Rattle.language.specs.Tokens as meaning
 use Rattle.language.specs.Tokens.{Mode, begin, ends, ended, endedAs, nameOrWord, decimalDigit, hexadecimalDigit, longerName, longerNumber}
+use Rattle.instructions.specs.Ranges.{beyond}
 use Rattle.lexer.specs.declared.Lexer.{Lexer}
 use Rattle.lexer.specs.declared.Lexed.{Lexed}
 use Rattle.lexer.specs.declared.Token.the-variants as tokens
 use Rattle.lexer.specs.declared.Found.{Found}
 use Rattle.lexer.specs.declared.Found.the-variants as founds
-use Rattle.lexer.specs.declared.numbers.Amount.{Amount}
-use Rattle.lexer.specs.Numbers.{amountFrom, amountOf, grownAt, beyond}
+use Rattle.lexer.specs.declared.values.Amount.{Amount}
+use Rattle.lexer.specs.Numbers.{amountFrom, amountOf, grownAt}
 use Rattle.lexer.specs.Actions.{modeNumber, beginsAt}
 use Rattle.lexer.specs.Lexing.{part, held, Stands, Means, tokenBytes, Finds, Gives, lexerFrom, lexedFrom}
 use Rattle.lexer.specs.Advancing.{spellingAt, nameOrWordAt, begunAt, enteredAt, singleAt, endedAt, longerAt, numberAt, advancedAt, endsAt, findingAt}

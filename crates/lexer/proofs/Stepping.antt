@@ -19,7 +19,7 @@ use Rattle.lexer.specs.declared.Token.{Token}
 use Rattle.lexer.specs.declared.Token.the-variants as tokens
 use Rattle.lexer.specs.declared.Found.the-variants as founds
 use Rattle.lexer.specs.Actions.{beginsAt, inPlainAt, actionAt}
-use Rattle.lexer.specs.Lexing.{classTable, part, held, Stands, Finds, Gives, lexerFrom, lexedFrom, Passed, Onward, Stepped, Scanned, Finished}
+use Rattle.lexer.specs.Lexing.{classTable, part, held, Stands, Finds, Gives, lexerFrom, lexedFrom, Passed, Onward, Stepped, Scanned, LexerFinished}
 use Rattle.lexer.specs.Advancing.{freshAt, begunAt, enteredAt, singleAt, endedAt, advancedAt, endsAt, findingAt}
 use Rattle.lexer.proofs.Acting.{Act, Counted, acts}
 use Rattle.lexer.proofs.Standing.{part-more, part-none, length-part, advances, advances-quietly, finds-gives, ends-found}
@@ -280,7 +280,7 @@ module _ (text : List ℕ) (c : Lexer) (b k a : ℕ) (order : c .start ≤ c .ne
 
 -- ---- the end of the text
 
-pub finished : (text : List ℕ) (c : Lexer) → c .start ≤ c .next → c .next ≤ length text → Finished text c (endedAt text c)
+pub finished : (text : List ℕ) (c : Lexer) → c .start ≤ c .next → c .next ≤ length text → LexerFinished text c (endedAt text c)
 unfolding lexEnd
 finished text c o w =
     record { gives = λ l s. record { one = meaning.ended l; first = ends-found text l c s o w; found = refl } }

@@ -8,7 +8,7 @@ use Rattle.language.specs.Bytes.{hexValue}
 use Rattle.language.specs.Words.{wordOf, wordCount}
 use Rattle.lexer.specs.declared.Lexer.{Lexer}
 use Rattle.lexer.specs.declared.Lexed.{Lexed}
-use Rattle.lexer.specs.declared.numbers.Amount.{Amount}
+use Rattle.lexer.specs.declared.values.Amount.{Amount}
 use Rattle.lexer.specs.declared.Token.{Token}
 use Rattle.lexer.specs.declared.Token.the-variants as tokens
 use Rattle.lexer.specs.declared.Found.{Found}

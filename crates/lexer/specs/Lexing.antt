@@ -128,5 +128,5 @@ pub record GivesLast (text : List ℕ) (l : meaning.Lexer) (r : Found) : Type 0 
   pub first : Finds text r one
   pub found : meaning.lexEnd l ≡ one ++ (meaning.Found.token (l .next) meaning.Token.end ∷ [])
 
-pub record Finished (text : List ℕ) (c : Lexer) (r : Found) : Type 0 where
+pub record LexerFinished (text : List ℕ) (c : Lexer) (r : Found) : Type 0 where
   pub gives : (l : meaning.Lexer) → Stands text l c → GivesLast text l r

@@ -2,11 +2,8 @@
 use mathlib.Core.Bool.{Bool, true, false, cond}
 use Prim.Native.Nat.{ℕ, _+_, _-_, _*_, _/_}
 use lib.Dec.{ltb}
-use Rattle.lexer.specs.declared.numbers.Amount.{Amount}
-
--- 2^64
-abbrev pub beyond : ℕ
-beyond = 18446744073709551616
+use Rattle.instructions.specs.Ranges.{beyond}
+use Rattle.lexer.specs.declared.values.Amount.{Amount}
 
 abbrev pub amountFrom : ℕ → Bool → Amount
 amountFrom v o = record { value = v; over = o }

@@ -1,7 +1,7 @@
 // What a byte does to what is open, by number: 0 to 10, it goes on with it, in that mode; 16 to 26, it begins mode 0 to 10;
 // 32, it ends what is open and is then taken with nothing open; 33, it makes what is open no token; 34, it closes a quoted
 // name; 35, it is a mark; 36, it is no token. Those below 32 find nothing.
-use crate::numbers::hex_value;
+use crate::values::hex_value;
 ghost use mathlib.Core.Path.{_≡_};
 ghost use Rattle.lexer.specs.Actions.{digitModeAt, beginsAt, inPlainAt, inQuotesAt, inQuotedAt, afterNumberAt, inDecimalAt, inNumberAt, actionAt};
 

@@ -1,10 +1,10 @@
 // Bytes to tokens: a step over one byte, with its state by value. A name is a part of the text and is never copied.
 mod actions;
 mod class_table;
-mod numbers;
+mod values;
 mod words;
 
-use crate::numbers::Amount;
+use crate::values::Amount;
 pub use class_table::classes;
 use instructions::words::COUNT;
 pub use words::word;
@@ -12,7 +12,7 @@ ghost use mathlib.Core.Bool.{false};
 ghost use mathlib.Core.Path.{_≡_};
 ghost use Prim.Native.Nat.{_≤_, _<_};
 ghost use lib.ListN.{length};
-ghost use Rattle.lexer.specs.Lexing.{classTable, lexerFrom, Passed, Onward, Stepped, Scanned, Finished};
+ghost use Rattle.lexer.specs.Lexing.{classTable, lexerFrom, Passed, Onward, Stepped, Scanned, LexerFinished};
 ghost use Rattle.lexer.specs.Advancing.{spellingAt, freshAt, begunAt, enteredAt, singleAt, endedAt, longerAt, numberAt, advancedAt, endsAt, findingAt};
 
 // What the bytes so far leave open (between 0, plain name 1, quoted name 2, escaping 3, slash 4, comment 5, sign 6, leading
@@ -102,7 +102,7 @@ fn begun(mode: u16, p: usize, b: u8) -> Lexer
         next: p + 1,
         start: p,
         negative: false,
-        value: numbers::wide(numbers::digit(b)),
+        value: values::wide(values::digit(b)),
         over: false,
     }
 }
@@ -224,11 +224,11 @@ impl Lexer {
             );
         }
         if action == 10 {
-            let digit = numbers::wide(numbers::hex_value(b));
-            return self.longer_number(10, numbers::grown(self.value, self.over, 16, digit));
+            let digit = values::wide(values::hex_value(b));
+            return self.longer_number(10, values::grown(self.value, self.over, 16, digit));
         }
-        let digit = numbers::wide(numbers::digit(b));
-        self.longer_number(action, numbers::grown(self.value, self.over, 10, digit))
+        let digit = values::wide(values::digit(b));
+        self.longer_number(action, values::grown(self.value, self.over, 10, digit))
     }
 
     // Past a byte that ends what is open and is then taken with nothing open.
@@ -438,7 +438,7 @@ impl Lexer {
     // What the text's end ends, before the token of the end itself.
     pub fn finish(self, text: &[u8]) -> Found
         requires { ⌜ (self .start ≤ self .next) × (self .next ≤ length (now text)) ⌝ }
-        ensures { λ r. ⌜ Finished (now (text .entry)) self r ⌝ }
+        ensures { λ r. ⌜ LexerFinished (now (text .entry)) self r ⌝ }
     {
         self.ended(text)
     }

@@ -5,13 +5,13 @@ use Prim.Native.Nat.{ℕ, suc, _+_, _-_, _≤_}
 use native.Mathlib.Omega.{arith}
 use lib.ListN.{length}
 use Rattle.laws.proofs.OneMore.{sum-below-suc}
-use Rattle.language.specs.Programs.{rowsOf}
+use Rattle.language.specs.Programs.{rowsOf, maxBlocks}
 use Rattle.language.specs.Table.{blockCount, blockFirst, blockRows, rowsBefore, decodeFunction}
 use Rattle.theorems.specs.TableLaw.{FunctionFits}
 use Rattle.language.proofs.TableView.{block-count, block-first-is, row-count}
 
 module _ (t : List ℕ) (a : ℕ) (fits : FunctionFits (decodeFunction t a)) {n : ℕ} (count : n ≡ blockCount t a) where
-  pub few-blocks : n ≤ 64
+  pub few-blocks : n ≤ maxBlocks
   few-blocks = omega (arith, block-count t a, fits .blockCount)
 
   rows-are : length (rowsOf (decodeFunction t a)) ≡ rowsBefore t a n

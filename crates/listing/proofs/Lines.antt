@@ -10,14 +10,14 @@ use Rattle.laws.proofs.Appending.{gather-append}
 use Rattle.language.specs.Bytes.{bytesOf, lineFeed}
 use Rattle.language.specs.Checking.{Verdict, check}
 use Rattle.language.specs.Listing.{tab, digits, line, functionLine, listingOf, refusedLine}
-use Rattle.language.specs.Programs.{Func, rowsOf}
+use Rattle.language.specs.Programs.{Func, rowsOf, maxName}
 use Rattle.language.specs.Table.{functionCount, functionAt, functionName, functionSsa, decodeFunction, decode}
 use Rattle.theorems.specs.TableLaw.{FunctionFits}
 use Rattle.theorems.proofs.TableSound.{accepted-fits}
 use Rattle.language.proofs.TableView.{function-count, function-is}
 use Rattle.decimal.specs.Writing.{Written}
 use Rattle.decimal.proofs.Writings.{written-then}
-use Rattle.listing.specs.Lines.{sizesOf}
+use Rattle.listing.specs.Lines.{sizesWritten}
 
 regroup-four : (s a b c d e : List ℕ) → s ++ (a ++ (b ++ (c ++ (d ++ [])))) ++ e ≡ s ++ a ++ (b ++ c ++ d ++ e)
 regroup-four s a b c d e = simp (append-assoc, append-nil)
@@ -26,8 +26,8 @@ regroup-two : (s a b e : List ℕ) → s ++ (a ++ (b ++ [])) ++ e ≡ s ++ a ++ 
 regroup-two s a b e = simp (append-assoc, append-nil)
 
 -- a function's line in three parts
-pub line-parts : (f : Func) → functionLine f ≡ f .name ++ (tab ∷ digits (f .ssa)) ++ sizesOf f
-unfolding functionLine line sizesOf
+pub line-parts : (f : Func) → functionLine f ≡ f .name ++ (tab ∷ digits (f .ssa)) ++ sizesWritten f
+unfolding functionLine line sizesWritten
 line-parts f =
     regroup-four (f .name) (tab ∷ digits (f .ssa)) (tab ∷ digits (length (f .registers))) (tab ∷ digits (length (f .blocks))) (tab ∷ digits (length (rowsOf f))) (lineFeed ∷ [])
 
@@ -52,13 +52,13 @@ pub number-is : {n m : ℕ} → n ≡ m → {entry exit : List ℕ} {at end : �
 number-is e {entry} {exit} {at} {end} w = subst (λ (k : ℕ). Written entry at (tab ∷ digits k) exit end) e w
 
 -- the name of a function that fits
-pub name-short : (t : List ℕ) (a : ℕ) → FunctionFits (decodeFunction t a) → {name : List ℕ} → name ≡ functionName t a → length name ≤ 64
+pub name-short : (t : List ℕ) (a : ℕ) → FunctionFits (decodeFunction t a) → {name : List ℕ} → name ≡ functionName t a → length name ≤ maxName
 unfolding decodeFunction
 name-short t a fits e = rw e (fits .name .short)
 
 -- a line written part by part
 pub line-written : (t : List ℕ) (a : ℕ) {name : List ℕ} {ssa : ℕ} → name ≡ functionName t a → ssa ≡ functionSsa t a
-    → {entry one two exit : List ℕ} {at b e end : ℕ} → Written entry at name one b → Written one b (tab ∷ digits ssa) two e → Written two e (sizesOf (decodeFunction t a)) exit end
+    → {entry one two exit : List ℕ} {at b e end : ℕ} → Written entry at name one b → Written one b (tab ∷ digits ssa) two e → Written two e (sizesWritten (decodeFunction t a)) exit end
     → Written entry at (functionLine (decodeFunction t a)) exit end
 unfolding decodeFunction
 line-written t a p q {entry} {one} {two} {exit} {at} {b} {e} {end} u v w =

@@ -10,8 +10,13 @@ ghost use Rattle.language.specs.Programs.{rowsOf};
 ghost use Rattle.language.specs.Table.{decodeFunction, decode, InTable, tableLength};
 ghost use Rattle.theorems.specs.TableLaw.{FunctionFits};
 ghost use Rattle.decimal.specs.Writing.{Written};
-ghost use Rattle.listing.specs.Lines.{sizesOf};
+ghost use Rattle.listing.specs.Lines.{sizesMost, lineMost, listingMost, refusalMost, sizesWritten};
+use decimal::LINE_FEED;
+use decimal::TAB;
 use decimal::put_digits;
+use numbers::put_bytes;
+use table::MAX_FUNCTIONS;
+use table::MAX_NAME;
 use table::block_count;
 use table::block_first;
 use table::block_rows;
@@ -19,12 +24,14 @@ use table::function_at;
 use table::function_count;
 use table::function_name;
 use table::function_ssa;
-use table::put_bytes;
 use table::register_count;
 
-const TAB: u8 = 9;
+// How many bytes a number with its tab takes at most, a function's line, and the lines of all functions: `Lines` says the same.
+const FIELD_MOST: usize = 21;
 
-const LINE_FEED: u8 = 10;
+const LINE_MOST: usize = MAX_NAME + 4 * FIELD_MOST + 1;
+
+pub const LISTING_MOST: usize = MAX_FUNCTIONS * LINE_MOST;
 
 // A tab and a number.
 pub fn put_field(n: u64, out: &mut [u8], at: usize) -> usize
@@ -50,8 +57,8 @@ fn row_count(t: &[u8], a: usize) -> usize
 
 // "registers, blocks, instructions", and the line's end.
 fn put_sizes(t: &[u8], a: usize, out: &mut [u8], at: usize) -> usize
-    requires { ⌜ (InTable (now t) a) × FunctionFits (decodeFunction (now t) a) × (at + 64 ≤ length (now out)) ⌝ }
-    ensures { λ r. ⌜ Written (now (out .entry)) at (sizesOf (decodeFunction (now (t .entry)) a)) (now (out .exit)) r × (r ≤ at + 64) ⌝ }
+    requires { ⌜ (InTable (now t) a) × FunctionFits (decodeFunction (now t) a) × (at + sizesMost ≤ length (now out)) ⌝ }
+    ensures { λ r. ⌜ Written (now (out .entry)) at (sizesWritten (decodeFunction (now (t .entry)) a)) (now (out .exit)) r × (r ≤ at + sizesMost) ⌝ }
 {
     let e = put_field(register_count(t, a) as u64, out, at);
     let f = put_field(block_count(t, a) as u64, out, e);
@@ -62,8 +69,8 @@ fn put_sizes(t: &[u8], a: usize, out: &mut [u8], at: usize) -> usize
 
 // The line of the function at cell a.
 fn put_line(t: &[u8], a: usize, out: &mut [u8], at: usize) -> usize
-    requires { ⌜ (InTable (now t) a) × FunctionFits (decodeFunction (now t) a) × (at + 149 ≤ length (now out)) ⌝ }
-    ensures { λ r. ⌜ Written (now (out .entry)) at (functionLine (decodeFunction (now (t .entry)) a)) (now (out .exit)) r × (r ≤ at + 149) ⌝ }
+    requires { ⌜ (InTable (now t) a) × FunctionFits (decodeFunction (now t) a) × (at + lineMost ≤ length (now out)) ⌝ }
+    ensures { λ r. ⌜ Written (now (out .entry)) at (functionLine (decodeFunction (now (t .entry)) a)) (now (out .exit)) r × (r ≤ at + lineMost) ⌝ }
 {
     let name = function_name(t, a);
     put_bytes(out, at, name);
@@ -71,10 +78,10 @@ fn put_line(t: &[u8], a: usize, out: &mut [u8], at: usize) -> usize
     put_sizes(t, a, out, e)
 }
 
-// The lines of an accepted table, from the buffer's beginning on: 16 of them, with at most 149 bytes each.
+// The lines of an accepted table, from the buffer's beginning on.
 pub fn list_program(t: &[u8], out: &mut [u8]) -> usize
-    requires { ⌜ (length (now t) ≡ tableLength) × (check (decode (now t)) ≡ Verdict.accepted) × (2384 ≤ length (now out)) ⌝ }
-    ensures { λ r. ⌜ Written (now (out .entry)) 0 (listingOf (decode (now (t .entry)))) (now (out .exit)) r × (r ≤ 2384) ⌝ }
+    requires { ⌜ (length (now t) ≡ tableLength) × (check (decode (now t)) ≡ Verdict.accepted) × (listingMost ≤ length (now out)) ⌝ }
+    ensures { λ r. ⌜ Written (now (out .entry)) 0 (listingOf (decode (now (t .entry)))) (now (out .exit)) r × (r ≤ listingMost) ⌝ }
 {
     let n = function_count(t);
     let mut at = 0;
@@ -88,8 +95,8 @@ pub fn list_program(t: &[u8], out: &mut [u8]) -> usize
 
 // The one line of a refusal.
 pub fn list_refusal(number: u8, place: usize, out: &mut [u8]) -> usize
-    requires { ⌜ 50 ≤ length (now out) ⌝ }
-    ensures { λ r. ⌜ Written (now (out .entry)) 0 (refusedLine number place) (now (out .exit)) r × (r ≤ 50) ⌝ }
+    requires { ⌜ refusalMost ≤ length (now out) ⌝ }
+    ensures { λ r. ⌜ Written (now (out .entry)) 0 (refusedLine number place) (now (out .exit)) r × (r ≤ refusalMost) ⌝ }
 {
     put_bytes(out, 0, b"refused");
     let e = put_field(number as u64, out, 7);

@@ -9,6 +9,7 @@ ghost use Rattle.theorems.specs.Clean.{Clean};
 ghost use Rattle.flow.specs.Sized.{Sized};
 ghost use Rattle.flow.specs.Predecessors.{rankOf, Flowed};
 ghost use Rattle.machine.specs.Phis.{Readable, Taken, phisWritten};
+ghost use Rattle.language.specs.Programs.{maxRows};
 use flow::rank;
 use table::block_first;
 use table::block_rows;
@@ -41,7 +42,7 @@ fn read_phis(
     registers: &[u64],
     taken: &mut [u64],
 )
-    requires { ⌜ (InTable (now t) a) × (length (now taken) ≡ 1024) ⌝ }
+    requires { ⌜ (InTable (now t) a) × (length (now taken) ≡ maxRows) ⌝ }
     requires { ⌜ Readable (now t) a first n k (now registers) ⌝ }
     ensures { λ _. ⌜ Taken (now (t .entry)) a first n k (now (registers .entry)) (now (taken .exit)) ⌝ }
 {
@@ -62,7 +63,7 @@ fn write_phis(
     taken: &[u64],
     registers: &mut [u64],
 )
-    requires { ⌜ (InTable (now t) a) × (length (now taken) ≡ 1024) ⌝ }
+    requires { ⌜ (InTable (now t) a) × (length (now taken) ≡ maxRows) ⌝ }
     requires { ⌜ Readable (now t) a first n k (now registers) ⌝ }
     requires { ⌜ Taken (now t) a first n k (now registers) (now taken) ⌝ }
     ensures { λ _. ⌜ now (registers .exit) ≡ phisWritten (now (t .entry)) a first k (now (registers .entry)) n ⌝ }
@@ -84,7 +85,7 @@ pub fn take_phis(
     taken: &mut [u64],
     registers: &mut [u64],
 )
-    requires { ⌜ (InTable (now t) a) × (length (now taken) ≡ 1024) ⌝ }
+    requires { ⌜ (InTable (now t) a) × (length (now taken) ≡ maxRows) ⌝ }
     requires { ⌜ Readable (now t) a first n k (now registers) ⌝ }
     ensures { λ _. ⌜ now (registers .exit) ≡ phisWritten (now (t .entry)) a first k (now (registers .entry)) n ⌝ }
 {

@@ -13,7 +13,7 @@ use Rattle.laws.specs.Lists.{from, below, gather}
 use Rattle.laws.proofs.Ranges.{length-map-from, getD-map-from, map-from-append, map-from-same}
 use Rattle.language.specs.Programs.{maxRegisters}
 use Rattle.language.specs.Answers.{Ran, ranNumbers, numberCells, runAnswer, runEach, runEachAnswer}
-use Rattle.records.specs.Limits.{Test, failOf, judged}
+use Rattle.records.specs.Limits.{Test, failOf, judgedTest}
 use Rattle.records.specs.Answers.{testAt, testsOf}
 use Rattle.merge.specs.Tries.{readingsOf, recordBy, recordsBy}
 
@@ -67,8 +67,8 @@ module _ (t : List ℕ) (i budget : ℕ) (ns : List ℕ) where
       ap (λ (l : List ℕ). getD l j 0) readings-are ∙ getD-map-from (λ j. getD ns (4 * j + 3) 0) 0 0 (length ns / 4) j l ∙ ap (λ (j : ℕ). getD ns (4 * j + 3) 0) (let e : 0 + j ≡ j = omega arith in e) in
       getD-fours answersOf four-numbers (readingsOf ns) j 2 0 (rw size l) (omega arith) ∙ ap (λ (a : ℕ). getD (answersOf a) 2 0) at ∙ third (getD ns (4 * j + 3) 0)
 
-  record-judged : (j : ℕ) → j < length ns / 4 → recordBy ns (runEach t i (readingsOf ns) budget maxRegisters) j ≡ judged t i budget (testAt ns j)
-  unfolding judged
+  record-judged : (j : ℕ) → j < length ns / 4 → recordBy ns (runEach t i (readingsOf ns) budget maxRegisters) j ≡ judgedTest t i budget (testAt ns j)
+  unfolding judgedTest
   record-judged j l =
       let fails = ap (λ (v : ℕ). cond (eqb v 1) 0 1) (value-at j l) ∙ fail-by-value (runAnswer t i (getD ns (4 * j + 3) 0 ∷ []) budget maxRegisters .answer) in
       ap
@@ -82,11 +82,11 @@ module _ (t : List ℕ) (i budget : ℕ) (ns : List ℕ) where
       })
       fails
 
-  pub records-judged : recordsBy ns (runEach t i (readingsOf ns) budget maxRegisters) ≡ map (judged t i budget) (testsOf ns)
+  pub records-judged : recordsBy ns (runEach t i (readingsOf ns) budget maxRegisters) ≡ map (judgedTest t i budget) (testsOf ns)
   records-judged =
-      map-from-same (recordBy ns (runEach t i (readingsOf ns) budget maxRegisters)) (λ j. judged t i budget (testAt ns j)) 0 (length ns / 4)
-      (λ j l. let e : 0 + j ≡ j = omega arith in subst⁻¹ (λ (j : ℕ). recordBy ns (runEach t i (readingsOf ns) budget maxRegisters) j ≡ judged t i budget (testAt ns j)) e (record-judged j l))
-      ∙ sym (map-map (judged t i budget) (testAt ns) (below (length ns / 4)))
+      map-from-same (recordBy ns (runEach t i (readingsOf ns) budget maxRegisters)) (λ j. judgedTest t i budget (testAt ns j)) 0 (length ns / 4)
+      (λ j l. let e : 0 + j ≡ j = omega arith in subst⁻¹ (λ (j : ℕ). recordBy ns (runEach t i (readingsOf ns) budget maxRegisters) j ≡ judgedTest t i budget (testAt ns j)) e (record-judged j l))
+      ∙ sym (map-map (judgedTest t i budget) (testAt ns) (below (length ns / 4)))
 
 -- ---- the readings, one after the other
 
@@ -184,7 +184,7 @@ runs-answered t i args budget n m e = rw (eq-eqb m (4 * length args) e) refl
 
 pub judged-together :
     (t : List ℕ) (i budget : ℕ) (ns args vs : List ℕ) (n m : ℕ) → length ns % 4 ≡ 0 → args ≡ readingsOf ns → n ≡ maxRegisters → m ≡ length ns
-    → vs ≡ runEachAnswer t i args budget n m .numbers → recordsBy ns vs ≡ map (judged t i budget) (testsOf ns)
+    → vs ≡ runEachAnswer t i args budget n m .numbers → recordsBy ns vs ≡ map (judgedTest t i budget) (testsOf ns)
 judged-together t i budget ns args vs n m four a r l e =
     let size : length args ≡ length ns / 4 = ap length (a ∙ readings-are t i budget ns) ∙ length-map-from (λ j. getD ns (4 * j + 3) 0) 0 (length ns / 4) in
     let count : m ≡ 4 * length args = omega (arith, size, l, four) in

@@ -26,7 +26,7 @@ use Rattle.theorems.proofs.Turn.{translatable-cells}
 use Rattle.records.specs.declared.Record.{Record}
 use Rattle.records.specs.Records.{compared, meant, larger, wins, best}
 use Rattle.records.specs.Stores.{FoundRecord, inserts, lookup}
-use Rattle.records.specs.Limits.{Test, limitAnswer, failOf, judged}
+use Rattle.records.specs.Limits.{Test, limitAnswer, failOf, judgedTest}
 use Rattle.records.specs.Answers.{Looked}
 use Rattle.records.specs.Trees.{In, Winner, storeOf}
 use Rattle.records.proofs.RecordFacts.{ways}
@@ -184,8 +184,8 @@ written-translated =
     λ j. record { answer = d .done j; table = w j }
 
 -- What its table judges is what its run says.
-judged-written : (b : ℕ) (x : Test) → x .reading < 2 ^ 64 → judged asWritten 0 b x ≡ judgedBy limit b x
-unfolding judged
+judged-written : (b : ℕ) (x : Test) → x .reading < 2 ^ 64 → judgedTest asWritten 0 b x ≡ judgedBy limit b x
+unfolding judgedTest
 judged-written b x l =
     let fits = reading-fits (functionInTable asWritten 0) (limit-there .signature) (x .reading) l in
     let ran = run-answer asWritten 0 (x .reading ∷ []) b maxRegisters (limit-there .passes) (limit-there .there) fits (limit-room asWritten 0 limit-there) in
@@ -193,10 +193,10 @@ judged-written b x l =
     (λ (v : Ran). record { appliance = x .appliance; time = x .time; fail = failOf v; tablet = x .tablet; reading = x .reading })
     (ran ∙ ap (λ (f : Func). ranOn f b x) here)
 
-pub morning-judged : judged asWritten 0 18 morning ≡ passed
+pub morning-judged : judgedTest asWritten 0 18 morning ≡ passed
 morning-judged = judged-written 18 morning (omega arith) ∙ ap (λ (v : Ran). record { appliance = 417; time = 570; fail = failOf v; tablet = 1; reading = 90 }) morning-passes
 
-pub afternoon-judged : judged asWritten 0 18 afternoon ≡ failed
+pub afternoon-judged : judgedTest asWritten 0 18 afternoon ≡ failed
 afternoon-judged = judged-written 18 afternoon (omega arith) ∙ ap (λ (v : Ran). record { appliance = 417; time = 850; fail = failOf v; tablet = 2; reading = 450 }) afternoon-fails
 
 -- Budgets 18 and 54 suffice for both.
@@ -230,7 +230,7 @@ unfolding computing compared meant larger wins
 fail-wins = refl
 
 -- In whatever order, grouping and repetition the two come in, the store answers the fail.
-module _ (t : List ℕ) (i budget : ℕ) (pass : judged t i budget morning ≡ passed) (fail : judged t i budget afternoon ≡ failed) where
+module _ (t : List ℕ) (i budget : ℕ) (pass : judgedTest t i budget morning ≡ passed) (fail : judgedTest t i budget afternoon ≡ failed) where
   winner : (h : History) → Both h → Winner (acceptedIn t i budget h) 417 (FoundRecord.found failed)
   winner h e = (
     subst (λ (r : Record). In r (acceptedIn t i budget h)) fail (merged-in t i budget h afternoon (e afternoon .1 (inr refl))),
@@ -238,9 +238,9 @@ module _ (t : List ℕ) (i budget : ℕ) (pass : judged t i budget morning ≡ p
     λ r n a. (let m = in-merged t i budget h r n in by r (e (m .0) .0 (m .1 .0)) (m .1 .1)),
   )
     where
-      by : {x : Test} (r : Record) → (x ≡ morning) ⊎ (x ≡ afternoon) → r ≡ judged t i budget x → wins failed r ≡ true
-      by r (inl d) q = subst⁻¹ (λ (r : Record). wins failed r ≡ true) (q ∙ ap (judged t i budget) d ∙ pass) fail-wins
-      by r (inr d) q = subst⁻¹ (λ (r : Record). wins failed r ≡ true) (q ∙ ap (judged t i budget) d ∙ fail) (wins-self failed)
+      by : {x : Test} (r : Record) → (x ≡ morning) ⊎ (x ≡ afternoon) → r ≡ judgedTest t i budget x → wins failed r ≡ true
+      by r (inl d) q = subst⁻¹ (λ (r : Record). wins failed r ≡ true) (q ∙ ap (judgedTest t i budget) d ∙ pass) fail-wins
+      by r (inr d) q = subst⁻¹ (λ (r : Record). wins failed r ≡ true) (q ∙ ap (judgedTest t i budget) d ∙ fail) (wins-self failed)
 
   answers-fail : (h : History) (s : List ℕ) (r : Look) → Both h → Leaves t i budget h s → LookCalled s 417 r → r ≡ lookOf (Looked.looked (FoundRecord.found failed))
   answers-fail h s r e l c =

@@ -11,9 +11,9 @@ use borrow.Author.Tests.{eq-eqb}
 use Rattle.laws.specs.Lists.{member}
 use Rattle.language.specs.Checking.{Verdict}
 use Rattle.records.specs.declared.Record.{Record}
-use Rattle.records.specs.Stores.{FoundRecord, insert, inserts, lookup, nth, capacity, storeLength, storeCells, Holds, recordsOf}
-use Rattle.records.specs.Limits.{Test, limitAnswer, judged}
-use Rattle.records.specs.Answers.{MergedStore, Looked, kept, Kept, Lent, Allowed, StoreJoined, LentToLook, LookedIn, testsOf}
+use Rattle.records.specs.Stores.{FoundRecord, insert, inserts, lookup, nth, capacity, storeLength, storeCells, StoreHolds, recordsOf}
+use Rattle.records.specs.Limits.{Test, limitAnswer, judgedTest}
+use Rattle.records.specs.Answers.{MergedStore, Looked, kept, Kept, IfLent, Allowed, StoreJoined, LentToLook, LookedIn, testsOf}
 use Rattle.records.specs.Trees.{Tree, In, Winner, storeOf}
 use Rattle.records.proofs.Trees.{any-order, merged-twice, answers-winner, room-for-so-many}
 use Rattle.records.proofs.Cells.{held-length, held-records}
@@ -38,17 +38,17 @@ any-order-of-calls t i budget h k s u z e l m =
     hs .bytes ∙ ap storeCells o ∙ sym (ks .bytes)
 
 -- a store lent to be merged into has the right length
-lent-is : (s : List ℕ) (P : MergedStore → Type 0) (m : MergedStore) {es : List Record} → Holds s es → Lent (eqb (length s) storeLength) s P m → P m
-lent-is s P m h c = subst (λ (b : Bool). Lent b s P m) (eq-eqb (length s) storeLength (held-length h)) c
+lent-is : (s : List ℕ) (P : MergedStore → Type 0) (m : MergedStore) {es : List Record} → StoreHolds s es → IfLent (eqb (length s) storeLength) s P m → P m
+lent-is s P m h c = subst (λ (b : Bool). IfLent b s P m) (eq-eqb (length s) storeLength (held-length h)) c
 
 -- a test that was merged has a limit function that is allowed
 allowed-of : (t : List ℕ) (i budget : ℕ) (h : History) (s : List ℕ) (x : Test) → Leaves t i budget h s → Merges x h → limitAnswer t i ≡ Verdict.accepted
 allowed-of t i budget History.empty s x l m = absurd m
 allowed-of t i budget (History.add y h) s x l (inl e) =
-    allowed-done (l .0) (Lent (eqb (length (l .0)) storeLength) (l .0) (Kept (l .0) (insert (judged t i budget y)))) (mergedOf (l .1 .0) s) (limitAnswer t i) (l .1 .1 .1 .0) (l .1 .1 .1 .1) .0
+    allowed-done (l .0) (IfLent (eqb (length (l .0)) storeLength) (l .0) (Kept (l .0) (insert (judgedTest t i budget y)))) (mergedOf (l .1 .0) s) (limitAnswer t i) (l .1 .1 .1 .0) (l .1 .1 .1 .1) .0
 allowed-of t i budget (History.add y h) s x l (inr m) = allowed-of t i budget h (l .0) x (l .1 .1 .0) m
 allowed-of t i budget (History.many ns h) s x l (inl o) =
-    allowed-done (l .0) (Lent (eqb (length (l .0)) storeLength && eqb (length ns % 4) 0) (l .0) (Kept (l .0) (inserts (map (judged t i budget) (testsOf ns))))) (mergedOf (l .1 .0) s) (limitAnswer t i) (l .1 .1 .1 .0) (l .1 .1 .1 .1) .0
+    allowed-done (l .0) (IfLent (eqb (length (l .0)) storeLength && eqb (length ns % 4) 0) (l .0) (Kept (l .0) (inserts (map (judgedTest t i budget) (testsOf ns))))) (mergedOf (l .1 .0) s) (limitAnswer t i) (l .1 .1 .1 .0) (l .1 .1 .1 .1) .0
 allowed-of t i budget (History.many ns h) s x l (inr m) = allowed-of t i budget h (l .0) x (l .1 .1 .0) m
 allowed-of t i budget (History.join h k) s x l (inl m) = allowed-of t i budget h (l .0) x (l .1 .1 .1 .0) m
 allowed-of t i budget (History.join h k) s x l (inr m) = allowed-of t i budget k (l .1 .0) x (l .1 .1 .1 .1 .0) m
@@ -57,24 +57,24 @@ allowed-of t i budget (History.refused h) s x l m = allowed-of t i budget h (l .
 -- a call on what a history left, its limit function allowed
 recorded :
     (t : List ℕ) (i budget : ℕ) (h : History) (s : List ℕ) (x : Test) (r : Merged) (s′ : List ℕ) → SizedTests h → Leaves t i budget h s → limitAnswer t i ≡ Verdict.accepted
-    → RecordCalled t i budget x s r s′ → mergedOf r s′ ≡ kept s (insert (judged t i budget x) (storeOf (acceptedIn t i budget h)))
+    → RecordCalled t i budget x s r s′ → mergedOf r s′ ≡ kept s (insert (judgedTest t i budget x) (storeOf (acceptedIn t i budget h)))
 recorded t i budget h s x r s′ z l a c =
     let g = leaves-winners t i budget h s z l in
-    let P : MergedStore → Type 0 = Kept s (insert (judged t i budget x)) in
-    let d : Lent (eqb (length s) storeLength) s P (mergedOf r s′) = subst (λ (v : Verdict). Allowed v s (Lent (eqb (length s) storeLength) s P) (mergedOf r s′)) a c in
+    let P : MergedStore → Type 0 = Kept s (insert (judgedTest t i budget x)) in
+    let d : IfLent (eqb (length s) storeLength) s P (mergedOf r s′) = subst (λ (v : Verdict). Allowed v s (IfLent (eqb (length s) storeLength) s P) (mergedOf r s′)) a c in
     lent-is s P (mergedOf r s′) g d .held (storeOf (acceptedIn t i budget h)) g
 
 -- so many at once
 recorded-many :
     (t : List ℕ) (i budget : ℕ) (h : History) (s ns : List ℕ) (r : Merged) (s′ : List ℕ) → SizedTests h → Leaves t i budget h s → limitAnswer t i ≡ Verdict.accepted
-    → length ns % 4 ≡ 0 → RecordsCalled t i budget ns s r s′ → mergedOf r s′ ≡ kept s (inserts (map (judged t i budget) (testsOf ns)) (storeOf (acceptedIn t i budget h)))
+    → length ns % 4 ≡ 0 → RecordsCalled t i budget ns s r s′ → mergedOf r s′ ≡ kept s (inserts (map (judgedTest t i budget) (testsOf ns)) (storeOf (acceptedIn t i budget h)))
 recorded-many t i budget h s ns r s′ z l a four c =
     let g = leaves-winners t i budget h s z l in
-    let P : MergedStore → Type 0 = Kept s (inserts (map (judged t i budget) (testsOf ns))) in
-    let d : Lent (eqb (length s) storeLength && eqb (length ns % 4) 0) s P (mergedOf r s′) =
-    subst (λ (v : Verdict). Allowed v s (Lent (eqb (length s) storeLength && eqb (length ns % 4) 0) s P) (mergedOf r s′)) a c in
+    let P : MergedStore → Type 0 = Kept s (inserts (map (judgedTest t i budget) (testsOf ns))) in
+    let d : IfLent (eqb (length s) storeLength && eqb (length ns % 4) 0) s P (mergedOf r s′) =
+    subst (λ (v : Verdict). Allowed v s (IfLent (eqb (length s) storeLength && eqb (length ns % 4) 0) s P) (mergedOf r s′)) a c in
     let lengths : (eqb (length s) storeLength && eqb (length ns % 4) 0) ≡ true = rw (eq-eqb (length s) storeLength (held-length g), eq-eqb (length ns % 4) 0 four) refl in
-    let e : P (mergedOf r s′) = subst (λ (b : Bool). Lent b s P (mergedOf r s′)) lengths d in
+    let e : P (mergedOf r s′) = subst (λ (b : Bool). IfLent b s P (mergedOf r s′)) lengths d in
     e .held (storeOf (acceptedIn t i budget h)) g
 
 store-add : (x : Record) (u : Tree) → insert x (storeOf u) ≡ storeOf (Tree.add x u)
@@ -89,8 +89,8 @@ pub twice-of-calls : TwiceOfCalls
 twice-of-calls t i budget h s x r s′ z l m c =
     let g = leaves-winners t i budget h s z l in
     let u = acceptedIn t i budget h in
-    let same : insert (judged t i budget x) (storeOf u) ≡ storeOf u =
-    store-add (judged t i budget x) u ∙ merged-twice (judged t i budget x) u (accepted-sized t i budget h z) (merged-in t i budget h x m) in
+    let same : insert (judgedTest t i budget x) (storeOf u) ≡ storeOf u =
+    store-add (judgedTest t i budget x) u ∙ merged-twice (judgedTest t i budget x) u (accepted-sized t i budget h z) (merged-in t i budget h x m) in
     let is = recorded t i budget h s x r s′ z l (allowed-of t i budget h s x l m) c ∙ ap (kept s) same ∙ kept-room s (storeOf u) (g .room) in
     (ap answerIn is, ap storeIn is ∙ sym (g .bytes))
 
@@ -136,18 +136,18 @@ answers-limit s P m (Verdict.refused k p) c f = ap answerIn c
 
 pub room-of-calls : RoomOfCalls
 room-of-calls t i budget h s x r s′ list z l f room c =
-    answers-limit s (Lent (eqb (length s) storeLength) s (Kept s (insert (judged t i budget x)))) (mergedOf r s′) (limitAnswer t i) c done
+    answers-limit s (IfLent (eqb (length s) storeLength) s (Kept s (insert (judgedTest t i budget x)))) (mergedOf r s′) (limitAnswer t i) c done
   where
     done : limitAnswer t i ≡ Verdict.accepted → mergedVerdict r ≡ Verdict.accepted
     done a =
         let u = acceptedIn t i budget h in
-        let short = room-for-so-many (Tree.add (judged t i budget x) u) list (those-of t i budget (History.add x h) list f) room in
-        let is = recorded t i budget h s x r s′ (λ y m. z y (inr m)) l a c ∙ ap (kept s) (store-add (judged t i budget x) u) in
-        ap answerIn (is ∙ kept-room s (storeOf (Tree.add (judged t i budget x) u)) short)
+        let short = room-for-so-many (Tree.add (judgedTest t i budget x) u) list (those-of t i budget (History.add x h) list f) room in
+        let is = recorded t i budget h s x r s′ (λ y m. z y (inr m)) l a c ∙ ap (kept s) (store-add (judgedTest t i budget x) u) in
+        ap answerIn (is ∙ kept-room s (storeOf (Tree.add (judgedTest t i budget x) u)) short)
 
 pub room-of-records : RoomOfRecords
 room-of-records t i budget h s ns r s′ list z l f room four c =
-    answers-limit s (Lent (eqb (length s) storeLength && eqb (length ns % 4) 0) s (Kept s (inserts (map (judged t i budget) (testsOf ns))))) (mergedOf r s′) (limitAnswer t i) c done
+    answers-limit s (IfLent (eqb (length s) storeLength && eqb (length ns % 4) 0) s (Kept s (inserts (map (judgedTest t i budget) (testsOf ns))))) (mergedOf r s′) (limitAnswer t i) c done
   where
     done : limitAnswer t i ≡ Verdict.accepted → mergedVerdict r ≡ Verdict.accepted
     done a =
@@ -164,7 +164,7 @@ room-of-stores t i budget h k s u r s′ list z l m f room c =
     let b = acceptedIn t i budget k in
     let lengths : (eqb (length s) storeLength && eqb (length u) storeLength) ≡ true =
     rw (eq-eqb (length s) storeLength (held-length hs), eq-eqb (length u) storeLength (held-length ks)) refl in
-    let d : StoreJoined u s (mergedOf r s′) = subst (λ (b : Bool). Lent b s (StoreJoined u s) (mergedOf r s′)) lengths c in
+    let d : StoreJoined u s (mergedOf r s′) = subst (λ (b : Bool). IfLent b s (StoreJoined u s) (mergedOf r s′)) lengths c in
     let short = room-for-so-many (Tree.join a b) list (those-of t i budget (History.join h k) list f) room in
     ap answerIn (d .held (storeOf a) (storeOf b) hs ks ∙ ap (kept s) (store-join a b) ∙ kept-room s (storeOf (Tree.join a b)) short)
 
@@ -180,16 +180,16 @@ full-exactly t i budget h s x r s′ z l a c = (λ e. only (kept-full s fs (sym 
     es = storeOf u
 
     fs : List Record
-    fs = insert (judged t i budget x) es
+    fs = insert (judgedTest t i budget x) es
 
-    g : Holds s es
+    g : StoreHolds s es
     g = leaves-winners t i budget h s z l
 
     is : mergedOf r s′ ≡ kept s fs
     is = recorded t i budget h s x r s′ z l a c
 
     mine : ℕ
-    mine = judged t i budget x .appliance
+    mine = judgedTest t i budget x .appliance
 
     -- no accepted record of this appliance, or one
     looked : Winner u mine (lookup mine es)
@@ -200,19 +200,19 @@ full-exactly t i budget h s x r s′ z l a c = (λ e. only (kept-full s fs (sym 
       where
         by : (f : FoundRecord) → lookup mine es ≡ f → Winner u mine f → (length es ≡ capacity) × ((y : Test) → Merges y h → y .appliance ≡ x .appliance → ⊥)
         by FoundRecord.none e w =
-            let n = longer-by-one (judged t i budget x) es e in (
+            let n = longer-by-one (judgedTest t i budget x) es e in (
               omega (arith, g .room, n, more),
-              λ y m d. w (judged t i budget y) (merged-in t i budget h y m) (judged-appliance t i budget y ∙ d ∙ sym (judged-appliance t i budget x)),
+              λ y m d. w (judgedTest t i budget y) (merged-in t i budget h y m) (judged-appliance t i budget y ∙ d ∙ sym (judged-appliance t i budget x)),
             )
         by (FoundRecord.found v) e w =
-            let n = as-long (judged t i budget x) es (g .rising) e in
+            let n = as-long (judgedTest t i budget x) es (g .rising) e in
             absurd (omega (arith, g .room, n, more))
 
     if : length es ≡ capacity → ((y : Test) → Merges y h → y .appliance ≡ x .appliance → ⊥) → capacity < length fs
     if full new = by (lookup mine es) refl looked
       where
         by : (f : FoundRecord) → lookup mine es ≡ f → Winner u mine f → capacity < length fs
-        by FoundRecord.none e w = let n = longer-by-one (judged t i budget x) es e in omega (arith, full, n)
+        by FoundRecord.none e w = let n = longer-by-one (judgedTest t i budget x) es e in omega (arith, full, n)
         by (FoundRecord.found v) e w =
             let m = in-merged t i budget h v (w .0) in
             let d : m .0 .appliance ≡ x .appliance = sym (judged-appliance t i budget (m .0)) ∙ sym (ap (λ (r : Record). r .appliance) (m .1 .1)) ∙ w .1 ∙ judged-appliance t i budget x in

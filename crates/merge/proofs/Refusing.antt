@@ -11,7 +11,7 @@ use borrow.Author.Tests.{le-leb, lt-leb, leb-true, leb-false}
 use Rattle.language.specs.Checking.{Verdict}
 use Rattle.records.specs.declared.Record.{Record}
 use Rattle.records.specs.Stores.{capacity, storeCells}
-use Rattle.records.specs.Answers.{MergedStore, unchanged, kept, Harmless, Lent, Allowed}
+use Rattle.records.specs.Answers.{MergedStore, unchanged, kept, Harmless, IfLent, Allowed}
 
 pub not-both : {k p : ℕ} → Verdict.accepted ≡ Verdict.refused k p → ⊥
 not-both e = let z : _≡_ {A = ℕ} 0 1 = cc in omega arith
@@ -23,13 +23,13 @@ module _ (s : List ℕ) (P : MergedStore → Type 0) (m : MergedStore) where
   allowed-done Verdict.accepted h e = (refl, h)
   allowed-done (Verdict.refused k p) h e = absurd (not-both (sym e ∙ ap (λ (m : MergedStore). m .answer) h))
 
-  pub lent-done : (b : Bool) → Lent b s P m → m .answer ≡ Verdict.accepted → P m
+  pub lent-done : (b : Bool) → IfLent b s P m → m .answer ≡ Verdict.accepted → P m
   lent-done true h e = h
   lent-done false h e = absurd (not-both (sym e ∙ ap (λ (m : MergedStore). m .answer) h))
 
   -- ---- refused
 
-  pub lent-refused : (b : Bool) → (P m → m .store ≡ s) → Lent b s P m → m .store ≡ s
+  pub lent-refused : (b : Bool) → (P m → m .store ≡ s) → IfLent b s P m → m .store ≡ s
   lent-refused true f h = f h
   lent-refused false f h = ap (λ (m : MergedStore). m .store) h
 

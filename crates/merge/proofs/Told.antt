@@ -16,11 +16,11 @@ use Rattle.language.specs.Answers.{Answer as Answerᴸ, zeros, verdictNumbers, 
 use Rattle.theorems.proofs.NoRefusal.{refused-numbers}
 use Rattle.records.specs.declared.Record.{Record}
 use Rattle.records.specs.Stores.{insert, capacity, storeLength, storeCells, recordsOf, joined}
-use Rattle.records.specs.Limits.{limitAnswer, judged}
-use Rattle.records.specs.Answers.{MergedStore, unchanged, kept, keptAs, Kept, emptied, Lent, Allowed, RecordMerged, StoreJoined}
+use Rattle.records.specs.Limits.{limitAnswer, judgedTest}
+use Rattle.records.specs.Answers.{MergedStore, unchanged, kept, keptAs, Kept, emptied, IfLent, Allowed, RecordMerged, StoreJoined}
 use Rattle.records.proofs.Merging.{joined-is}
 use Rattle.records.proofs.Cells.{empty-zeros, held-records}
-use Rattle.answers.specs.declared.numbers.Answer.{Answer}
+use Rattle.answers.specs.declared.figures.Answer.{Answer}
 use Rattle.answers.specs.Numbers.{numbersOf}
 use Rattle.ial.specs.Calls.{CheckLinked}
 use Rattle.ial.proofs.Demand.{symbol-checked}
@@ -34,20 +34,20 @@ use Rattle.merge.proofs.JudgingLaws.{limit-refused, limit-by}
 -- ---- lent bytes, by a length or two
 
 module _ (s : List ℕ) (P : MergedStore → Type 0) (m : MergedStore) where
-  pub lent-right : length s ≡ storeLength → P m → Lent (eqb (length s) storeLength) s P m
-  lent-right e h = subst⁻¹ (λ (b : Bool). Lent b s P m) (eq-eqb (length s) storeLength e) h
+  pub lent-right : length s ≡ storeLength → P m → IfLent (eqb (length s) storeLength) s P m
+  lent-right e h = subst⁻¹ (λ (b : Bool). IfLent b s P m) (eq-eqb (length s) storeLength e) h
 
-  pub lent-wrong : (length s ≡ storeLength → ⊥) → m ≡ unchanged s 22 0 → Lent (eqb (length s) storeLength) s P m
-  lent-wrong n h = subst⁻¹ (λ (b : Bool). Lent b s P m) (ne-eqb (length s) storeLength n) h
+  pub lent-wrong : (length s ≡ storeLength → ⊥) → m ≡ unchanged s 22 0 → IfLent (eqb (length s) storeLength) s P m
+  lent-wrong n h = subst⁻¹ (λ (b : Bool). IfLent b s P m) (ne-eqb (length s) storeLength n) h
 
   module _ (b : Bool) where
-    pub both-right : length s ≡ storeLength → b ≡ true → P m → Lent (eqb (length s) storeLength && b) s P m
+    pub both-right : length s ≡ storeLength → b ≡ true → P m → IfLent (eqb (length s) storeLength && b) s P m
     both-right e d h = rw (eq-eqb (length s) storeLength e, d) h
 
-    pub first-wrong : (length s ≡ storeLength → ⊥) → m ≡ unchanged s 22 0 → Lent (eqb (length s) storeLength && b) s P m
+    pub first-wrong : (length s ≡ storeLength → ⊥) → m ≡ unchanged s 22 0 → IfLent (eqb (length s) storeLength && b) s P m
     first-wrong n h = rw (ne-eqb (length s) storeLength n) h
 
-    pub second-wrong : length s ≡ storeLength → b ≡ false → m ≡ unchanged s 22 0 → Lent (eqb (length s) storeLength && b) s P m
+    pub second-wrong : length s ≡ storeLength → b ≡ false → m ≡ unchanged s 22 0 → IfLent (eqb (length s) storeLength && b) s P m
     second-wrong e d h = rw (eq-eqb (length s) storeLength e, d) h
 
 -- ---- answers
@@ -123,14 +123,14 @@ limit-number t i n p e = by (checkAnswer t) refl e
 
 pub record-ruled :
     (t : List ℕ) (i budget a b c d f : ℕ) (s : List ℕ) (m : MergedStore) → Ruled t i budget d (rulings.Fail f)
-    → Lent (eqb (length s) storeLength) s (Kept s (insert (record { appliance = a; time = b; fail = f; tablet = c; reading = d }))) m
+    → IfLent (eqb (length s) storeLength) s (Kept s (insert (record { appliance = a; time = b; fail = f; tablet = c; reading = d }))) m
     → RecordMerged t i budget (test a b c d) s m
-unfolding judged
+unfolding judgedTest
 record-ruled t i budget a b c d f s m r h =
-    let same : record { appliance = a; time = b; fail = f; tablet = c; reading = d } ≡ judged t i budget (test a b c d) =
+    let same : record { appliance = a; time = b; fail = f; tablet = c; reading = d } ≡ judgedTest t i budget (test a b c d) =
     ap (λ (f : ℕ). record { appliance = a; time = b; fail = f; tablet = c; reading = d }) (r .1) in
-    subst⁻¹ (λ (v : Verdict). Allowed v s (Lent (eqb (length s) storeLength) s (Kept s (insert (judged t i budget (test a b c d))))) m) (r .0)
-    (subst (λ (e : Record). Lent (eqb (length s) storeLength) s (Kept s (insert e)) m) same h)
+    subst⁻¹ (λ (v : Verdict). Allowed v s (IfLent (eqb (length s) storeLength) s (Kept s (insert (judgedTest t i budget (test a b c d))))) m) (r .0)
+    (subst (λ (e : Record). IfLent (eqb (length s) storeLength) s (Kept s (insert e)) m) same h)
 
 pub limit-told : (t : List ℕ) (i n p : ℕ) (s : List ℕ) (P : MergedStore → Type 0) → limitAnswer t i ≡ Verdict.refused n p
     → Allowed (limitAnswer t i) s P (mergedOf (record { number = n; place = p }) s)

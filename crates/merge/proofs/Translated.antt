@@ -27,8 +27,8 @@ use Rattle.theorems.proofs.NoRefusal.{translated-is-0}
 use Rattle.theorems.proofs.OverTables.{demand3-over-tables, run-answer, runs-over-tables}
 use Rattle.records.specs.declared.Record.{Record}
 use Rattle.records.specs.Stores.{insert, inserts, storeLength}
-use Rattle.records.specs.Limits.{Test, limitAnswer, failOf, judged}
-use Rattle.records.specs.Answers.{Kept, Lent, Allowed, testsOf}
+use Rattle.records.specs.Limits.{Test, limitAnswer, failOf, judgedTest}
+use Rattle.records.specs.Answers.{Kept, IfLent, Allowed, testsOf}
 use Rattle.merge.specs.declared.results.Merged.{Merged}
 use Rattle.merge.specs.Calls.{mergedOf, RecordCalled, RecordsCalled}
 use Rattle.merge.specs.Histories.{History, Leaves, OneOf, Merges}
@@ -192,8 +192,8 @@ module _ (t : List ℕ) (i : ℕ) (out : List ℕ) (a : limitAnswer t i ≡ Verd
   judged-alike :
       (b b′ : ℕ) (x : Test)
       → failOf (runAnswer t i (x .reading ∷ []) b maxRegisters .answer) ≡ failOf (runAnswer out 0 (x .reading ∷ []) b′ maxRegisters .answer)
-      → judged t i b x ≡ judged out 0 b′ x
-  unfolding judged
+      → judgedTest t i b x ≡ judgedTest out 0 b′ x
+  unfolding judgedTest
   judged-alike b b′ x =
       ap (λ (v : ℕ). record { appliance = x .appliance; time = x .time; fail = v; tablet = x .tablet; reading = x .reading })
 
@@ -212,25 +212,25 @@ verdicts-translated = same-verdicts
 
 module _ (t : List ℕ) (i : ℕ) (out : List ℕ) (b b′ : ℕ) (a : limitAnswer t i ≡ limitAnswer out 0) where
   abbrev Alike : Test → Type 0
-  Alike x = judged t i b x ≡ judged out 0 b′ x
+  Alike x = judgedTest t i b x ≡ judgedTest out 0 b′ x
 
-  same-judged : (xs : List Test) → ((x : Test) → OneOf x xs → Alike x) → map (judged t i b) xs ≡ map (judged out 0 b′) xs
+  same-judged : (xs : List Test) → ((x : Test) → OneOf x xs → Alike x) → map (judgedTest t i b) xs ≡ map (judgedTest out 0 b′) xs
   same-judged [] f = refl
   same-judged (x ∷ xs) f = λ j. f x (inl refl) j ∷ same-judged xs (λ y o. f y (inr o)) j
 
   -- a call is known by its limit function's answer and by what is judged
   record-alike : (x : Test) (s : List ℕ) (r : Merged) (s′ : List ℕ) → Alike x → RecordCalled out 0 b′ x s r s′ → RecordCalled t i b x s r s′
   record-alike x s r s′ e c =
-      subst⁻¹ (λ (v : Verdict). Allowed v s (Lent (eqb (length s) storeLength) s (Kept s (insert (judged t i b x)))) (mergedOf r s′)) a
-      (subst⁻¹ (λ (y : Record). Allowed (limitAnswer out 0) s (Lent (eqb (length s) storeLength) s (Kept s (insert y))) (mergedOf r s′)) e c)
+      subst⁻¹ (λ (v : Verdict). Allowed v s (IfLent (eqb (length s) storeLength) s (Kept s (insert (judgedTest t i b x)))) (mergedOf r s′)) a
+      (subst⁻¹ (λ (y : Record). Allowed (limitAnswer out 0) s (IfLent (eqb (length s) storeLength) s (Kept s (insert y))) (mergedOf r s′)) e c)
 
   records-alike :
-      (ns s : List ℕ) (r : Merged) (s′ : List ℕ) → map (judged t i b) (testsOf ns) ≡ map (judged out 0 b′) (testsOf ns)
+      (ns s : List ℕ) (r : Merged) (s′ : List ℕ) → map (judgedTest t i b) (testsOf ns) ≡ map (judgedTest out 0 b′) (testsOf ns)
       → RecordsCalled out 0 b′ ns s r s′ → RecordsCalled t i b ns s r s′
   records-alike ns s r s′ e c =
       let l = eqb (length s) storeLength && eqb (length ns % 4) 0 in
-      subst⁻¹ (λ (v : Verdict). Allowed v s (Lent l s (Kept s (inserts (map (judged t i b) (testsOf ns))))) (mergedOf r s′)) a
-      (subst⁻¹ (λ (rs : List Record). Allowed (limitAnswer out 0) s (Lent l s (Kept s (inserts rs))) (mergedOf r s′)) e c)
+      subst⁻¹ (λ (v : Verdict). Allowed v s (IfLent l s (Kept s (inserts (map (judgedTest t i b) (testsOf ns))))) (mergedOf r s′)) a
+      (subst⁻¹ (λ (rs : List Record). Allowed (limitAnswer out 0) s (IfLent l s (Kept s (inserts rs))) (mergedOf r s′)) e c)
 
   leaves-alike : (h : History) (u : List ℕ) → ((x : Test) → Merges x h → Alike x) → Leaves out 0 b′ h u → Leaves t i b h u
   leaves-alike History.empty u f l = l
@@ -269,7 +269,7 @@ leaves-translated t i out b b′ h u a d z f = leaves-alike t i out b b′ (a �
     v : SameVerdicts t i out
     v = verdicts-translated t i out a d
 
-    by : (x : Test) → x .reading < 2 ^ 64 → Suffices t i b b′ x ⊎ Unended t i b b′ x → judged t i b x ≡ judged out 0 b′ x
+    by : (x : Test) → x .reading < 2 ^ 64 → Suffices t i b b′ x ⊎ Unended t i b b′ x → judgedTest t i b x ≡ judgedTest out 0 b′ x
     by x l (inl s) = v .verdicts b b′ x l s
     by x l (inr s) = v .unended b b′ x l s
 

@@ -8,8 +8,8 @@ use lib.ListN.{length}
 use borrow.Author.Tests.{not-true, not-false}
 use Rattle.laws.specs.Lists.{from}
 use Rattle.records.specs.declared.Record.{Record}
-use Rattle.records.specs.Records.{Sized}
-use Rattle.records.specs.Stores.{insert, inserts, capacity, Holds}
+use Rattle.records.specs.Records.{SizedRecord}
+use Rattle.records.specs.Stores.{insert, inserts, capacity, StoreHolds}
 use Rattle.records.specs.Answers.{MergedStore, keptAs, Kept}
 use Rattle.records.proofs.Storing.{rising-insert, sized-insert, inserts-longer}
 use Rattle.merge.specs.Tries.{Tried, Underway}
@@ -32,12 +32,12 @@ pub underway-begins : (s : List ℕ) (rs : List Record) → Underway s (inserts 
 underway-begins s rs es h = (es, (h, refl))
 
 module _ (s₀ : List ℕ) (f : List Record → List Record) (s : List ℕ) where
-  pub underway-ends : Underway s₀ f [] s → (es : List Record) → Holds s₀ es → Holds s (f es)
-  underway-ends u es h = let g = u es h in subst (Holds s) (sym (inserts-none (g .0)) ∙ g .1 .1) (g .1 .0)
+  pub underway-ends : Underway s₀ f [] s → (es : List Record) → StoreHolds s₀ es → StoreHolds s (f es)
+  underway-ends u es h = let g = u es h in subst (StoreHolds s) (sym (inserts-none (g .0)) ∙ g .1 .1) (g .1 .0)
 
   module _ (r : Record) (rest : List Record) (u : Underway s₀ f (r ∷ rest) s) (s′ : List ℕ) where
     -- there was room for the first
-    pub underway-on : Sized r → Kept s (insert r) (keptAs true s′) → Underway s₀ f rest s′
+    pub underway-on : SizedRecord r → Kept s (insert r) (keptAs true s′) → Underway s₀ f rest s′
     underway-on z k es h =
         let g = u es h in
         let is = k .held (g .0) (g .1 .0) in
@@ -55,7 +55,7 @@ module _ (s₀ : List ℕ) (f : List Record → List Record) (s : List ℕ) wher
         )
 
     -- there was none
-    pub underway-full : Kept s (insert r) (keptAs false s′) → (es : List Record) → Holds s₀ es → capacity < length (f es)
+    pub underway-full : Kept s (insert r) (keptAs false s′) → (es : List Record) → StoreHolds s₀ es → capacity < length (f es)
     underway-full k es h =
         let g = u es h in
         let is = k .held (g .0) (g .1 .0) in
@@ -68,7 +68,7 @@ module _ (s₀ : List ℕ) (f : List Record → List Record) (s : List ℕ) wher
     pub underway-some : Tried s (inserts rs) true s′ → Underway s₀ f rest s′
     underway-some k es h = let g = u es h in (inserts rs (g .0), (k .held (g .0) (g .1 .0), sym (inserts-append rs rest (g .0)) ∙ g .1 .1))
 
-    pub underway-some-full : Tried s (inserts rs) false s′ → (es : List Record) → Holds s₀ es → capacity < length (f es)
+    pub underway-some-full : Tried s (inserts rs) false s′ → (es : List Record) → StoreHolds s₀ es → capacity < length (f es)
     underway-some-full k es h =
         let g = u es h in
         let all : inserts rest (inserts rs (g .0)) ≡ f es = sym (inserts-append rs rest (g .0)) ∙ g .1 .1 in
@@ -92,13 +92,13 @@ module _ (s₀ : List ℕ) (f : List Record → List Record) (g : ℕ → Record
   here : Underway s₀ f (r ∷ map g (from (j + 1) (n - (j + 1)))) s
   here = subst (λ (rs : List Record). Underway s₀ f rs s) (next-from g j n l ∙ ap (λ (r : Record). r ∷ map g (from (j + 1) (n - (j + 1)))) (sym e)) u
 
-  pub number-on : (b : Bool) → not b ≡ false → Sized r → Kept s (insert r) (keptAs b s′) → Underway s₀ f (map g (from (j + 1) (n - (j + 1)))) s′
+  pub number-on : (b : Bool) → not b ≡ false → SizedRecord r → Kept s (insert r) (keptAs b s′) → Underway s₀ f (map g (from (j + 1) (n - (j + 1)))) s′
   number-on b d z k = underway-on s₀ f s r (map g (from (j + 1) (n - (j + 1)))) here s′ z (subst (λ (b : Bool). Kept s (insert r) (keptAs b s′)) (not-false b d) k)
 
-  pub number-full : (b : Bool) → not b ≡ true → Kept s (insert r) (keptAs b s′) → (es : List Record) → Holds s₀ es → capacity < length (f es)
+  pub number-full : (b : Bool) → not b ≡ true → Kept s (insert r) (keptAs b s′) → (es : List Record) → StoreHolds s₀ es → capacity < length (f es)
   number-full b d k = underway-full s₀ f s r (map g (from (j + 1) (n - (j + 1)))) here s′ (subst (λ (b : Bool). Kept s (insert r) (keptAs b s′)) (not-true b d) k)
 
 pub numbers-done :
     (s₀ : List ℕ) (f : List Record → List Record) (g : ℕ → Record) (j n : ℕ) → n ≤ j → (s : List ℕ) → Underway s₀ f (map g (from j (n - j))) s
-    → (es : List Record) → Holds s₀ es → Holds s (f es)
+    → (es : List Record) → StoreHolds s₀ es → StoreHolds s (f es)
 numbers-done s₀ f g j n l s u = underway-ends s₀ f s (subst (λ (rs : List Record). Underway s₀ f rs s) (none-from g j n l) u)

@@ -10,8 +10,8 @@ use lib.Dec.{T}
 use lib.ListN.{length}
 use Rattle.laws.specs.Lists.{member}
 use Rattle.language.specs.Checking.{Verdict}
-use Rattle.records.specs.Stores.{FoundRecord, nth, capacity, Holds}
-use Rattle.records.specs.Limits.{Test, limitAnswer, judged}
+use Rattle.records.specs.Stores.{FoundRecord, nth, capacity, StoreHolds}
+use Rattle.records.specs.Limits.{Test, limitAnswer, judgedTest}
 use Rattle.records.specs.Answers.{Looked, testsOf}
 use Rattle.records.specs.Trees.{Tree, Winner, storeOf}
 use Rattle.merge.specs.declared.results.Merged.{Merged}
@@ -27,19 +27,19 @@ pub data History : Type 0 where
   refused : History → History
 
 -- A call that may change store s was refused, whatever it was called with, and left s′.
-pub data Refused (s s′ : List ℕ) : Type 0 where
+pub data RefusedCall (s s′ : List ℕ) : Type 0 where
   byRecord :
       (t : List ℕ) (i budget : ℕ) (x : Test) (r : Merged) (k p : ℕ)
       → RecordCalled t i budget x s r s′
       → mergedVerdict r ≡ Verdict.refused k p
-      → Refused s s′
+      → RefusedCall s s′
   byRecords :
       (t : List ℕ) (i budget : ℕ) (numbers : List ℕ) (r : Merged) (k p : ℕ)
       → RecordsCalled t i budget numbers s r s′
       → mergedVerdict r ≡ Verdict.refused k p
-      → Refused s s′
-  byStore : (u : List ℕ) (r : Merged) (k p : ℕ) → StoreCalled u s r s′ → mergedVerdict r ≡ Verdict.refused k p → Refused s s′
-  byEmpty : (r : Merged) (k p : ℕ) → EmptyCalled s r s′ → mergedVerdict r ≡ Verdict.refused k p → Refused s s′
+      → RefusedCall s s′
+  byStore : (u : List ℕ) (r : Merged) (k p : ℕ) → StoreCalled u s r s′ → mergedVerdict r ≡ Verdict.refused k p → RefusedCall s s′
+  byEmpty : (r : Merged) (k p : ℕ) → EmptyCalled s r s′ → mergedVerdict r ≡ Verdict.refused k p → RefusedCall s s′
 
 module _ (t : List ℕ) (i budget : ℕ) where
   -- The history leaves store s, "begun empty and handed on unchanged", with table t, function i and this budget "the same for a whole store"; but for
@@ -52,16 +52,16 @@ module _ (t : List ℕ) (i budget : ℕ) where
       (s₀ : List ℕ) × ((r : Merged) × (Leaves h s₀ × (RecordsCalled t i budget ns s₀ r s × (mergedVerdict r ≡ Verdict.accepted))))
   Leaves (History.join h k) s =
       (s₀ : List ℕ) × ((u : List ℕ) × ((r : Merged) × (Leaves h s₀ × (Leaves k u × (StoreCalled u s₀ r s × (mergedVerdict r ≡ Verdict.accepted))))))
-  Leaves (History.refused h) s = (s₀ : List ℕ) × (Leaves h s₀ × Refused s₀ s)
+  Leaves (History.refused h) s = (s₀ : List ℕ) × (Leaves h s₀ × RefusedCall s₀ s)
 
   -- "its accepted records": each test that was merged, with its verdict.
   abbrev pub adds : List Test → Tree → Tree
   adds [] u = u
-  adds (x ∷ xs) u = adds xs (Tree.add (judged t i budget x) u)
+  adds (x ∷ xs) u = adds xs (Tree.add (judgedTest t i budget x) u)
 
   abbrev pub acceptedIn : History → Tree
   acceptedIn History.empty = Tree.empty
-  acceptedIn (History.add x h) = Tree.add (judged t i budget x) (acceptedIn h)
+  acceptedIn (History.add x h) = Tree.add (judgedTest t i budget x) (acceptedIn h)
   acceptedIn (History.many ns h) = adds (testsOf ns) (acceptedIn h)
   acceptedIn (History.join h k) = Tree.join (acceptedIn h) (acceptedIn k)
   acceptedIn (History.refused h) = acceptedIn h
@@ -96,7 +96,7 @@ LeavesWinners =
     (t : List ℕ) (i budget : ℕ) (h : History) (s : List ℕ)
     → SizedTests h
     → Leaves t i budget h s
-    → Holds s (storeOf (acceptedIn t i budget h))
+    → StoreHolds s (storeOf (acceptedIn t i budget h))
 
 -- "any order and grouping of merges gives the same record": two histories that merge the same set of tests, in whatever order, grouping and
 -- repetition, leave the same bytes.
@@ -186,7 +186,7 @@ RoomOfStores =
 
 -- "any refusal leaves the store unchanged", whatever its bytes.
 abbrev pub RefusalsLeave : Type 0
-RefusalsLeave = (s s′ : List ℕ) → Refused s s′ → s′ ≡ s
+RefusalsLeave = (s s′ : List ℕ) → RefusedCall s s′ → s′ ≡ s
 
 -- 60 exactly where the "store [is] full and appliance new": 1,024 appliances, none of them the test's.
 abbrev pub FullExactly : Type 0

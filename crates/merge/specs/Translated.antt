@@ -11,7 +11,7 @@ use Rattle.language.specs.Running.{Outcome, Ends, NotEnded}
 use Rattle.language.specs.Answers.{Ran, runAnswer, translateAnswer}
 use Rattle.language.specs.Programs.{maxRegisters}
 use Rattle.theorems.specs.OverTables.{functionInTable}
-use Rattle.records.specs.Limits.{Test, limitAnswer, judged}
+use Rattle.records.specs.Limits.{Test, limitAnswer, judgedTest}
 use Rattle.merge.specs.Histories.{History, Leaves, Merges, SizedTests}
 
 -- The run of an allowed limit function on a reading is never refused: it returns or stops.
@@ -40,8 +40,8 @@ TranslatedTo t i out = translateAnswer t i tableLength ≡ record { answer = Ver
 -- A translation does what its source does: the translation is a limit function too, and its verdicts are those of the source.
 pub record SameVerdicts (t : List ℕ) (i : ℕ) (out : List ℕ) : Type 0 where
   pub allowed : limitAnswer out 0 ≡ Verdict.accepted
-  pub verdicts : (b b′ : ℕ) (x : Test) → x .reading < 2 ^ 64 → Suffices t i b b′ x → judged t i b x ≡ judged out 0 b′ x
-  pub unended : (b b′ : ℕ) (x : Test) → x .reading < 2 ^ 64 → Unended t i b b′ x → judged t i b x ≡ judged out 0 b′ x
+  pub verdicts : (b b′ : ℕ) (x : Test) → x .reading < 2 ^ 64 → Suffices t i b b′ x → judgedTest t i b x ≡ judgedTest out 0 b′ x
+  pub unended : (b b′ : ℕ) (x : Test) → x .reading < 2 ^ 64 → Unended t i b b′ x → judgedTest t i b x ≡ judgedTest out 0 b′ x
 
 abbrev pub VerdictsTranslated : Type 0
 VerdictsTranslated = (t : List ℕ) (i : ℕ) (out : List ℕ) → limitAnswer t i ≡ Verdict.accepted → TranslatedTo t i out → SameVerdicts t i out

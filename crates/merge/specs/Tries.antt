@@ -7,7 +7,7 @@ use lib.Dec.{eqb}
 use lib.ListN.{length, getD}
 use Rattle.laws.specs.Lists.{below}
 use Rattle.records.specs.declared.Record.{Record}
-use Rattle.records.specs.Stores.{capacity, inserts, Holds}
+use Rattle.records.specs.Stores.{capacity, inserts, StoreHolds}
 use Rattle.records.specs.Answers.{testsOf}
 
 abbrev pub readingsOf : List ℕ → List ℕ
@@ -29,14 +29,14 @@ recordsBy ts vs = map (recordBy ts vs) (below (length ts / 4))
 
 -- Bytes that were to become those of gs are s′: so it is, or there was no room.
 abbrev pub Became : Bool → List Record → List ℕ → Type 0
-Became true gs s′ = Holds s′ gs
+Became true gs s′ = StoreHolds s′ gs
 Became false gs s′ = capacity < length gs
 
 -- The bytes s, taken as a store, were to become those of f of its records.
 pub record Tried (s : List ℕ) (f : List Record → List Record) (b : Bool) (s′ : List ℕ) : Type 0 where
-  pub held : (es : List Record) → Holds s es → Became b (f es) s′
+  pub held : (es : List Record) → StoreHolds s es → Became b (f es) s′
   pub size : length s′ ≡ length s
 
 -- Of what was to be put into the bytes s₀ so much is still to come, and they are now s.
 abbrev pub Underway : (s₀ : List ℕ) (f : List Record → List Record) (rest : List Record) (s : List ℕ) → Type 0
-Underway s₀ f rest s = (es : List Record) → Holds s₀ es → (gs : List Record) × (Holds s gs × (inserts rest gs ≡ f es))
+Underway s₀ f rest s = (es : List Record) → StoreHolds s₀ es → (gs : List Record) × (StoreHolds s gs × (inserts rest gs ≡ f es))

@@ -6,7 +6,7 @@ ghost use Rattle.records.specs.Answers.{Looked};
 ghost use Rattle.store.specs.Places.{lookedAt};
 ghost use Rattle.merge.specs.Calls.{lookOf, LookCalled, NthCalled};
 use crate::results::Look;
-use crate::results::STORE;
+use records::STORE_LENGTH;
 use store::count;
 use store::find;
 use store::record_at;
@@ -51,7 +51,7 @@ fn told(s: &[u8], p: usize) -> Look
 pub extern "C" fn merge_look(store: &[u8], appliance: u64) -> Look
     ensures { λ r. ⌜ LookCalled (now (store .entry)) appliance r ⌝ }
 {
-    if store.len() != STORE {
+    if store.len() != STORE_LENGTH {
         return nothing(22);
     }
     told(store, find(store, appliance))
@@ -62,7 +62,7 @@ pub extern "C" fn merge_look(store: &[u8], appliance: u64) -> Look
 pub extern "C" fn merge_nth(store: &[u8], n: u64) -> Look
     ensures { λ r. ⌜ NthCalled (now (store .entry)) n r ⌝ }
 {
-    if store.len() != STORE {
+    if store.len() != STORE_LENGTH {
         return nothing(22);
     }
     told(store, n as usize)

@@ -6,9 +6,9 @@ ghost use Prim.Native.Nat.{_+_, _-_, _*_, _%_, _<_, _≤_};
 ghost use lib.Dec.{ltb};
 ghost use lib.ListN.{length};
 ghost use Rattle.language.specs.Programs.{maxRegisters};
-ghost use Rattle.records.specs.Records.{Sized};
+ghost use Rattle.records.specs.Records.{SizedRecord};
 ghost use Rattle.records.specs.Stores.{inserts, storeLength};
-ghost use Rattle.records.specs.Limits.{judged};
+ghost use Rattle.records.specs.Limits.{judgedTest};
 ghost use Rattle.records.specs.Answers.{testsOf, Kept};
 ghost use Rattle.merge.specs.Calls.{mergedOf, RecordsCalled};
 ghost use Rattle.merge.specs.Tries.{readingsOf, recordBy, recordsBy, Tried};
@@ -17,11 +17,11 @@ use crate::judging::failed;
 use crate::judging::is_limit;
 use crate::merging::done;
 use crate::results::Merged;
-use crate::results::STORE;
 use ial::ial_check;
 use ial::ial_run_each;
 use numbers::put_bytes;
 use records::Record;
+use records::STORE_LENGTH;
 use store::insert;
 
 // The records that are judged at once, and the numbers that say them, four each; as many are answered.
@@ -44,7 +44,7 @@ fn take_readings(tests: &[u64], out: &mut [u64])
 // A record of these numbers.
 fn record_of(appliance: u64, time: u64, fail: u64, tablet: u64, reading: u64) -> Record
     requires { ⌜ fail < 2 ⌝ }
-    ensures { λ r. ⌜ (r ≡ record { appliance = appliance; time = time; fail = fail; tablet = tablet; reading = reading }) × Sized r ⌝ }
+    ensures { λ r. ⌜ (r ≡ record { appliance = appliance; time = time; fail = fail; tablet = tablet; reading = reading }) × SizedRecord r ⌝ }
 {
     Record {
         appliance,
@@ -58,7 +58,7 @@ fn record_of(appliance: u64, time: u64, fail: u64, tablet: u64, reading: u64) ->
 // Test j with the verdict that its run's answer says.
 fn judged_record(tests: &[u64], answers: &[u64], j: usize) -> Record
     requires { ⌜ (4 * j + 4 ≤ length (now tests)) × (4 * j + 4 ≤ length (now answers)) ⌝ }
-    ensures { λ r. ⌜ (r ≡ recordBy (now (tests .entry)) (now (answers .entry)) j) × Sized r ⌝ }
+    ensures { λ r. ⌜ (r ≡ recordBy (now (tests .entry)) (now (answers .entry)) j) × SizedRecord r ⌝ }
 {
     record_of(
         tests[4 * j],
@@ -99,7 +99,7 @@ fn put_some(
 ) -> bool
     requires { ⌜ (length (now s) ≡ storeLength) × (length (now tests) % 4 ≡ 0) ⌝ }
     requires { ⌜ (length (now tests) ≤ 4 * length (now readings)) × (length (now tests) ≤ length (now answers)) × (length (now registers) ≡ maxRegisters) ⌝ }
-    ensures { λ r. ⌜ Tried (now (s .entry)) (inserts (map (judged (now (table .entry)) function budget) (testsOf (now (tests .entry))))) r (now (s .exit)) ⌝ }
+    ensures { λ r. ⌜ Tried (now (s .entry)) (inserts (map (judgedTest (now (table .entry)) function budget) (testsOf (now (tests .entry))))) r (now (s .exit)) ⌝ }
 {
     let k = tests.len();
     let n = k / 4;
@@ -119,7 +119,7 @@ fn put_some(
 fn merge_some(s: &mut [u8], table: &[u8], function: u64, budget: u64, tests: &[u64]) -> bool
     requires { ⌜ length (now s) ≡ storeLength ⌝ }
     requires { ⌜ (length (now tests) ≤ 256) × (length (now tests) % 4 ≡ 0) ⌝ }
-    ensures { λ r. ⌜ Tried (now (s .entry)) (inserts (map (judged (now (table .entry)) function budget) (testsOf (now (tests .entry))))) r (now (s .exit)) ⌝ }
+    ensures { λ r. ⌜ Tried (now (s .entry)) (inserts (map (judgedTest (now (table .entry)) function budget) (testsOf (now (tests .entry))))) r (now (s .exit)) ⌝ }
 {
     let mut readings = [0u64; AT_ONCE];
     let mut answers = [0u64; NUMBERS];
@@ -157,7 +157,7 @@ fn fill_aside(
     records: &[u64],
 ) -> bool
     requires { ⌜ (length (now store) ≡ storeLength) × (length (now aside) ≡ storeLength) × (length (now records) % 4 ≡ 0) ⌝ }
-    ensures { λ r. ⌜ Tried (now (store .entry)) (inserts (map (judged (now (table .entry)) function budget) (testsOf (now (records .entry))))) r (now (aside .exit)) ⌝ }
+    ensures { λ r. ⌜ Tried (now (store .entry)) (inserts (map (judgedTest (now (table .entry)) function budget) (testsOf (now (records .entry))))) r (now (aside .exit)) ⌝ }
 {
     put_bytes(aside, 0, store);
     let mut k = 0;
@@ -174,9 +174,9 @@ fn fill_aside(
 // All tests at once: the copy that they were put into takes the store's place if there was room for all.
 fn merge_all(store: &mut [u8], table: &[u8], function: u64, budget: u64, records: &[u64]) -> Merged
     requires { ⌜ (length (now store) ≡ storeLength) × (length (now records) % 4 ≡ 0) ⌝ }
-    ensures { λ r. ⌜ Kept (now (store .entry)) (inserts (map (judged (now (table .entry)) function budget) (testsOf (now (records .entry))))) (mergedOf r (now (store .exit))) ⌝ }
+    ensures { λ r. ⌜ Kept (now (store .entry)) (inserts (map (judgedTest (now (table .entry)) function budget) (testsOf (now (records .entry))))) (mergedOf r (now (store .exit))) ⌝ }
 {
-    let mut aside = [0u8; STORE];
+    let mut aside = [0u8; STORE_LENGTH];
     if !fill_aside(store, &mut aside, table, function, budget, records) {
         return done(false);
     }
@@ -209,7 +209,7 @@ pub extern "C" fn merge_records(
             place: 0,
         };
     }
-    if store.len() != STORE {
+    if store.len() != STORE_LENGTH {
         return Merged {
             number: 22,
             place: 0,

@@ -4,15 +4,15 @@ ghost use mathlib.Core.List.{[]};
 ghost use lib.Dec.{eqb};
 ghost use lib.ListN.{length};
 ghost use Rattle.records.specs.Stores.{insert as inserted, storeLength};
-ghost use Rattle.records.specs.Answers.{keptAs, Kept, Lent};
+ghost use Rattle.records.specs.Answers.{keptAs, Kept, IfLent};
 ghost use Rattle.merge.specs.Calls.{test, mergedVerdict, mergedOf, EmptyCalled, RecordCalled, StoreCalled};
 use crate::judging::Ruling;
 use crate::judging::judge;
 use crate::results::Merged;
-use crate::results::STORE;
 use joining::join;
 use numbers::zero;
 use records::Record;
+use records::STORE_LENGTH;
 use store::insert;
 
 // Done, or 60 where there is no room.
@@ -36,7 +36,7 @@ pub(crate) fn done(room: bool) -> Merged
 pub extern "C" fn merge_empty(store: &mut [u8]) -> Merged
     ensures { λ r. ⌜ EmptyCalled (now (store .entry)) r (now (store .exit)) ⌝ }
 {
-    if store.len() != STORE {
+    if store.len() != STORE_LENGTH {
         return Merged {
             number: 22,
             place: 0,
@@ -51,9 +51,9 @@ pub extern "C" fn merge_empty(store: &mut [u8]) -> Merged
 
 // A record that has its verdict: 60, or 22 for a store of another length.
 fn put(store: &mut [u8], r: Record) -> Merged
-    ensures { λ x. ⌜ Lent (eqb (length (now (store .entry))) storeLength) (now (store .entry)) (Kept (now (store .entry)) (inserted r)) (mergedOf x (now (store .exit))) ⌝ }
+    ensures { λ x. ⌜ IfLent (eqb (length (now (store .entry))) storeLength) (now (store .entry)) (Kept (now (store .entry)) (inserted r)) (mergedOf x (now (store .exit))) ⌝ }
 {
-    if store.len() != STORE {
+    if store.len() != STORE_LENGTH {
         return Merged {
             number: 22,
             place: 0,
@@ -101,13 +101,13 @@ pub extern "C" fn merge_record(
 pub extern "C" fn merge_store(store: &mut [u8], other: &[u8]) -> Merged
     ensures { λ r. ⌜ StoreCalled (now (other .entry)) (now (store .entry)) r (now (store .exit)) ⌝ }
 {
-    if store.len() != STORE {
+    if store.len() != STORE_LENGTH {
         return Merged {
             number: 22,
             place: 0,
         };
     }
-    if other.len() != STORE {
+    if other.len() != STORE_LENGTH {
         return Merged {
             number: 22,
             place: 0,

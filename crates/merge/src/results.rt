@@ -1,8 +1,5 @@
 // What the entry points answer, in numbers, for C and Rust as well.
 
-// The bytes of a store.
-pub(crate) const STORE: usize = 40968;
-
 // What a merge answers: 0 0 where it is done, or a refusal's number and its place.
 #[repr(C)]
 pub struct Merged {

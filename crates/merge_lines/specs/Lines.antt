@@ -27,9 +27,9 @@ abbrev pub longer : ℕ → List (List ℕ) → List (List ℕ)
 longer b [] = (b ∷ []) ∷ []
 longer b (w ∷ ws) = (b ∷ w) ∷ ws
 
-abbrev pub partsOf : List ℕ → List (List ℕ)
-partsOf [] = [] ∷ []
-partsOf (b ∷ bs) = cond (eqb b tab) ([] ∷ partsOf bs) (longer b (partsOf bs))
+abbrev pub lineWords : List ℕ → List (List ℕ)
+lineWords [] = [] ∷ []
+lineWords (b ∷ bs) = cond (eqb b tab) ([] ∷ lineWords bs) (longer b (lineWords bs))
 
 -- A number in the range of a type, as a register would hold it.
 abbrev pub bitsFrom : (type : ℕ) → Decimal → Bits
@@ -64,7 +64,7 @@ withTime a = numberThen (withTablet a)
 
 -- Appliance, time, tablet, reading.
 unfoldable pub lineOf : List ℕ → Line
-lineOf l = numberThen withTime (partsOf l)
+lineOf l = numberThen withTime (lineWords l)
 
 -- ---- A line that is shown, tabs between: appliance, time, tablet, the reading by meaning, `pass` or `fail`.
 
@@ -77,6 +77,10 @@ readingShown x = bytesFor (numberToken int64 x)
 
 abbrev pub verdictShown : (fail : ℕ) → List ℕ
 verdictShown f = cond (eqb f 0) (bytesOf "\tpass\n") (bytesOf "\tfail\n")
+
+-- How many bytes the line of a record takes at most: four numbers, a sign, the verdict and what stands between.
+abbrev pub recordMost : ℕ
+recordMost = 90
 
 unfoldable pub recordLine : Record → List ℕ
 recordLine r = fieldShown (r .appliance) ++ fieldShown (r .time) ++ fieldShown (r .tablet) ++ readingShown (r .reading) ++ verdictShown (r .fail)

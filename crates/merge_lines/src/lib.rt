@@ -2,6 +2,9 @@
 mod shown;
 mod told;
 
+// How many bytes the line of a record takes at most: `recordMost` says the same.
+pub const RECORD_MOST: usize = 90;
+
 pub use shown::put_merged;
 pub use shown::put_record;
 pub use shown::put_refused;

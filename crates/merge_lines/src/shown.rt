@@ -5,18 +5,15 @@ ghost use lib.ListN.{length};
 ghost use Rattle.language.specs.Bytes.{bytesOf};
 ghost use Rattle.language.specs.Listing.{line, refusedLine};
 ghost use Rattle.decimal.specs.Writing.{Written};
-ghost use Rattle.merge_lines.specs.Lines.{fieldShown, readingShown, verdictShown, recordLine};
+ghost use Rattle.merge_lines.specs.Lines.{fieldShown, readingShown, verdictShown, recordLine, recordMost};
+use decimal::LINE_FEED;
+use decimal::MINUS;
+use decimal::TAB;
 use decimal::of_bits;
 use decimal::put_digits;
 use decimal::types;
 use numbers::put_bytes;
 use records::Record;
-
-const TAB: u8 = 9;
-
-const LINE_FEED: u8 = 10;
-
-const MINUS: u8 = 45;
 
 // The verdict, and the line's end.
 fn put_verdict(fail: u64, out: &mut [u8], at: usize) -> usize
@@ -54,10 +51,10 @@ fn put_reading(x: u64, out: &mut [u8], at: usize) -> usize
     put_digits(m.magnitude, out, at + 1)
 }
 
-// The line of a record: at most 90 bytes.
+// The line of a record.
 pub fn put_record(r: Record, out: &mut [u8], at: usize) -> usize
-    requires { ⌜ at + 90 ≤ length (now out) ⌝ }
-    ensures { λ e. ⌜ Written (now (out .entry)) at (recordLine r) (now (out .exit)) e × (e ≤ at + 90) ⌝ }
+    requires { ⌜ at + recordMost ≤ length (now out) ⌝ }
+    ensures { λ e. ⌜ Written (now (out .entry)) at (recordLine r) (now (out .exit)) e × (e ≤ at + recordMost) ⌝ }
 {
     let e = put_column(r.appliance, out, at);
     let f = put_column(r.time, out, e);

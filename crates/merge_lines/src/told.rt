@@ -4,14 +4,13 @@ ghost use Prim.Native.Nat.{_≤_};
 ghost use lib.Dec.{eqb};
 ghost use lib.ListN.{length};
 ghost use Rattle.laws.specs.Lists.{position};
-ghost use Rattle.merge_lines.specs.Lines.{numberIn, partsOf, withReading, withTablet, withTime, lineOf};
+ghost use Rattle.merge_lines.specs.Lines.{numberIn, lineWords, withReading, withTablet, withTime, lineOf};
 use decimal::Bits;
 use decimal::Decimal;
+use decimal::TAB;
 use decimal::read_decimal;
 use decimal::to_bits;
 use decimal::types;
-
-const TAB: u8 = 9;
 
 // The numbers of a line (appliance, time, tablet, reading), or that it does not say four.
 pub enum Line {
@@ -46,7 +45,7 @@ pub fn first(s: &[u8], b: u8) -> usize
 
 // The last of the four numbers: no tab may follow.
 fn with_reading(appliance: u64, time: u64, tablet: u64, rest: &[u8]) -> Line
-    ensures { λ r. ⌜ r ≡ withReading appliance time tablet (partsOf (now (rest .entry))) ⌝ }
+    ensures { λ r. ⌜ r ≡ withReading appliance time tablet (lineWords (now (rest .entry))) ⌝ }
 {
     if first(rest, TAB) < rest.len() {
         return Line::Bad;
@@ -59,7 +58,7 @@ fn with_reading(appliance: u64, time: u64, tablet: u64, rest: &[u8]) -> Line
 
 // The third and what follows.
 fn with_tablet(appliance: u64, time: u64, rest: &[u8]) -> Line
-    ensures { λ r. ⌜ r ≡ withTablet appliance time (partsOf (now (rest .entry))) ⌝ }
+    ensures { λ r. ⌜ r ≡ withTablet appliance time (lineWords (now (rest .entry))) ⌝ }
 {
     let t = first(rest, TAB);
     if t == rest.len() {
@@ -73,7 +72,7 @@ fn with_tablet(appliance: u64, time: u64, rest: &[u8]) -> Line
 
 // The second and what follows.
 fn with_time(appliance: u64, rest: &[u8]) -> Line
-    ensures { λ r. ⌜ r ≡ withTime appliance (partsOf (now (rest .entry))) ⌝ }
+    ensures { λ r. ⌜ r ≡ withTime appliance (lineWords (now (rest .entry))) ⌝ }
 {
     let t = first(rest, TAB);
     if t == rest.len() {

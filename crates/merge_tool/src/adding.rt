@@ -3,6 +3,7 @@
 use crate::files::say_unread;
 use crate::says::say_empty;
 use crate::says::say_line;
+use decimal::LINE_FEED;
 use loading::upto;
 use merge::merge_records;
 use merge_lines::Line;
@@ -16,8 +17,6 @@ const CHUNK: usize = 65536;
 
 // Room for the numbers of all lines that end in one read: no line of four numbers has fewer than eight bytes, and the first may have begun before.
 const NUMBERS: usize = 32772;
-
-const LINE_FEED: u8 = 10;
 
 // What came of the file: more may come, it has ended, or it cannot be read.
 const MORE: u8 = 0;

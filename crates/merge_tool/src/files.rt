@@ -2,18 +2,18 @@
 ghost use Prim.Native.Nat.{_+_, _≤_};
 ghost use mathlib.Core.Path.{_≡_};
 ghost use lib.ListN.{length};
+ghost use Rattle.records.specs.Stores.{storeLength};
 use crate::says::say;
 use crate::says::say_empty;
 use crate::says::say_of;
 use libc::PATH_MAX;
 use loading::load;
 use loading::upto;
+use records::STORE_LENGTH;
 use stored::is_store;
 
-// The bytes of a store, and one more.
-pub(crate) const STORE: usize = 40968;
-
-const ROOM: usize = 40969;
+// A file that fills this room is longer than a store.
+const ROOM: usize = STORE_LENGTH + 1;
 
 // What is left of a path for the store's own: a new file's name has seven bytes more, and a 0 ends it.
 const OWN: usize = 4088;
@@ -44,15 +44,14 @@ pub(crate) fn load_file(path: &[u8], room: &mut [u8]) -> usize
 
 // Loads a file as long as a store, and says whether it is.
 fn load_length(path: &[u8], store: &mut [u8]) -> bool
-    requires { ⌜ length (now store) ≡ 40968 ⌝ }
+    requires { ⌜ length (now store) ≡ storeLength ⌝ }
 {
-    // A file that fills this room is longer than a store.
     let mut room = [0u8; ROOM];
     let n = load_file(path, &mut room);
     if ROOM < n {
         return false;
     }
-    if n != STORE {
+    if n != STORE_LENGTH {
         say_of(
             b"merge: ",
             path,
@@ -60,13 +59,13 @@ fn load_length(path: &[u8], store: &mut [u8]) -> bool
         );
         return false;
     }
-    bytes::copy(upto(&room, STORE), store);
+    bytes::copy(upto(&room, STORE_LENGTH), store);
     true
 }
 
 // Loads a store, and says whether it is one.
 pub(crate) fn load_store(path: &[u8], store: &mut [u8]) -> bool
-    requires { ⌜ length (now store) ≡ 40968 ⌝ }
+    requires { ⌜ length (now store) ≡ storeLength ⌝ }
 {
     if !load_length(path, store) {
         return false;

@@ -1,8 +1,10 @@
 // The merge of test records, as a program: takes words, opens, calls and writes. Wrong words, files that cannot be read or replaced and bad lines
 // get a line on standard error.
 ghost use mathlib.Core.Path.{_≡_};
-ghost use Prim.Native.Nat.{_≤_};
+ghost use Prim.Native.Nat.{_*_, _≤_};
 ghost use lib.ListN.{length};
+ghost use Rattle.merge_lines.specs.Lines.{recordMost};
+ghost use Rattle.records.specs.Stores.{capacity};
 
 mod adding;
 mod files;
@@ -16,10 +18,10 @@ use calling::function_in;
 use calling::read_budget;
 use check::same;
 use decimal::Bits;
-use files::STORE;
 use files::load_file;
 use files::load_store;
 use files::replace;
+use ial::MAX_TEXT;
 use ial::TABLE_LENGTH;
 use ial::ial_read;
 use ial::types;
@@ -30,9 +32,12 @@ use merge::merge_look;
 use merge::merge_nth;
 use merge::merge_records;
 use merge::merge_store;
+use merge_lines::RECORD_MOST;
 use merge_lines::number;
 use merge_lines::put_record;
+use records::CAPACITY;
 use records::Record;
+use records::STORE_LENGTH;
 use says::answer;
 use says::answer_merged;
 use says::refuse;
@@ -42,12 +47,10 @@ use says::say_of;
 use says::say_wrong;
 
 // One byte more than a text may have.
-const TEXT: usize = 65537;
+const TEXT: usize = MAX_TEXT + 1;
 
-// The most appliances of a store, and room for their lines.
-const APPLIANCES: u64 = 1024;
-
-const LINES: usize = 92160;
+// Room for the lines of a full store.
+const LINES: usize = CAPACITY * RECORD_MOST;
 
 // The longest word that Linux hands to a program, its end included: no word is cut.
 const WORD: usize = 131072;
@@ -63,7 +66,7 @@ fn new(path: &[u8]) {
         );
         return;
     }
-    let mut store = [0u8; STORE];
+    let mut store = [0u8; STORE_LENGTH];
     merge_empty(&mut store);
     replace(path, &store);
 }
@@ -118,7 +121,7 @@ fn add_by(path: &[u8], store: &mut [u8], t: &[u8], budget: u64) {
 
 // `add STORE FILE FUNCTION BUDGET RECORDS`, once the budget is read.
 fn add_within(path: &[u8], budget: u64) {
-    let mut store = [0u8; STORE];
+    let mut store = [0u8; STORE_LENGTH];
     if !load_store(path, &mut store) {
         return;
     }
@@ -144,7 +147,7 @@ fn add(path: &[u8]) {
 fn join_one(i: usize, store: &mut [u8]) -> bool {
     let mut word = [0u8; WORD];
     let n = os::arg(i, &mut word);
-    let mut other = [0u8; STORE];
+    let mut other = [0u8; STORE_LENGTH];
     if !load_store(&word[..n], &mut other) {
         return false;
     }
@@ -173,7 +176,7 @@ fn join(path: &[u8], words: usize)
     requires { ⌜ 4 ≤ words ⌝ }
 {
     let others = words - 3;
-    let mut store = [0u8; STORE];
+    let mut store = [0u8; STORE_LENGTH];
     if !load_store(path, &mut store) {
         return;
     }
@@ -198,12 +201,12 @@ fn record_of(l: Look) -> Record {
 
 // The lines of a store, in order.
 fn put_records(store: &[u8], out: &mut [u8]) -> usize
-    requires { ⌜ length (now out) ≡ 92160 ⌝ }
-    ensures { λ r. ⌜ r ≤ 92160 ⌝ }
+    requires { ⌜ length (now out) ≡ capacity * recordMost ⌝ }
+    ensures { λ r. ⌜ r ≤ capacity * recordMost ⌝ }
 {
     let mut at = 0;
     let mut i = 0;
-    while i < APPLIANCES {
+    while i < CAPACITY as u64 {
         let l = merge_nth(store, i);
         if l.found == 0 {
             return at;
@@ -216,7 +219,7 @@ fn put_records(store: &[u8], out: &mut [u8]) -> usize
 
 // `show STORE`
 fn show(path: &[u8]) {
-    let mut store = [0u8; STORE];
+    let mut store = [0u8; STORE_LENGTH];
     if !load_store(path, &mut store) {
         return;
     }
@@ -227,7 +230,7 @@ fn show(path: &[u8]) {
 
 // The line of one appliance, or `none`.
 fn show_one(path: &[u8], appliance: u64) {
-    let mut store = [0u8; STORE];
+    let mut store = [0u8; STORE_LENGTH];
     if !load_store(path, &mut store) {
         return;
     }
@@ -236,7 +239,7 @@ fn show_one(path: &[u8], appliance: u64) {
         answer(b"none\n");
         return;
     }
-    let mut out = [0u8; 90];
+    let mut out = [0u8; RECORD_MOST];
     let n = put_record(record_of(l), &mut out, 0);
     answer(upto(&out, n));
 }

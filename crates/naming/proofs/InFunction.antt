@@ -10,7 +10,7 @@ use borrow.Author.Tests.{ne-eqb}
 use Rattle.laws.specs.Lists.{empty, below, together}
 use Rattle.laws.proofs.Indexing.{together-from}
 use Rattle.laws.proofs.Ranges.{length-map-from, map-from-same}
-use Rattle.language.specs.Programs.{Register, Block, blockAt}
+use Rattle.language.specs.Programs.{Register, Block, blockAt, maxRegisters}
 use Rattle.language.specs.Table.{registerCount, blockCount, registerName, blockName, functionEntry, decodeRegister, decodeBlock, decodeFunction}
 use Rattle.language.specs.Table.{blockLength, blockNamesOffset, registerLength, registerNamesOffset}
 use Rattle.language.specs.MadeNames.{Title, given, wanted, madeName, entitled, registerTitle, blockTitle, registerPrefix, blockPrefix, registerNames, blockNames}
@@ -21,7 +21,7 @@ use Rattle.naming.specs.Numbered.{Numbered, RegistersNumbered, BlocksNum
 module _ (t : List ℕ) (a : ℕ) where
   -- ---- registers
 
-  module _ (few : registerCount t a ≤ 256) where
+  module _ (few : registerCount t a ≤ maxRegisters) where
     -- no register is number 256, so that none keeps a name of no bytes
     unnamed-is : (i : ℕ) → i < registerCount t a → (n : List ℕ) → (empty n && not (eqb i 256)) ≡ empty n
     unnamed-is i h n = ap (λ (b : Bool). empty n && not b) (ne-eqb i 256 (λ p. omega arith)) ∙ and-true (empty n)
@@ -48,7 +48,7 @@ module _ (t : List ℕ) (a : ℕ) where
         {n : ℕ} {made : List ℕ} → n ≡ registerCount t a → Numbered (prefixOf 112) t (a + registerNamesOffset) registerLength n 256 made → RegistersNumbered (decodeFunction t a) made
     unfolding decodeRegister
     registers-numbered {n} {made} c m =
-        let k : Numbered (prefixOf 112) t (a + registerNamesOffset) registerLength (registerCount t a) 256 made = subst (λ (n : ℕ). Numbered (prefixOf 112) t (a + registerNamesOffset) registerLength n 256 made) c m in
+        let k : Numbered (prefixOf 112) t (a + registerNamesOffset) registerLength (registerCount t a) maxRegisters made = subst (λ (n : ℕ). Numbered (prefixOf 112) t (a + registerNamesOffset) registerLength n 256 made) c m in
         record {
           named =
               λ r h.

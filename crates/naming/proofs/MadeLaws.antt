@@ -16,12 +16,13 @@ use Rattle.language.specs.Table.{nameAt}
 use Rattle.language.specs.MadeNames.{Title, given, wanted, madeName, entitled, blockTitle}
 use Rattle.naming.specs.Numbered.{Marked, Free, Numbered}
 use Rattle.naming.proofs.Marks.{names, next-free}
+use Rattle.table.specs.Named.{NameWithin}
 
 -- a name has no bytes exactly if its length is 0, since cells follow
 pub no-bytes : (t : List ℕ) (c : ℕ) → getD t c 0 ≡ 0 → empty (nameAt t c) ≡ true
 no-bytes t c e = rw e
 
-pub some-bytes : (t : List ℕ) (c : ℕ) → c + 256 ≤ length t → (getD t c 0 ≡ 0 → ⊥) → empty (nameAt t c) ≡ false
+pub some-bytes : (t : List ℕ) (c : ℕ) → NameWithin t c → (getD t c 0 ≡ 0 → ⊥) → empty (nameAt t c) ≡ false
 some-bytes t c h n = by (getD t c 0) (drop (c + 1) t) n (omega (arith, length-drop (c + 1) t))
   where
     by : (k : ℕ) (l : List ℕ) → (k ≡ 0 → ⊥) → 1 ≤ length l → empty (take k l) ≡ false

@@ -2,14 +2,16 @@
 // names stand `stride` apart, from cell `at` on.
 ghost use mathlib.Core.Path.{_≡_};
 ghost use mathlib.Core.Bool.{_&&_, not};
-ghost use Prim.Native.Nat.{_+_, _*_, _<_, _≤_};
+ghost use Prim.Native.Nat.{_+_, _<_, _≤_};
 ghost use lib.Dec.{eqb};
 ghost use lib.ListN.{length, replicate, drop};
 ghost use Rattle.laws.specs.Lists.{empty, sum};
 ghost use Rattle.language.specs.Table.{nameAt, registerCount, blockCount, decodeFunction, InTable};
 ghost use Rattle.naming.specs.Numbers.{prefixOf};
 ghost use Rattle.naming.specs.Numbered.{Marked, Free, Numbered, RegistersNumbered, BlocksNumbered};
-use crate::numbers::number;
+ghost use Rattle.language.specs.Programs.{maxBlocks, maxRegisters};
+ghost use Rattle.table.specs.Named.{NameWithin, NamesWithin};
+use crate::suffixes::number;
 use table::BLOCK_LENGTH;
 use table::BLOCK_NAMES_OFFSET;
 use table::REGISTER_LENGTH;
@@ -29,7 +31,7 @@ const NO_REGISTER: usize = 256;
 
 // Marks the numbers in use; cell 512 is marked for any other name.
 fn mark(t: &[u8], at: usize, stride: usize, count: usize, first: u8, marks: &mut [u8])
-    requires { ⌜ (at + stride * count + 256 ≤ length (now t) + stride) × (now marks ≡ replicate 513 0) ⌝ }
+    requires { ⌜ NamesWithin (now t) at stride count × (now marks ≡ replicate 513 0) ⌝ }
     ensures { λ r. ⌜ Marked (prefixOf first) (now (t .entry)) at stride count (now (marks .exit)) ⌝ }
 {
     let mut i = 0;
@@ -54,7 +56,7 @@ fn free(marks: &[u8], k: usize) -> usize
 
 // Whether the name whose length is cell c has no bytes and is not the one that stays so.
 fn unnamed(t: &[u8], c: usize, i: usize, kept: usize) -> bool
-    requires { ⌜ c + 256 ≤ length (now t) ⌝ }
+    requires { ⌜ NameWithin (now t) c ⌝ }
     ensures { λ r. ⌜ r ≡ (empty (nameAt (now (t .entry)) c) && not (eqb i kept)) ⌝ }
 {
     if t[c] != 0 {
@@ -73,7 +75,7 @@ fn number_names(
     kept: usize,
     made: &mut [u16],
 )
-    requires { ⌜ (at + stride * count + 256 ≤ length (now t) + stride) × (count ≤ 256) × (count ≤ length (now made)) ⌝ }
+    requires { ⌜ NamesWithin (now t) at stride count × (count ≤ maxRegisters) × (count ≤ length (now made)) ⌝ }
     ensures { λ r. ⌜ Numbered (prefixOf first) (now (t .entry)) at stride count kept (now (made .exit)) ⌝ }
 {
     let mut marks = [0u8; 513];
@@ -93,7 +95,7 @@ fn number_names(
 }
 
 pub fn number_registers(t: &[u8], a: usize, made: &mut [u16])
-    requires { ⌜ (InTable (now t) a) × (registerCount (now t) a ≤ 256) × (256 ≤ length (now made)) ⌝ }
+    requires { ⌜ (InTable (now t) a) × (registerCount (now t) a ≤ maxRegisters) × (maxRegisters ≤ length (now made)) ⌝ }
     ensures { λ r. ⌜ RegistersNumbered (decodeFunction (now (t .entry)) a) (now (made .exit)) ⌝ }
 {
     let count = register_count(t, a);
@@ -109,7 +111,7 @@ pub fn number_registers(t: &[u8], a: usize, made: &mut [u16])
 }
 
 pub fn number_blocks(t: &[u8], a: usize, made: &mut [u16])
-    requires { ⌜ (InTable (now t) a) × (blockCount (now t) a ≤ 64) × (64 ≤ length (now made)) ⌝ }
+    requires { ⌜ (InTable (now t) a) × (blockCount (now t) a ≤ maxBlocks) × (maxBlocks ≤ length (now made)) ⌝ }
     ensures { λ r. ⌜ BlocksNumbered (decodeFunction (now (t .entry)) a) (now (made .exit)) ⌝ }
 {
     let count = block_count(t, a);

@@ -1,4 +1,5 @@
 // Numbers read: of one, two, four and eight cells, low byte first.
+ghost use mathlib.Core.Bool.{cond};
 ghost use mathlib.Core.Path.{_≡_};
 ghost use Prim.Native.Nat.{_+_, _<_, _≤_};
 ghost use lib.ListN.{length};
@@ -9,6 +10,23 @@ pub fn wide(x: u8) -> usize
     ensures { λ r. ⌜ (r ≡ x) × (r < 256) ⌝ }
 {
     x as usize
+}
+
+// The same of a number of 16 bits.
+pub fn wide_two(x: u16) -> usize
+    ensures { λ r. ⌜ (r ≡ x) × (r < 65536) ⌝ }
+{
+    x as usize
+}
+
+// n where the test holds, else 0.
+pub fn if_so(test: bool, n: usize) -> usize
+    ensures { λ r. ⌜ (r ≡ cond test n 0) × (r ≤ n) ⌝ }
+{
+    if test {
+        return n;
+    }
+    0
 }
 
 // The number of the two cells from k on.

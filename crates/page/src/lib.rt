@@ -1,15 +1,13 @@
 // Bytes put down in a lent buffer at a place, one part after the other. No function asks for room: a byte that has none is dropped and counted.
 ghost use mathlib.Core.Path.{_≡_};
 ghost use Rattle.page.specs.Page.{page, next, put, puts, closed};
-use table::put_bytes;
-
-// The longest text.
-const TEXT: usize = 65536;
+use numbers::put_bytes;
+use table::MAX_TEXT;
 
 fn after(at: usize) -> usize
     ensures { λ r. ⌜ r ≡ next at ⌝ }
 {
-    if at <= TEXT {
+    if at <= MAX_TEXT {
         return at + 1;
     }
     at
@@ -44,10 +42,10 @@ pub fn put_part(out: &mut [u8], at: usize, s: &[u8]) -> usize
     ensures { λ r. ⌜ page (now (out .exit)) r ≡ puts (page (now (out .entry)) at) (now (s .entry)) ⌝ }
 {
     let n = s.len();
-    if TEXT < n {
+    if MAX_TEXT < n {
         return put_each(out, at, s);
     }
-    if TEXT - n < at {
+    if MAX_TEXT - n < at {
         return put_each(out, at, s);
     }
     if out.len() < at + n {

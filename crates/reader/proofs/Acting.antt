@@ -13,7 +13,7 @@ use Rattle.language.specs.Bytes.{leftParen, rightParen, leftBrace, rightBrace, 
 use Rattle.language.specs.Words.{isType, typeOf, functionWord, ssaWord, voidWord, registerWord, blockWord, entryWord, isInstruction, instructionOf}
 use Rattle.language.specs.Tokens.{Token}
 use Rattle.language.specs.Grammar.{Stage, Act, Move, gram, to, wrongMove, onName, onWord, onNumber, onBlock, onMarkOr, onMark, onEndOr, isWordOr, isWord, aType, aResult, aBlock, aParameter, anInstruction, wordAlone, wordWithTarget, afterWord, sources, afterSources, afterSource, afterMention, inOperand}
-use Rattle.grammar.specs.Meaning.{Spot, Moves, tokenOf, actOf, nameOf, magnitudeOf, actBytes}
+use Rattle.grammar.specs.Meaning.{TokenSpot, Moves, tokenOf, actOf, nameOf, magnitudeOf, actBytes}
 use Rattle.lexer.specs.Lexing.{tokenBytes}
 use Rattle.grammar.specs.Ready.{isTop}
 use Rattle.lexer.specs.declared.Token.{Token as Tokenᶜ}
@@ -21,7 +21,7 @@ use Rattle.lexer.specs.declared.Token.the-variants as tokens
 use Rattle.grammar.specs.declared.Act.{Act as Actᶜ}
 use Rattle.grammar.specs.declared.Move.{Move as Moveᶜ}
 use Rattle.reader.specs.Draft.{depth}
-use Rattle.reader.specs.Parse.{inFunction, spotAt}
+use Rattle.reader.specs.Parse.{inFunction, tokenSpot}
 
 -- A name in an act is the token's, or has no bytes.
 abbrev NameFrom : Token → List ℕ → Type 0
@@ -273,8 +273,8 @@ fits Stage.instructionEnd = on-mark semicolon (λ t. ok tt (tt, tt, refl))
 -- ---- the machine in code
 
 -- A place in a long text that no name outgrows.
-abbrev farSpot : ℕ → Spot
-farSpot n = spotAt (replicate n 0) 0 (λ v. v)
+abbrev farSpot : ℕ → TokenSpot
+farSpot n = tokenSpot (replicate n 0) 0 (λ v. v)
 
 length-far : (m k : ℕ) → k ≤ m → length (nameOf (farSpot m) k) ≡ k
 length-far m k h = simp (length-take, length-replicate) (omega arith)
@@ -318,14 +318,14 @@ module _ (x : Tokenᶜ) (m : ℕ) (fits : tokenBytes x ≤ m) where
   bytes-from Actᶜ.EndFunction h f = omega arith
 
 -- Two numbers that are the same wherever they stand are kept alike.
-same-kept : (v v′ : ℕ) (o o′ : Bool) → ((s : Spot) → magnitudeOf s v′ o′ ≡ magnitudeOf s v o) → (v′ ≡ v) × (o′ ≡ o)
+same-kept : (v v′ : ℕ) (o o′ : Bool) → ((s : TokenSpot) → magnitudeOf s v′ o′ ≡ magnitudeOf s v o) → (v′ ≡ v) × (o′ ≡ o)
 same-kept v v′ true true h = (h (farSpot 0), refl)
-same-kept v v′ true false h = absurd (omega (arith, h (farSpot 0), h (spotAt [] 0 (λ x. x + 1))))
-same-kept v v′ false true h = absurd (omega (arith, h (farSpot 0), h (spotAt [] 0 (λ x. x + 1))))
+same-kept v v′ true false h = absurd (omega (arith, h (farSpot 0), h (tokenSpot [] 0 (λ x. x + 1))))
+same-kept v v′ false true h = absurd (omega (arith, h (farSpot 0), h (tokenSpot [] 0 (λ x. x + 1))))
 same-kept v v′ false false h = (h (farSpot 0), refl)
 
 -- A number in an act is the token's.
-number-token : (neg : Bool) (v : ℕ) (over : Bool) (x : Tokenᶜ) → ((s : Spot) → tokenOf s x ≡ Token.number neg (magnitudeOf s v over)) → x ≡ tokens.Number neg v over
+number-token : (neg : Bool) (v : ℕ) (over : Bool) (x : Tokenᶜ) → ((s : TokenSpot) → tokenOf s x ≡ Token.number neg (magnitudeOf s v over)) → x ≡ tokens.Number neg v over
 number-token neg v over (tokens.Name n) h = let e = h (farSpot 0) in let z : _≡_ {A = ℕ} 0 1 = cc in absurd (omega arith)
 number-token neg v over (tokens.Word w) h = let e = h (farSpot 0) in let z : _≡_ {A = ℕ} 0 1 = cc in absurd (omega arith)
 number-token neg v over (tokens.Number neg′ v′ over′) h =
@@ -337,7 +337,7 @@ number-token neg v over (tokens.Mark b) h = let e = h (farSpot 0) in let z : _�
 number-token neg v over tokens.End h = let e = h (farSpot 0) in let z : _≡_ {A = ℕ} 0 1 = cc in absurd (omega arith)
 
 module _ (s : Stage) (x : Tokenᶜ) (m : Moveᶜ) (h : Moves (gram s) x m) where
-  act-from : (z : Spot) → From (tokenOf z x) (actOf z (m .act))
+  act-from : (z : TokenSpot) → From (tokenOf z x) (actOf z (m .act))
   act-from z = subst (λ (y : Move). From (tokenOf z x) (y .act)) (sym (h z)) (fits s (tokenOf z x) .from)
 
   -- the bytes that an act names are among those that the token names

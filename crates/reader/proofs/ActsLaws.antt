@@ -9,7 +9,7 @@ use borrow.Author.Tests.{lt-ltb, le-ltb}
 use lib.ListN.{length, length-append}
 use lib.Seq.{sets}
 use Rattle.table.specs.Named.{firstNamed}
-use Rattle.language.specs.Programs.{noBlock, maxFunctions, maxRegisters, maxBlocks}
+use Rattle.language.specs.Programs.{noBlock, maxFunctions, maxRegisters, maxBlocks, maxName}
 use Rattle.language.specs.Table.{functionAt, twoBytes, nameOffset}
 use Rattle.language.specs.Table.{blockLength, blockNamesOffset, blocksOffset, functionLength, functionNamesOffset, registerLength, registerNamesOffset, registersOffset}
 use Rattle.language.specs.Reading.{functionNumber, registerNumber, blockNumber}
@@ -61,7 +61,7 @@ module _ {s : Reader} {t : List ℕ} (n : List ℕ) (p : ℕ) where
   too-many-functions full =
       refusing 5 p (λ d h fit. rw (le-ltb (length (d .functions)) maxFunctions (omega (arith, h .counts .functions))))
 
-  module _ (less : s .functions < 16) {i : ℕ} (found : i ≡ firstNamed t functionNamesOffset functionLength (s .functions) n) where
+  module _ (less : s .functions < maxFunctions) {i : ℕ} (found : i ≡ firstNamed t functionNamesOffset functionLength (s .functions) n) where
     pub function-known : i < s .functions → Acts (λ d. d .function .name ≡ []) (nameFunction n p) s t (taken.Refused 6 p) t
     unfolding nameFunction
     function-known known =
@@ -71,7 +71,7 @@ module _ {s : Reader} {t : List ℕ} (n : List ℕ) (p : ℕ) where
         let e = function-found h less n in
         rw (lt-ltb (length (d .functions)) maxFunctions (omega arith), lt-ltb (functionNumber (d .functions) n) (length (d .functions)) (omega arith)))
 
-    pub function-put : Bounded s → s .functions ≤ i → length n ≤ 64 → {a : ℕ} → a ≡ functionAt (s .functions) → {t′ : List ℕ}
+    pub function-put : Bounded s → s .functions ≤ i → length n ≤ maxName → {a : ℕ} → a ≡ functionAt (s .functions) → {t′ : List ℕ}
         → t′ ≡ sets t (a + nameOffset) (length n ∷ n)
         → Acts (λ d. d .function .name ≡ []) (nameFunction n p) s t (taken.Reading s) t′
     function-put b new short {a} e put =
@@ -79,7 +79,7 @@ module _ {s : Reader} {t : List ℕ} (n : List ℕ) (p : ℕ) where
         (λ d h fit.
         let f = d .function in
         let c = h .counts in
-        let m : length (d .functions) < 16 = omega (arith, c .functions) in
+        let m : length (d .functions) < maxFunctions = omega (arith, c .functions) in
         record {
           draft = named d n;
           steps = function-named d p n m (omega (arith, c .functions, function-found h less n));
@@ -95,7 +95,7 @@ module _ {s : Reader} {t : List ℕ} (n : List ℕ) (p : ℕ) where
     too-many-registers full =
         refusing 5 p (λ d h fit. rw (le-ltb (length (d .function .registers)) maxRegisters (omega (arith, h .counts .registers))))
 
-    module _ (less : s .functions < 16) {a : ℕ} (e : a ≡ functionAt (s .functions)) (room : s .registers < 256) {i : ℕ}
+    module _ (less : s .functions < maxFunctions) {a : ℕ} (e : a ≡ functionAt (s .functions)) (room : s .registers < maxRegisters) {i : ℕ}
         (found : i ≡ firstNamed t (a + registerNamesOffset) registerLength (s .registers) n) where
       pub register-known : i < s .registers → Acts Always (nameRegister k kind n p) s t (taken.Refused 6 p) t
       unfolding nameRegister
@@ -106,7 +106,7 @@ module _ {s : Reader} {t : List ℕ} (n : List ℕ) (p : ℕ) where
           let x = register-found h less n e in
           rw (lt-ltb (length (d .function .registers)) maxRegisters (omega arith), lt-ltb (registerNumber (d .function) n) (length (d .function .registers)) (omega arith)))
 
-      pub register-put : Bounded s → s .registers ≤ i → length n ≤ 64 → k ≤ 1 → {t′ : List ℕ}
+      pub register-put : Bounded s → s .registers ≤ i → length n ≤ maxName → k ≤ 1 → {t′ : List ℕ}
           → t′ ≡ sets t (a + registersOffset + registerLength * s .registers) (kind ∷ length n ∷ n)
           → Acts Always (nameRegister k kind n p) s t (taken.Reading (headedAt s (s .ssa) (s .result) (s .params + k) (s .registers + 1))) t′
       register-put b new short one put =
@@ -114,7 +114,7 @@ module _ {s : Reader} {t : List ℕ} (n : List ℕ) (p : ℕ) where
           (λ d h fit.
           let f = d .function in
           let c = h .counts in
-          let m : length (d .functions) < 16 = omega (arith, c .functions) in
+          let m : length (d .functions) < maxFunctions = omega (arith, c .functions) in
           let r : length (f .registers) < 256 = omega (arith, c .registers) in
           record {
             draft = registered d k kind n;
@@ -133,7 +133,7 @@ module _ {s : Reader} {t : List ℕ} (n : List ℕ) (p : ℕ) where
   too-many-blocks full =
       refusing 5 p (λ d h fit. rw (le-ltb (length (d .function .blocks)) maxBlocks (omega (arith, h .counts .blocks))))
 
-  module _ (less : s .functions < 16) {a : ℕ} (e : a ≡ functionAt (s .functions)) (room : s .blocks < 64) {i : ℕ}
+  module _ (less : s .functions < maxFunctions) {a : ℕ} (e : a ≡ functionAt (s .functions)) (room : s .blocks < maxBlocks) {i : ℕ}
       (found : i ≡ firstNamed t (a + blockNamesOffset) blockLength (s .blocks) n) where
     pub block-known : i < s .blocks → Acts (λ d. d .block ≡ noBlock) (nameBlock n p) s t (taken.Refused 6 p) t
     unfolding nameBlock
@@ -144,13 +144,13 @@ module _ {s : Reader} {t : List ℕ} (n : List ℕ) (p : ℕ) where
         let x = block-found h less n e in
         rw (lt-ltb (length (d .function .blocks)) maxBlocks (omega arith), lt-ltb (blockNumber (d .function) n) (length (d .function .blocks)) (omega arith)))
 
-    pub block-put : Bounded s → s .blocks ≤ i → length n ≤ 64 → {t′ : List ℕ} → t′ ≡ sets t (a + blockNamesOffset + blockLength * s .blocks) (length n ∷ n)
+    pub block-put : Bounded s → s .blocks ≤ i → length n ≤ maxName → {t′ : List ℕ} → t′ ≡ sets t (a + blockNamesOffset + blockLength * s .blocks) (length n ∷ n)
         → Acts (λ d. d .block ≡ noBlock) (nameBlock n p) s t (taken.Reading s) t′
     block-put b new short put =
         storing (a + blockNamesOffset + blockLength * s .blocks) (length n ∷ n) put b refl
         (λ d h fit.
         let c = h .counts in
-        let m : length (d .functions) < 16 = omega (arith, c .functions) in
+        let m : length (d .functions) < maxFunctions = omega (arith, c .functions) in
         let r : length (d .function .blocks) < 64 = omega (arith, c .blocks) in
         record {
           draft = begun d n;
@@ -167,7 +167,7 @@ module _ {s : Reader} {t : List ℕ} (p : ℕ) where
   no-more-blocks full =
       refusing 5 p (λ d h fit. rw (le-ltb (length (d .function .blocks)) maxBlocks (omega (arith, h .counts .blocks))))
 
-  pub block-closed : Bounded s → s .functions < 16 → s .blocks < 64 → {a : ℕ} → a ≡ functionAt (s .functions) → {t′ t″ : List ℕ}
+  pub block-closed : Bounded s → s .functions < maxFunctions → s .blocks < maxBlocks → {a : ℕ} → a ≡ functionAt (s .functions) → {t′ t″ : List ℕ}
       → t′ ≡ sets t (a + blocksOffset + blockLength * s .blocks) (twoBytes (s .first))
       → t″ ≡ sets t′ (a + blocksOffset + blockLength * s .blocks + 2) (twoBytes (s .rows - s .first))
       → Acts Always (endBlock p) s t (taken.Reading (endedAt s (s .blocks + 1))) t″
@@ -178,7 +178,7 @@ module _ {s : Reader} {t : List ℕ} (p : ℕ) where
       storing k vs put (omega arith) refl
       (λ d h fit.
       let c = h .counts in
-      let m : length (d .functions) < 16 = omega (arith, c .functions) in
+      let m : length (d .functions) < maxFunctions = omega (arith, c .functions) in
       let r : length (d .function .blocks) < 64 = omega (arith, c .blocks) in
       let l : s .first + length (d .block .rows) ≡ s .rows = rows-in-hand c in
       let n : s .rows - s .first ≡ length (d .block .rows) = omega arith in

@@ -10,7 +10,7 @@ use Rattle.laws.specs.Lists.{all, gather}
 use Rattle.laws.specs.Sections.{pad}
 use Rattle.laws.proofs.Appending.{gather-append, all-snoc}
 use Rattle.laws.proofs.Storing.{Stored, pad-stored, pad-is}
-use Rattle.language.specs.Programs.{Register, Block, Func, noBlock, entriesOf, rowsOf, entryCount, maxRegisters, maxEntries}
+use Rattle.language.specs.Programs.{Register, Block, Func, noBlock, entriesOf, rowsOf, entryCount, maxRegisters, maxEntries, maxFunctions, maxName}
 use Rattle.language.specs.Table.{functionAt, nameCells, registerCells, entriesOffset, registerLength, registersLength, registersOffset}
 use Rattle.language.specs.Reading.{Draft, Parts, Mention, partsOf, functionOf, draftOf, noParts, withFunction, withBlock, withParts, openFunction, rowOf, maxMentions}
 use Rattle.reader.specs.Draft.{WithinSizes, Stores, shortName, openHead, openRegisters, openBlocks, openRows, openRowCells, openEntries, openCells, openTable}
@@ -143,8 +143,8 @@ module _ (d : Draft) (w : WithinSizes d) where
 
 -- ---- acts that store
 
-module _ (d : Draft) (w : WithinSizes d) (less : length (d .functions) < 16) where
-  register-stored : (k t : ℕ) (n : List ℕ) → length n ≤ 64 → length (d .function .registers) < 256
+module _ (d : Draft) (w : WithinSizes d) (less : length (d .functions) < maxFunctions) where
+  register-stored : (k t : ℕ) (n : List ℕ) → length n ≤ maxName → length (d .function .registers) < maxRegisters
       → Stored (openRegisters d) (registerLength * length (d .function .registers)) (t ∷ length n ∷ n) (openRegisters (registered d k t n))
   unfolding openRegisters registerCells nameCells pad
   register-stored k t n short few =
@@ -153,7 +153,7 @@ module _ (d : Draft) (w : WithinSizes d) (less : length (d .functions) < 16) whe
       (simp append-nil
       (pad-stored registersLength (gather registerCells rs) 0 (t ∷ length n ∷ n) (64 - length n) (omega (arith, length-registers d w)) (omega (arith, length-registers d w))))
 
-  pub names-register : (k t : ℕ) (n : List ℕ) → length n ≤ 64 → length (d .function .registers) < 256 → {m : ℕ}
+  pub names-register : (k t : ℕ) (n : List ℕ) → length n ≤ maxName → length (d .function .registers) < maxRegisters → {m : ℕ}
       → m ≡ functionAt (length (d .functions)) + registersOffset + registerLength * length (d .function .registers) → Stores d (registered d k t n) m (t ∷ length n ∷ n)
   unfolding openHead openBlocks openRowCells openEntries rowsOf
   names-register k t n short few {m} e =
@@ -169,14 +169,14 @@ module _ (d : Draft) (w : WithinSizes d) (less : length (d .functions) < 16) whe
       }
 
   -- the name of a function that has none yet
-  name-stored : (n : List ℕ) → length n ≤ 64 → d .function .name ≡ [] → Stored (openHead d) 8 (length n ∷ n) (openHead (named d n))
+  name-stored : (n : List ℕ) → length n ≤ maxName → d .function .name ≡ [] → Stored (openHead d) 8 (length n ∷ n) (openHead (named d n))
   unfolding openHead nameCells pad
   name-stored n short none =
       let head : List ℕ = replicate 8 0 ++ ((length n ∷ n) ++ replicate (64 - length n) 0) in
       let full : pad registersOffset head ≡ head = pad-is registersOffset head 0 (simp (length-append, length-replicate) (omega arith)) ∙ append-nil head in
       rw (none, ← full) (pad-stored registersOffset [] 8 (length n ∷ n) (64 - length n) (omega arith) (omega arith))
 
-  pub names-function : (n : List ℕ) → length n ≤ 64 → d .function .name ≡ [] → {m : ℕ} → m ≡ functionAt (length (d .functions)) + 8
+  pub names-function : (n : List ℕ) → length n ≤ maxName → d .function .name ≡ [] → {m : ℕ} → m ≡ functionAt (length (d .functions)) + 8
       → Stores d (named d n) m (length n ∷ n)
   unfolding openRegisters openBlocks openRowCells openEntries rowsOf
   names-function n short none {m} e =
@@ -186,15 +186,15 @@ module _ (d : Draft) (w : WithinSizes d) (less : length (d .functions) < 16) whe
         within = within-head d w n (f .ssa) (f .result) (f .params) (f .registers) (le→leb _ _ short) (w .registers) (w .registerNames);
       }
 
-  entry-stored : (r : ℕ) → entryCount (openFunction d) + length (d .parts .entries) < 1024
+  entry-stored : (r : ℕ) → entryCount (openFunction d) + length (d .parts .entries) < maxEntries
       → Stored (openEntries d) (entryCount (openFunction d) + length (d .parts .entries)) (r ∷ []) (openEntries (entered d r))
   unfolding openEntries
   entry-stored r few =
       let es = gather entriesOf (openRows d) ++ d .parts .entries in
       let l : length es ≡ entryCount (openFunction d) + length (d .parts .entries) = simp length-append (omega (arith, length-gathered d w)) in
-      rw (← append-assoc) (pad-stored 1024 es 0 (r ∷ []) 0 (omega arith) (omega arith))
+      rw (← append-assoc) (pad-stored maxEntries es 0 (r ∷ []) 0 (omega arith) (omega arith))
 
-  pub adds-entry : (r : ℕ) → entryCount (openFunction d) + length (d .parts .entries) < 1024 → {m : ℕ}
+  pub adds-entry : (r : ℕ) → entryCount (openFunction d) + length (d .parts .entries) < maxEntries → {m : ℕ}
       → m ≡ functionAt (length (d .functions)) + entriesOffset + (entryCount (openFunction d) + length (d .parts .entries)) → Stores d (entered d r) m (r ∷ [])
   unfolding openHead openRegisters openBlocks openRowCells
   adds-entry r few {m} e =

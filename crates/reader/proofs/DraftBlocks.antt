@@ -13,7 +13,7 @@ use Rattle.laws.specs.Sections.{pad, gatherFrom}
 use Rattle.laws.proofs.Appending.{gather-append, gatherFrom-append, all-snoc}
 use Rattle.laws.proofs.Gather.{length-gather}
 use Rattle.laws.proofs.Storing.{Stored, pad-stored, pad-zeros, stored-pad, sets-middle}
-use Rattle.language.specs.Programs.{Block, noBlock, rowsOf, entryCount, maxBlocks}
+use Rattle.language.specs.Programs.{Block, noBlock, rowsOf, entryCount, maxBlocks, maxFunctions, maxName}
 use Rattle.language.specs.Table.{functionAt, nameCells, blockCells, twoBytes, blockLength, blockNamesOffset, blocksLength, blocksOffset}
 use Rattle.language.specs.Reading.{Draft}
 use Rattle.language.proofs.TableLaws.{name-cells, no-name-cells}
@@ -45,7 +45,7 @@ module _ (d : Draft) (w : WithinSizes d) (room : length (d .function .blocks) < 
 
   -- ---- a block begins where none is in hand
 
-  module _ (n : List ℕ) (short : length n ≤ 64) (none : d .block ≡ noBlock) where
+  module _ (n : List ℕ) (short : length n ≤ maxName) (none : d .block ≡ noBlock) where
     same-rows : openRows (begun d n) ≡ openRows d
     same-rows = open-rows (begun d n) ∙ sym (open-rows d ∙ ap (λ (b : Block). gather (λ b. b .rows) bs ++ b .rows) none)
 
@@ -79,7 +79,7 @@ module _ (d : Draft) (w : WithinSizes d) (room : length (d .function .blocks) < 
           inParts = w .inParts;
         }
 
-    pub names-block : length (d .functions) < 16 → {m : ℕ} → m ≡ functionAt (length (d .functions)) + blockNamesOffset + blockLength * length bs → Stores d (begun d n) m (length n ∷ n)
+    pub names-block : length (d .functions) < maxFunctions → {m : ℕ} → m ≡ functionAt (length (d .functions)) + blockNamesOffset + blockLength * length bs → Stores d (begun d n) m (length n ∷ n)
     unfolding openHead openRegisters openRowCells openEntries
     names-block less {m} e =
         let p : m ≡ functionAt (length (d .functions)) + blocksOffset + (blockLength * length bs + 4) = omega arith in
@@ -136,7 +136,7 @@ module _ (d : Draft) (w : WithinSizes d) (room : length (d .function .blocks) < 
           inParts = w .inParts;
         }
 
-    pub ends-block : length (d .functions) < 16 → {m : ℕ} → m ≡ functionAt (length (d .functions)) + blocksOffset + blockLength * length bs
+    pub ends-block : length (d .functions) < maxFunctions → {m : ℕ} → m ≡ functionAt (length (d .functions)) + blocksOffset + blockLength * length bs
         → Stores d (ended d) m (twoBytes first ++ twoBytes (length (d .block .rows)))
     unfolding openHead openRegisters openRowCells openEntries
     ends-block less {m} e =

@@ -13,7 +13,7 @@ use Rattle.laws.specs.Lists.{gather}
 use Rattle.laws.specs.Sections.{pad, gatherFrom}
 use Rattle.laws.proofs.Appending.{gather-append, gather-same, gatherFrom-map, gather-commutes}
 use Rattle.laws.proofs.Storing.{Stored, sets-over}
-use Rattle.language.specs.Programs.{Row, Block, Func, Program, noBlock, noFunction, entriesOf, rowsOf, entryCount}
+use Rattle.language.specs.Programs.{Row, Block, Func, Program, noBlock, noFunction, entriesOf, rowsOf, entryCount, maxFunctions}
 use Rattle.language.specs.Table.{functionAt, nameCells, blockCells, rowCells, headCells, registerSection, blockSection, rowSection, entrySection, functionCells, cells}
 use Rattle.language.specs.Table.{blocksLength, functionLength, registersOffset}
 use Rattle.language.specs.Reading.{Draft, fresh, resolve, resolveRow, resolveBlock, blockNumber}
@@ -87,7 +87,7 @@ within-start = within-fresh [] (lit≤ tt) (λ i b. absurd (omega arith))
 
 -- ---- the function in hand, with no block and no phi entries in hand
 
-module _ (d : Draft) (w : WithinSizes d) (less : length (d .functions) < 16) (none : d .block ≡ noBlock) (no-entries : d .parts .entries ≡ []) where
+module _ (d : Draft) (w : WithinSizes d) (less : length (d .functions) < maxFunctions) (none : d .block ≡ noBlock) (no-entries : d .parts .entries ≡ []) where
   abbrev g : Func
   g = closedFunction d
 

@@ -10,7 +10,7 @@ use Rattle.laws.specs.Sections.{At, pad, gatherFrom}
 use Rattle.laws.proofs.Positions.{position-of-from}
 use Rattle.laws.proofs.Sections.{at-move, at-self, at-left, at-right, at-pad, at-stride}
 use Rattle.laws.proofs.Storing.{at-each}
-use Rattle.language.specs.Programs.{Register, Block, Func, noFunction, noRegister, noBlock}
+use Rattle.language.specs.Programs.{Register, Block, Func, noFunction, noRegister, noBlock, maxFunctions}
 use Rattle.language.specs.Table.{functionAt, nameAt, twoBytes, nameCells, registerCells, blockCells, headCells, registerSection, blockSection, rowSection, entrySection, functionCells}
 use Rattle.language.specs.Table.{blockLength, blockNamesOffset, blocksLength, blocksOffset, functionLength, functionNamesOffset, functionsLength, registerLength, registerNamesOffset, registersLength, rowsOffset}
 use Rattle.language.specs.Table.{registersOffset}
@@ -70,7 +70,7 @@ module _ {t : List ℕ} where
       (at-right (f .ssa ∷ f .result ∷ (twoBytes (f .params) ++ (twoBytes (length (f .registers)) ++ (length (f .blocks) ∷ f .entry ∷ [])))) (nameCells (f .name))
       (at-left (headCells f) (registerSection f ++ (blockSection f ++ (rowSection f ++ entrySection f))) h)) e
 
-module _ (d : Draft) (w : WithinSizes d) (less : length (d .functions) < 16) where
+module _ (d : Draft) (w : WithinSizes d) (less : length (d .functions) < maxFunctions) where
   abbrev fs : List Func
   fs = d .functions
 

@@ -17,7 +17,7 @@ use Rattle.laws.proofs.Indexing.{all-at}
 use Rattle.laws.proofs.Sections.{at-move, at-left, at-right, at-cell, at-pad, length-pad, length-gatherFrom}
 use Rattle.laws.proofs.Storing.{Stored, stored-left, stored-right, stored-pad}
 use Rattle.language.specs.Instructions.{formOf, formNumber, jumpCondOp, jumpOp}
-use Rattle.language.specs.Programs.{Row, opOf, formIn}
+use Rattle.language.specs.Programs.{Row, opOf, formIn, maxRows, maxFunctions}
 use Rattle.language.specs.Table.{functionAt, two, twoBytes, eightBytes, rowCells, rowOp, operandsOffset, rowLength, rowsLength, rowsOffset}
 use Rattle.language.specs.Reading.{Draft, resolveRow, maxMentions}
 use Rattle.reader.specs.Draft.{WithinSizes, smallMentions, inForm, pendingCells, openHead, openRegisters, openBlocks, openRows, openRowCells, openEntries, openCells, openTable, patchedRows, patchedTable}
@@ -142,7 +142,7 @@ module _ {t : List ℕ} where
       let high : getD t (m + 1) 0 ≡ n / 256 % 256 = at-cell 0 h 1 (lit< tt) (omega arith) in
       omega arith
 
-  jump-back : {k : ℕ} (n x : ℕ) → x < 2048 → At t k (pendingCells n (Row.jump x)) → {m : ℕ} → m ≡ k + 4 → two t m ≡ x
+  jump-back : {k : ℕ} (n x : ℕ) → x < maxMentions → At t k (pendingCells n (Row.jump x)) → {m : ℕ} → m ≡ k + 4 → two t m ≡ x
   unfolding pendingCells
   jump-back n x b h e = two-back x (omega arith) (at-right (jumpOp ∷ 0 ∷ 0 ∷ 0 ∷ []) (twoBytes x) (at-pad rowLength (jumpOp ∷ 0 ∷ 0 ∷ 0 ∷ twoBytes x) h)) e
 
@@ -151,10 +151,10 @@ module _ {t : List ℕ} where
     unfolding pendingCells
     both = at-right (jumpCondOp ∷ 0 ∷ s ∷ 0 ∷ []) (twoBytes x ++ twoBytes y) (at-pad rowLength (jumpCondOp ∷ 0 ∷ s ∷ 0 ∷ (twoBytes x ++ twoBytes y)) h)
 
-    first-back : x < 2048 → {m : ℕ} → m ≡ k + 4 → two t m ≡ x
+    first-back : x < maxMentions → {m : ℕ} → m ≡ k + 4 → two t m ≡ x
     first-back b e = two-back x (omega arith) (at-left (twoBytes x) (twoBytes y) both) e
 
-    second-back : y < 2048 → {m : ℕ} → m ≡ k + 6 → two t m ≡ y
+    second-back : y < maxMentions → {m : ℕ} → m ≡ k + 6 → two t m ≡ y
     second-back b e = two-back y (omega arith) (at-right (twoBytes x) (twoBytes y) both) (omega arith)
 
 -- ---- the rows
@@ -180,7 +180,7 @@ module _ (bs : List ℕ) (rows : List Row) where
       length-gatherFrom entries finished rowLength Row.nop 0 (take r rows) (λ m i b. length-finished m (getD (take r rows) i Row.nop))
       ∙ ap (λ (k : ℕ). rowLength * k) (length-take-le r rows h)
 
-  length-patched : (r : ℕ) → r ≤ length rows → length rows ≤ 1024 → length (patchedRows bs r rows) ≡ rowsLength
+  length-patched : (r : ℕ) → r ≤ length rows → length rows ≤ maxRows → length (patchedRows bs r rows) ≡ rowsLength
   unfolding patchedRows
   length-patched r h k =
       length-pad rowsLength (done r ++ left r)
@@ -231,7 +231,7 @@ pub patched-sections : (d : Draft) (bs : List ℕ) (r : ℕ)
 unfolding patchedTable tableOf
 patched-sections d bs r = refl
 
-module _ (d : Draft) (w : WithinSizes d) (less : length (d .functions) < 16) (bs : List ℕ) where
+module _ (d : Draft) (w : WithinSizes d) (less : length (d .functions) < maxFunctions) (bs : List ℕ) where
   pub patched-sized : (r : ℕ) → r ≤ length (openRows d)
       → Sized (d .functions) (openHead d) (openRegisters d) (openBlocks d) (patchedRows bs r (openRows d)) (openEntries d)
   patched-sized r h =

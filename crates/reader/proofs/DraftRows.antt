@@ -14,7 +14,7 @@ use Rattle.laws.specs.Sections.{pad, gatherFrom}
 use Rattle.laws.proofs.Appending.{gather-append, gatherFrom-append, sum-append, all-snoc, all-getD}
 use Rattle.laws.proofs.Storing.{Stored, pad-stored}
 use Rattle.language.specs.Instructions.{Form, formOf, formNumber}
-use Rattle.language.specs.Programs.{entriesOf, rowsOf, entryCount, opOf, formIn}
+use Rattle.language.specs.Programs.{entriesOf, rowsOf, entryCount, opOf, formIn, maxRows, maxEntries, maxFunctions}
 use Rattle.language.specs.Table.{functionAt, rowCells, twoBytes, eightBytes, rowLength, rowsLength, rowsOffset}
 use Rattle.language.specs.Reading.{Draft, Parts, openFunction, rowAs, rowOf, maxMentions}
 use Rattle.language.proofs.FormLaws.{by-form}
@@ -71,8 +71,8 @@ form-of-row x = rw (op-of-row x) (by (form-as (formOf (x .op)) x))
     by : formIn (rowAs (formOf (x .op)) x) ≡ formOf (x .op) → T (eqb (formNumber (formOf (x .op))) (formNumber (formIn (rowAs (formOf (x .op)) x))))
     by e = rw e (eqb-refl (formNumber (formOf (x .op))))
 
-module _ (n : ℕ) (x : Parts) (small : T (all (λ m. ltb m maxMentions) (x .mentions))) (few : n + length (x .entries) ≤ 1024) where
-  mention : (i : ℕ) → getD (x .mentions) i 0 < 2048
+module _ (n : ℕ) (x : Parts) (small : T (all (λ m. ltb m maxMentions) (x .mentions))) (few : n + length (x .entries) ≤ maxEntries) where
+  mention : (i : ℕ) → getD (x .mentions) i 0 < maxMentions
   mention i = ltb→lt _ _ (all-getD (λ m. ltb m maxMentions) 0 tt (x .mentions) small i)
 
   cells-as : (g : Form) → opOf (rowAs g x) ≡ x .op → pendingCells n (rowAs g x) ≡ cellsAs g n x
@@ -146,7 +146,7 @@ module _ (d : Draft) (w : WithinSizes d) (own : entriesOf (rowOf (d .parts)) ≡
   unfolding openEntries
   same-entries = rw (more-rows d, gather-append entriesOf (openRows d) (rowOf (d .parts) ∷ []), own) (simp append-nil)
 
-  row-stored : length (openRows d) < 1024
+  row-stored : length (openRows d) < maxRows
       → Stored (openRowCells d) (rowLength * length (openRows d)) (instructionCells (entryCount (openFunction d)) (d .parts)) (openRowCells (written d))
   unfolding openRowCells entryCount
   row-stored few =
@@ -155,7 +155,7 @@ module _ (d : Draft) (w : WithinSizes d) (own : entriesOf (rowOf (d .parts)) ≡
       (pad-stored rowsLength (gatherFrom entries pendingCells 0 (openRows d)) 0 (pendingCells n (rowOf (d .parts))) 0
       (omega (arith, length-rows 0 (openRows d), length-pending n (rowOf (d .parts)))) (omega (arith, length-rows 0 (openRows d))))
 
-  within-written : length (openRows d) < 1024 → WithinSizes (written d)
+  within-written : length (openRows d) < maxRows → WithinSizes (written d)
   within-written few =
       record {
         functions = w .functions;
@@ -175,7 +175,7 @@ module _ (d : Draft) (w : WithinSizes d) (own : entriesOf (rowOf (d .parts)) ≡
         inParts = tt;
       }
 
-  pub ends-instruction : length (d .functions) < 16 → length (openRows d) < 1024 → {m : ℕ}
+  pub ends-instruction : length (d .functions) < maxFunctions → length (openRows d) < maxRows → {m : ℕ}
       → m ≡ functionAt (length (d .functions)) + rowsOffset + rowLength * length (openRows d)
       → Stores d (written d) m (instructionCells (entryCount (openFunction d)) (d .parts))
   unfolding openHead openRegisters openBlocks

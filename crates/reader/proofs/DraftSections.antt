@@ -13,7 +13,7 @@ use Rattle.laws.proofs.Indexing.{all-at}
 use Rattle.laws.proofs.Sections.{length-pad, length-gatherFrom}
 use Rattle.laws.proofs.Gather.{length-gather}
 use Rattle.laws.proofs.Storing.{Stored, length-each, stored-left, stored-right, stored-pad, pad-zeros, pad-is}
-use Rattle.language.specs.Programs.{Row, Block, Func, noFunction, noRegister, noBlock, entriesOf, rowsOf, entryCount}
+use Rattle.language.specs.Programs.{Row, Block, Func, noFunction, noRegister, noBlock, entriesOf, rowsOf, entryCount, maxEntries, maxFunctions, maxName}
 use Rattle.language.specs.Table.{functionAt, nameCells, registerCells, blockCells, rowCells, functionCells}
 use Rattle.language.specs.Table.{blocksLength, blocksOffset, entriesOffset, functionLength, functionsLength, registersLength, rowsLength, rowsOffset}
 use Rattle.language.specs.Table.{blockLength, registerLength, registersOffset, rowLength}
@@ -34,7 +34,7 @@ length-pending n (Row.return s) = refl
 length-pending n Row.leave = refl
 length-pending n (Row.unknown op) = refl
 
-length-openBlock : (name : List ℕ) → length name ≤ 64 → (k : ℕ) → k ≤ 64 → T (cond (empty name) true (ltb k 64)) → blockLength * k + length (openBlock name) ≤ blocksLength
+length-openBlock : (name : List ℕ) → length name ≤ maxName → (k : ℕ) → k ≤ 64 → T (cond (empty name) true (ltb k 64)) → blockLength * k + length (openBlock name) ≤ blocksLength
 unfolding openBlock
 length-openBlock [] h k l t = omega arith
 length-openBlock (x ∷ xs) h k l t = omega (arith, length-name (x ∷ xs) h, ltb→lt k 64 t)
@@ -85,10 +85,10 @@ module _ (d : Draft) (w : WithinSizes d) where
   unfolding entryCount
   length-gathered = length-gather entriesOf (openRows d)
 
-  pub length-openEntries : length (openEntries d) ≡ 1024
+  pub length-openEntries : length (openEntries d) ≡ maxEntries
   unfolding openEntries
   length-openEntries =
-      length-pad 1024 (gather entriesOf (openRows d) ++ d .parts .entries)
+      length-pad maxEntries (gather entriesOf (openRows d) ++ d .parts .entries)
       (simp length-append (omega (arith, length-gathered, w .entries)))
 
 -- ---- a store in a section is a store in the table
@@ -107,7 +107,7 @@ pub record Sized (fs : List Func) (h r b w e : List ℕ) : Type 0 where
   pub registers : length r ≡ registersLength
   pub blocks : length b ≡ blocksLength
   pub rows : length w ≡ rowsLength
-  pub entries : length e ≡ 1024
+  pub entries : length e ≡ maxEntries
 
 pub length-functions : (fs : List Func) → Whole fs → length (gather functionCells fs) ≡ functionLength * length fs
 length-functions fs h = length-each functionCells functionLength noFunction fs h
@@ -138,7 +138,7 @@ module _ {fs : List Func} {h r b w e : List ℕ} (z : Sized fs h r b w e) where
     in-rows s l p =
         in-cells (stored-right (stored-right (stored-right (stored-left s e (omega (arith, z))) b refl) r refl) h refl) (omega (arith, z)) (omega (arith, z))
 
-    pub in-entries : Stored e k vs x → k + length vs ≤ 1024 → m ≡ functionAt (length fs) + entriesOffset + k → Stored (tableOf fs h r b w e) m vs (tableOf fs h r b w x)
+    pub in-entries : Stored e k vs x → k + length vs ≤ maxEntries → m ≡ functionAt (length fs) + entriesOffset + k → Stored (tableOf fs h r b w e) m vs (tableOf fs h r b w x)
     unfolding tableOf
     in-entries s l p =
         in-cells (stored-right (stored-right (stored-right (stored-right s w refl) b refl) r refl) h refl) (omega (arith, z)) (omega (arith, z))
@@ -149,7 +149,7 @@ pub sections : (d : Draft) → openTable d ≡ tableOf (d .functions) (openHead 
 unfolding openTable openCells tableOf
 sections d = refl
 
-module _ (d : Draft) (w : WithinSizes d) (room : length (d .functions) < 16) where
+module _ (d : Draft) (w : WithinSizes d) (room : length (d .functions) < maxFunctions) where
   pub sized : Sized (d .functions) (openHead d) (openRegisters d) (openBlocks d) (openRowCells d) (openEntries d)
   sized =
       record {
@@ -179,4 +179,4 @@ pub open-fresh : (fs : List Func) → length fs < 16 → Whole fs → openTable 
 unfolding tableOf closedTable openRegisters openBlocks openBlock openRowCells openEntries rowsOf
 open-fresh fs h l =
     sections (fresh fs)
-    ∙ rw (fresh-head fs) (ap (λ (r : List ℕ). 0 ∷ r) (no-sections functionsLength (gather functionCells fs) registersOffset registersLength blocksLength rowsLength 1024 (omega (arith, length-functions fs l))))
+    ∙ rw (fresh-head fs) (ap (λ (r : List ℕ). 0 ∷ r) (no-sections functionsLength (gather functionCells fs) registersOffset registersLength blocksLength rowsLength maxEntries (omega (arith, length-functions fs l))))

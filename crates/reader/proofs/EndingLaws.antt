@@ -19,13 +19,13 @@ use Rattle.laws.proofs.Indexing.{getD-map, getD-map-lt}
 use Rattle.laws.proofs.Positions.{position-le}
 use Rattle.laws.proofs.Keep.{keep-none, keep-first}
 use Rattle.table.specs.Named.{firstNamed}
-use Rattle.language.specs.Programs.{Func, noBlock, rowsOf, entryCount}
+use Rattle.language.specs.Programs.{Func, noBlock, rowsOf, entryCount, maxFunctions}
 use Rattle.language.specs.Table.{functionAt, nameAt, two, four, twoBytes, eightBytes, rowOp, blockLength, blockNamesOffset, operandsOffset, rowLength, nameLength}
 use Rattle.language.specs.Reading.{Draft, Mention, ActOutcome, blockNumber, undeclared, fresh, endFunction}
 use Rattle.language.specs.Instructions.{jumpCondOp, jumpOp}
 use Rattle.reader.specs.Draft.{WithinSizes, openRows, closedTable, patchedTable, mentionedBlocks, headBytes}
 use Rattle.reader.specs.State.{Bounded, Counts, Holds, Pending, mentionLength}
-use Rattle.reader.specs.Ending.{blockNamed, Resolved, patchRow, patchRows, headAt, closedAt, Closes, Ends}
+use Rattle.reader.specs.Ending.{blockNamed, Resolved, patchRow, patchRows, headAt, closedAt, Closes, EndsFunction}
 use Rattle.reader.specs.declared.state.Reader.{Reader}
 use Rattle.reader.specs.declared.state.Taken.the-variants as taken
 use Rattle.reader.proofs.DraftNames.{block-search}
@@ -81,7 +81,7 @@ named-by t a n pend k p q = q ∙ ap (λ (name : List ℕ). firstNamed t (a + bl
 
 -- ---- the state behind the brace
 
-module _ (s : Reader) (less : s .functions < 16) where
+module _ (s : Reader) (less : s .functions < maxFunctions) where
   closed-bounded : Bounded (closedAt s)
   closed-bounded =
       record {
@@ -135,14 +135,14 @@ noMention = record { name = []; place = 0 }
 eight-of-block : (x : ℕ) → x < 256 → eightBytes x ≡ x ∷ 0 ∷ 0 ∷ 0 ∷ 0 ∷ 0 ∷ 0 ∷ 0 ∷ []
 eight-of-block x h = let e : x ≡ x + 256 * 0 = omega arith in ap (λ (n : ℕ). eightBytes n) e ∙ eight-of-blocks x 0 h (lit< tt)
 
-module _ {s : Reader} {t : List ℕ} (less : s .functions < 16) {a : ℕ} (at : a ≡ functionAt (s .functions)) (d : Draft) (h : Holds d s t) where
+module _ {s : Reader} {t : List ℕ} (less : s .functions < maxFunctions) {a : ℕ} (at : a ≡ functionAt (s .functions)) (d : Draft) (h : Holds d s t) where
   abbrev f : Func
   f = d .function
 
   abbrev w : WithinSizes d
   w = h .within
 
-  fewer : length (d .functions) < 16
+  fewer : length (d .functions) < maxFunctions
   fewer = omega (arith, h .counts .functions)
 
   begins : a ≡ functionAt (length (d .functions))
@@ -251,10 +251,10 @@ module _ {s : Reader} {t : List ℕ} (less : s .functions < 16) {a : ℕ} (at : 
 
 -- ---- the three ends
 
-module _ (s : Reader) (t pend : List ℕ) (p : ℕ) (less : s .functions < 16) {a : ℕ} (at : a ≡ functionAt (s .functions))
+module _ (s : Reader) (t pend : List ℕ) (p : ℕ) (less : s .functions < maxFunctions) {a : ℕ} (at : a ≡ functionAt (s .functions))
     {entry : ℕ} (found-entry : entry ≡ firstNamed t (a + blockNamesOffset) blockLength (s .blocks) []) where
   -- no block has the empty name
-  pub ends-without-entry : s .blocks ≤ entry → Ends s t pend p (taken.Refused 8 p) t
+  pub ends-without-entry : s .blocks ≤ entry → EndsFunction s t pend p (taken.Refused 8 p) t
   ends-without-entry b =
       record {
         kept = tt;
@@ -267,7 +267,7 @@ module _ (s : Reader) (t pend : List ℕ) (p : ℕ) (less : s .functions < 16) {
     has-entry : (d : Draft) → Holds d s t → blockNumber (d .function) [] < length (d .function .blocks)
     has-entry d h = omega (arith, found-entry, block-of-name less at d h [], h .counts .blocks)
 
-    pub ends-undeclared : {q : ℕ} → r < s .mentions → q ≡ four pend (mentionLength * r + nameLength) → Ends s t pend p (taken.Refused 7 q) t
+    pub ends-undeclared : {q : ℕ} → r < s .mentions → q ≡ four pend (mentionLength * r + nameLength) → EndsFunction s t pend p (taken.Refused 7 q) t
     ends-undeclared {q} l e =
         record {
           kept = tt;
@@ -276,7 +276,7 @@ module _ (s : Reader) (t pend : List ℕ) (p : ℕ) (less : s .functions < 16) {
         }
 
     pub ends-closed : {s′ : Reader} {t₁ t′ : List ℕ} → s′ ≡ closedAt s → s .mentions ≤ r → s .mentions ≤ length found → t₁ ≡ patchRows t a (take (s .mentions) found) (s .rows)
-        → t′ ≡ sets t₁ a (headAt s entry) → length t′ ≡ length t → Ends s t pend p (taken.Reading s′) t′
+        → t′ ≡ sets t₁ a (headAt s entry) → length t′ ≡ length t → EndsFunction s t pend p (taken.Reading s′) t′
     ends-closed e l c x y size =
         rw e
         (record {

@@ -13,7 +13,7 @@ use Rattle.language.specs.Tokens.{Token, Found}
 use Rattle.language.specs.Grammar.{Stage, Act, gram}
 use Rattle.language.specs.Reading.{Draft, Mention, ActOutcome, Parse, refuse, proceed, performAct, afterAct, draftRows, phiEntries, functionNumber, registerNumber, blockNumber, maxMentions, numberInRange, fresh}
 use Rattle.language.specs.Reading as meaning
-use Rattle.grammar.specs.Meaning.{Spot, Moves, moveOf, tokenOf, actOf, magnitudeOf, stageIs}
+use Rattle.grammar.specs.Meaning.{TokenSpot, Moves, moveOf, tokenOf, actOf, magnitudeOf, stageIs}
 use Rattle.grammar.specs.Ready.{isTop, StageReady}
 use Rattle.grammar.proofs.Ready.{ready-reading}
 use Rattle.grammar.specs.declared.Stage.{Stage as Stageᶜ}
@@ -26,7 +26,7 @@ use Rattle.reader.specs.State.{Bounded, Counts, Holds, Pending, Comes, K
 use Rattle.lexer.specs.Numbers.{amountFrom, amountOf}
 use Rattle.lexer.specs.Lexing.{Means}
 use Rattle.reader.specs.Ending.{Closes}
-use Rattle.reader.specs.Parse.{standing, Follows, Reads, Reached, Lent, Placed, Takes, inFunction, spotAt, wantsFunction, Enabled, Performs}
+use Rattle.reader.specs.Parse.{standing, Follows, Reads, ReaderReached, Lent, Placed, Takes, inFunction, tokenSpot, wantsFunction, Enabled, Performs}
 use Rattle.reader.specs.declared.state.Reader.{Reader}
 use Rattle.reader.specs.declared.state.Taken.{Taken}
 use Rattle.reader.specs.declared.state.Taken.the-variants as taken
@@ -184,7 +184,7 @@ data Lands (top : Bool) (c : Reader) (t pend : List ℕ) : ActOutcome → Taken 
       → Lands top c t pend (proceed d) (taken.Reading c′)
 
 -- between two functions the next one may be in hand, if there is room for it
-opened : (s : Stage) (d : Draft) → StageReady s d → WithinSizes d → length (d .functions) < 16 → standing (isTop s) d ≡ openTable d
+opened : (s : Stage) (d : Draft) → StageReady s d → WithinSizes d → length (d .functions) < maxFunctions → standing (isTop s) d ≡ openTable d
 opened s d r w h = by (isTop s) (r .between)
   where
     by : (b : Bool) → (T b → d ≡ fresh (d .functions)) → standing b d ≡ openTable d
@@ -210,13 +210,13 @@ module _ {c : Reader} {t′ pend′ : List ℕ} where
 module _ (s : Stage) (d : Draft) (c : Reader) (t pend : List ℕ) (bounded : Bounded c) (counts : Counts d c) (within : WithinSizes d)
     (pending : Pending (d .mentions) pend) (ready : StageReady s d) (hand : InHand (depth s) d) (table : t ≡ standing (isTop s) d) where
   -- a function is in hand, or may be
-  holds : length (d .functions) < 16 → Holds d c t
+  holds : length (d .functions) < maxFunctions → Holds d c t
   holds h = record { counts = counts; within = within; table = table ∙ opened s d ready within h }
 
   stays : Lands (isTop s) c t pend (proceed d) (taken.Reading c)
   stays = Lands.proceeds d c (bounded, refl) counts within pending table
 
-  opens : length (d .functions) < 16 → Lands false c t pend (proceed d) (taken.Reading c)
+  opens : length (d .functions) < maxFunctions → Lands false c t pend (proceed d) (taken.Reading c)
   opens h = Lands.proceeds d c (bounded, refl) counts within pending (holds h .table)
 
   module _ (r : Taken) (t′ pend′ : List ℕ) where
@@ -245,7 +245,7 @@ module _ (s : Stage) (d : Draft) (c : Reader) (t pend : List ℕ) (bounded : Bou
     fewer : (k : ℕ) → T (ltb k 2) → T (ltb k 3)
     fewer k h = lt→ltb k 3 (omega (arith, ltb→lt k 2 h))
 
-    performs : (z : Spot) (a : Actᶜ) → Performs (z .text) (z .place) c t pend r t′ pend′ a
+    performs : (z : TokenSpot) (a : Actᶜ) → Performs (z .text) (z .place) c t pend r t′ pend′ a
         → ((neg : Bool) (v : ℕ) (over : Bool) → a ≡ Actᶜ.SetNumber neg v over → amountFrom v over ≡ amountOf (magnitudeOf z v over))
         → T (upTo (actOf z a) (depth s)) → T (cond (inFunction (actOf z a)) (not (isTop s)) true)
         → Lands (after (actOf z a) (isTop s)) c t′ pend′ (performAct (actOf z a) (z .place) d) r
@@ -286,8 +286,8 @@ magnitude (Token.number neg v) = v
 magnitude (Token.mark b) = 0
 magnitude Token.end = 0
 
-abbrev spotOf : (text : List ℕ) (p : ℕ) → Token → Spot
-spotOf text p m = spotAt text p (λ v. magnitude m)
+abbrev spotOf : (text : List ℕ) (p : ℕ) → Token → TokenSpot
+spotOf text p m = tokenSpot text p (λ v. magnitude m)
 
 -- a number below 2^64 is kept as it is
 kept-value : (v n : ℕ) → amountFrom v false ≡ amountOf n → v ≡ n
@@ -370,12 +370,12 @@ module _ {c : Reader} {t pend : List ℕ} where
   reads-bounded : {x : Parse} → Reads t pend x (taken.Reading c) → Bounded c
   reads-bounded (Reads.reading s d c f) = f .bounded
 
-  pub reached-bounded : Reached c t pend → Bounded c
+  pub reached-bounded : ReaderReached c t pend → Bounded c
   reached-bounded h = reads-bounded (h .reads)
 
-  reads-room : (x : Tokenᶜ) (n : Moveᶜ) → Moves (gram (stageIs (c .stage))) x n → {y : Parse} → Reads t pend y (taken.Reading c) → T (wantsFunction (n .act)) → c .functions < 16
+  reads-room : (x : Tokenᶜ) (n : Moveᶜ) → Moves (gram (stageIs (c .stage))) x n → {y : Parse} → Reads t pend y (taken.Reading c) → T (wantsFunction (n .act)) → c .functions < maxFunctions
   reads-room x n moves (Reads.reading s d c f) w =
-      let z = spotAt [] 0 (λ v. v) in
+      let z = tokenSpot [] 0 (λ v. v) in
       let fit : Fits s (tokenOf z x) (moveOf z n) = rw (moves z, f .stage) (fits s (tokenOf z x)) in
       rw (f .counts .functions) (f .ready .inside (wanted (inFunction (actOf z (n .act))) (isTop s) w (fit .inside)))
     where
@@ -383,11 +383,11 @@ module _ {c : Reader} {t pend : List ℕ} where
       wanted true b w h = h
       wanted false b w h = absurd w
 
-  pub reached-room : (x : Tokenᶜ) (n : Moveᶜ) → Moves (gram (stageIs (c .stage))) x n → Reached c t pend → T (wantsFunction (n .act)) → c .functions < 16
+  pub reached-room : (x : Tokenᶜ) (n : Moveᶜ) → Moves (gram (stageIs (c .stage))) x n → ReaderReached c t pend → T (wantsFunction (n .act)) → c .functions < maxFunctions
   reached-room x n moves h = reads-room x n moves (h .reads)
 
 -- the grammar's act may be done
-pub enabled : {text t pend found : List ℕ} {p : ℕ} {x : Tokenᶜ} {c : Reader} (n : Moveᶜ) → Lent text t pend found → Placed text p x → Reached c t pend
+pub enabled : {text t pend found : List ℕ} {p : ℕ} {x : Tokenᶜ} {c : Reader} (n : Moveᶜ) → Lent text t pend found → Placed text p x → ReaderReached c t pend
     → Moves (gram (stageIs (c .stage))) x n → Enabled text t pend found p (staged c (n .stage)) (n .act)
 enabled {x = x} {c = c} n lent placed reached moves =
     let bytes = act-bytes (stageIs (c .stage)) x n moves in
@@ -402,7 +402,7 @@ enabled {x = x} {c = c} n lent placed reached moves =
 -- ---- what an act that is enabled meets
 
 module _ {text t pend found : List ℕ} {p : ℕ} {c : Reader} {a : Actᶜ} where
-  pub enabled-room : {b : Actᶜ} → a ≡ b → Enabled text t pend found p c a → T (wantsFunction b) → c .functions < 16
+  pub enabled-room : {b : Actᶜ} → a ≡ b → Enabled text t pend found p c a → T (wantsFunction b) → c .functions < maxFunctions
   enabled-room e h w = h .room (subst⁻¹ (λ (y : Actᶜ). T (wantsFunction y)) e w)
 
   pub enabled-small : Enabled text t pend found p c a → p < 4294967296

@@ -15,18 +15,18 @@ use Rattle.laws.specs.Sections.{At}
 use Rattle.laws.proofs.Sections.{at-right, at-cell, at-part}
 use Rattle.laws.proofs.Cells.{getD-sets-before, part-sets-before, at-sets, at-sets-before}
 use Rattle.language.specs.Instructions.{Operand, formOf, operandOf, loadType}
-use Rattle.language.specs.Programs.{Block, entriesOf, entryCount}
+use Rattle.language.specs.Programs.{Block, entriesOf, entryCount, maxRows, maxEntries, maxFunctions, maxName}
 use Rattle.language.specs.Table.{functionAt, nameAt, four, fourBytes, eightBytes, entriesOffset, rowLength, rowsOffset, nameLength}
-use Rattle.language.specs.Reading.{Draft, Parts, Mention, partsOf, draftOf, noParts, withParts, openFunction, draftRows, phiEntries, registerNumber, rowOf}
+use Rattle.language.specs.Reading.{Draft, Parts, Mention, partsOf, draftOf, noParts, withParts, openFunction, draftRows, phiEntries, registerNumber, rowOf, maxMentions}
 use Rattle.language.specs.Reading.{beginInstruction, setTarget, setInstruction, addSource, addEntry, addMention, numberInRange, bitsOf, setNumber, endInstruction}
 use Rattle.grammar.specs.Meaning.{operandFrom}
 use Rattle.instructions.proofs.RangesLaws.{range-large}
-use Rattle.instructions.specs.Shapes.{shapeOf, operandNumber as shapeOperand}
+use Rattle.instructions.specs.Shapes.{shapeOf, operandNumber}
 use Rattle.instructions.specs.declared.Shape.{Shape}
-use Rattle.reader.specs.Draft.{WithinSizes, operandNumber, instructionCells, openRows}
+use Rattle.reader.specs.Draft.{WithinSizes, operandCell, instructionCells, openRows}
 use Rattle.reader.specs.State.{Bounded, Counts, Holds, Pending, Acts, Always, MentionKept, partsAt, operandAt, rowAt, mentionLength, scratchLength}
 use Rattle.lexer.specs.Numbers.{amountFrom, amountOf}
-use Rattle.lexer.specs.declared.numbers.Amount.{Amount}
+use Rattle.lexer.specs.declared.values.Amount.{Amount}
 use Rattle.reader.specs.declared.state.Reader.{Reader}
 use Rattle.reader.specs.declared.state.Taken.the-variants as taken
 use Rattle.reader.proofs.DraftActs.{keeps-entries, adds-mention, adds-entry, entered, mentioned, written}
@@ -110,8 +110,8 @@ abbrev writtenAt : Reader → Reader
 writtenAt s = held s (s .rows + 1) (s .entries) (s .mentions) 0 0 0 0 0 0 0 0 0 0
 
 -- its bounds, and below its counts, by those of the numbers that changed
-bounded : {s : Reader} → Bounded s → {w e m op t l r k n o h g j : ℕ} → s .rows ≤ w → w ≤ 1024 → e ≤ 1024 → m ≤ 2048 → t < 256 → l < 256 → r < 256 → o ≤ e
-    → h < 2048 → g < 2048 → Bounded (held s w e m op t l r k n o h g j)
+bounded : {s : Reader} → Bounded s → {w e m op t l r k n o h g j : ℕ} → s .rows ≤ w → w ≤ maxRows → e ≤ maxEntries → m ≤ maxMentions → t < 256 → l < 256 → r < 256 → o ≤ e
+    → h < maxMentions → g < maxMentions → Bounded (held s w e m op t l r k n o h g j)
 bounded b more bw be bm bt bl br bo bh bg =
     record {
       functions = b .functions;
@@ -184,17 +184,17 @@ holds-parts {d} {s} h free op target =
     none refl refl none)
 
 module _ {s : Reader} (b : Bounded s) (p : ℕ) (t : List ℕ) where
-  pub begin-refused : (op : ℕ) → 1024 ≤ s .rows → Acts NoEntries (beginInstruction op p) s t (taken.Refused 5 p) t
+  pub begin-refused : (op : ℕ) → maxRows ≤ s .rows → Acts NoEntries (beginInstruction op p) s t (taken.Refused 5 p) t
   unfolding beginInstruction draftRows
-  begin-refused op full = refusing 5 p (λ d h fit. rw (le-ltb (length (openRows d)) 1024 (omega (arith, h .counts .rows))))
+  begin-refused op full = refusing 5 p (λ d h fit. rw (le-ltb (length (openRows d)) maxRows (omega (arith, h .counts .rows))))
 
-  pub begin-proceeds : (op : ℕ) → s .rows < 1024 → Acts NoEntries (beginInstruction op p) s t (taken.Reading (partsAt s op 0)) t
+  pub begin-proceeds : (op : ℕ) → s .rows < maxRows → Acts NoEntries (beginInstruction op p) s t (taken.Reading (partsAt s op 0)) t
   unfolding beginInstruction draftRows
   begin-proceeds op room =
       record {
         kept = (bounded-parts b op 0 (lit< tt), refl);
         size = refl;
-        meaning = λ d h free. proceeding (rw (lt-ltb (length (openRows d)) 1024 (omega (arith, h .counts .rows)))) (holds-parts h free op 0);
+        meaning = λ d h free. proceeding (rw (lt-ltb (length (openRows d)) maxRows (omega (arith, h .counts .rows)))) (holds-parts h free op 0);
       }
 
   pub instruction-proceeds : (op : ℕ) → Acts NoEntries (setInstruction op) s t (taken.Reading (partsAt s op (s .target))) t
@@ -213,13 +213,13 @@ abbrev pub Numbers : Reader → List ℕ → List ℕ → ℕ → Type 0
 Numbers s t n r = (d : Draft) → Holds d s t → r ≡ registerNumber (d .function) n
 
 module _ {s : Reader} (b : Bounded s) (n : List ℕ) (p : ℕ) (t : List ℕ) where
-  pub target-refused : 1024 ≤ s .rows → Acts NoEntries (setTarget n p) s t (taken.Refused 5 p) t
+  pub target-refused : maxRows ≤ s .rows → Acts NoEntries (setTarget n p) s t (taken.Refused 5 p) t
   unfolding setTarget draftRows
-  target-refused full = refusing 5 p (λ d h fit. rw (le-ltb (length (openRows d)) 1024 (omega (arith, h .counts .rows))))
+  target-refused full = refusing 5 p (λ d h fit. rw (le-ltb (length (openRows d)) maxRows (omega (arith, h .counts .rows))))
 
-  pub entry-refused : 1024 ≤ s .entries → Acts Always (addEntry n p) s t (taken.Refused 5 p) t
+  pub entry-refused : maxEntries ≤ s .entries → Acts Always (addEntry n p) s t (taken.Refused 5 p) t
   unfolding addEntry phiEntries
-  entry-refused full = refusing 5 p (λ d h fit. rw (le-ltb (entryCount (openFunction d) + length (d .parts .entries)) 1024 (omega (arith, h .counts .entries))))
+  entry-refused full = refusing 5 p (λ d h fit. rw (le-ltb (entryCount (openFunction d) + length (d .parts .entries)) maxEntries (omega (arith, h .counts .entries))))
 
   module _ {r : ℕ} (f : Numbers s t n r) where
     unknown : s .registers ≤ r → (d : Draft) → Holds d s t → ltb (registerNumber (d .function) n) (length (d .function .registers)) ≡ false
@@ -228,11 +228,11 @@ module _ {s : Reader} (b : Bounded s) (n : List ℕ) (p : ℕ) (t : List ℕ) wh
     known : r < s .registers → (d : Draft) → Holds d s t → registerNumber (d .function) n < length (d .function .registers)
     known less d h = omega (arith, h .counts .registers, f d h)
 
-    pub target-unknown : s .rows < 1024 → s .registers ≤ r → Acts NoEntries (setTarget n p) s t (taken.Refused 7 p) t
+    pub target-unknown : s .rows < maxRows → s .registers ≤ r → Acts NoEntries (setTarget n p) s t (taken.Refused 7 p) t
     unfolding setTarget draftRows
-    target-unknown room out = refusing 7 p (λ d h fit. rw (lt-ltb (length (openRows d)) 1024 (omega (arith, h .counts .rows)), unknown out d h))
+    target-unknown room out = refusing 7 p (λ d h fit. rw (lt-ltb (length (openRows d)) maxRows (omega (arith, h .counts .rows)), unknown out d h))
 
-    pub target-proceeds : s .rows < 1024 → r < s .registers → Acts NoEntries (setTarget n p) s t (taken.Reading (partsAt s 0 r)) t
+    pub target-proceeds : s .rows < maxRows → r < s .registers → Acts NoEntries (setTarget n p) s t (taken.Reading (partsAt s 0 r)) t
     unfolding setTarget draftRows
     target-proceeds room less =
         record {
@@ -241,7 +241,7 @@ module _ {s : Reader} (b : Bounded s) (n : List ℕ) (p : ℕ) (t : List ℕ) wh
           meaning =
               λ d h free.
               proceeding
-              (rw (lt-ltb (length (openRows d)) 1024 (omega (arith, h .counts .rows)), lt-ltb (registerNumber (d .function) n) (length (d .function .registers)) (known less d h), ← f d h))
+              (rw (lt-ltb (length (openRows d)) maxRows (omega (arith, h .counts .rows)), lt-ltb (registerNumber (d .function) n) (length (d .function .registers)) (known less d h), ← f d h))
               (holds-parts h free 0 r);
         }
 
@@ -267,13 +267,13 @@ module _ {s : Reader} (b : Bounded s) (n : List ℕ) (p : ℕ) (t : List ℕ) wh
               (counted c (d .mentions) (d .block) y (c .rows) (c .entries) (c .mentions) (c .op) (c .target) (push (x .sources) (sources-in c)) (c .number) (c .own) (mentions-in c)));
         }
 
-    pub entry-unknown : s .entries < 1024 → s .registers ≤ r → Acts Always (addEntry n p) s t (taken.Refused 7 p) t
+    pub entry-unknown : s .entries < maxEntries → s .registers ≤ r → Acts Always (addEntry n p) s t (taken.Refused 7 p) t
     unfolding addEntry phiEntries
     entry-unknown room out =
         refusing 7 p
-        (λ d h fit. rw (lt-ltb (entryCount (openFunction d) + length (d .parts .entries)) 1024 (omega (arith, h .counts .entries)), unknown out d h))
+        (λ d h fit. rw (lt-ltb (entryCount (openFunction d) + length (d .parts .entries)) maxEntries (omega (arith, h .counts .entries)), unknown out d h))
 
-    pub entry-proceeds : s .entries < 1024 → r < s .registers → s .functions < 16 → {t′ : List ℕ} {k : ℕ} → k ≡ functionAt (s .functions) + entriesOffset + s .entries → t′ ≡ sets t k (r ∷ [])
+    pub entry-proceeds : s .entries < maxEntries → r < s .registers → s .functions < maxFunctions → {t′ : List ℕ} {k : ℕ} → k ≡ functionAt (s .functions) + entriesOffset + s .entries → t′ ≡ sets t k (r ∷ [])
         → Acts Always (addEntry n p) s t (taken.Reading (enteredAt s)) t′
     entry-proceeds room less few {t′} {k} place e =
         record {
@@ -293,11 +293,11 @@ module _ {s : Reader} (b : Bounded s) (n : List ℕ) (p : ℕ) (t : List ℕ) wh
 -- ---- a block is mentioned
 
 module _ {s : Reader} (b : Bounded s) (n : List ℕ) (p : ℕ) (t : List ℕ) where
-  pub mention-refused : 2048 ≤ s .mentions → Acts Always (addMention n p) s t (taken.Refused 5 p) t
+  pub mention-refused : maxMentions ≤ s .mentions → Acts Always (addMention n p) s t (taken.Refused 5 p) t
   unfolding addMention
-  mention-refused full = refusing 5 p (λ d h fit. rw (le-ltb (length (d .mentions)) 2048 (omega (arith, h .counts .mentions))))
+  mention-refused full = refusing 5 p (λ d h fit. rw (le-ltb (length (d .mentions)) maxMentions (omega (arith, h .counts .mentions))))
 
-  mention-proceeds : s .mentions < 2048 → {h g j : ℕ} → Pushed (s .mentions) (s .here) (s .there) (s .named) h g j → h < 2048 → g < 2048
+  mention-proceeds : s .mentions < maxMentions → {h g j : ℕ} → Pushed (s .mentions) (s .here) (s .there) (s .named) h g j → h < maxMentions → g < maxMentions
       → Acts Always (addMention n p) s t (taken.Reading (mentionedAt s h g j)) t
   mention-proceeds less {h} {g} {j} push bh bg =
       record {
@@ -306,7 +306,7 @@ module _ {s : Reader} (b : Bounded s) (n : List ℕ) (p : ℕ) (t : List ℕ) wh
         meaning =
             λ d m fit.
             let c = m .counts in
-            let few : length (d .mentions) < 2048 = omega (arith, c .mentions) in
+            let few : length (d .mentions) < maxMentions = omega (arith, c .mentions) in
             let l : length (d .mentions ++ (record { name = n; place = p } ∷ [])) ≡ length (d .mentions) + 1 =
             length-append (d .mentions) (record { name = n; place = p } ∷ []) in
             proceeding (mention-added d p n few)
@@ -318,10 +318,10 @@ module _ {s : Reader} (b : Bounded s) (n : List ℕ) (p : ℕ) (t : List ℕ) wh
 -- ---- mentions in the lent scratch
 
 module _ (s : Reader) (name : List ℕ) (p : ℕ) (pend : List ℕ) where
-  pub scratch-full : 2048 ≤ s .mentions → MentionKept s name p pend pend
+  pub scratch-full : maxMentions ≤ s .mentions → MentionKept s name p pend pend
   scratch-full full = record { size = refl; all = λ ms e less kept. absurd (omega arith) }
 
-  module _ (whole : length pend ≡ scratchLength) (less : s .mentions < 2048) (short : length name ≤ 64) (low : p < 4294967296) where
+  module _ (whole : length pend ≡ scratchLength) (less : s .mentions < maxMentions) (short : length name ≤ maxName) (low : p < 4294967296) where
     abbrev here : ℕ
     here = mentionLength * s .mentions
 
@@ -403,8 +403,8 @@ module _ (s : Reader) (name : List ℕ) (p : ℕ) (pend : List ℕ) where
     scratch-stored f g = rw (g, f) scratch-kept
 
 -- both at once
-pub mention-put : {s : Reader} → Bounded s → (n : List ℕ) (p : ℕ) (pend : List ℕ) → (length pend ≡ scratchLength) × (length n ≤ 64) × (p < 4294967296) → s .mentions < 2048
-    → {h g j : ℕ} → Pushed (s .mentions) (s .here) (s .there) (s .named) h g j → h < 2048 → g < 2048
+pub mention-put : {s : Reader} → Bounded s → (n : List ℕ) (p : ℕ) (pend : List ℕ) → (length pend ≡ scratchLength) × (length n ≤ maxName) × (p < 4294967296) → s .mentions < maxMentions
+    → {h g j : ℕ} → Pushed (s .mentions) (s .here) (s .there) (s .named) h g j → h < maxMentions → g < maxMentions
     → {m r : List ℕ} → m ≡ sets pend (mentionLength * s .mentions) (length n ∷ n) → r ≡ sets m (mentionLength * s .mentions + nameLength) (fourBytes p)
     → ((t : List ℕ) → Acts Always (addMention n p) s t (taken.Reading (mentionedAt s h g j)) t) × MentionKept s n p pend r
 mention-put {s} b n p pend fit less push bh bg f g =
@@ -474,7 +474,7 @@ module _ {s : Reader} (b : Bounded s) (neg : Bool) (v : ℕ) (o : Bool) (p : ℕ
 pub operand-last : (k : ℕ) → (k ≡ 0 → ⊥) → (k ≡ 1 → ⊥) → (k ≡ 2 → ⊥) → (k ≡ 3 → ⊥) → operandFrom k ≡ Operand.blocks
 operand-last k a b c d = List·getD-eq-default (Operand.none ∷ Operand.number ∷ Operand.registers ∷ Operand.block ∷ []) Operand.blocks {n = k} (omega arith)
 
-operand-from : (o : Operand) → operandFrom (shapeOperand o) ≡ o
+operand-from : (o : Operand) → operandFrom (operandNumber o) ≡ o
 operand-from Operand.none = refl
 operand-from Operand.number = refl
 operand-from Operand.registers = refl
@@ -492,7 +492,7 @@ row-put s u k {x} e {t} {l} {r} {o} et el er eo put = put ∙ ap (λ (v : List �
     row = rw (et, el, er, eo, e, operand-from (operandOf (formOf (s .op))))
 
 module _ {d : Draft} {s : Reader} (c : Counts d s) where
-  operand-is : (o : Operand) → operandAt o s ≡ operandNumber o (entryCount (openFunction d)) (d .parts)
+  operand-is : (o : Operand) → operandAt o s ≡ operandCell o (entryCount (openFunction d)) (d .parts)
   operand-is Operand.none = refl
   operand-is Operand.number = c .number
   operand-is Operand.registers = omega (arith, c .entries, c .own)
@@ -513,11 +513,11 @@ counts-written {d} {s} c w own =
     refl refl none refl refl none
 
 module _ {s : Reader} (b : Bounded s) (p : ℕ) (t : List ℕ) where
-  pub row-refused : 1024 ≤ s .rows → Acts OwnEntries (endInstruction p) s t (taken.Refused 5 p) t
+  pub row-refused : maxRows ≤ s .rows → Acts OwnEntries (endInstruction p) s t (taken.Refused 5 p) t
   unfolding endInstruction draftRows
-  row-refused full = refusing 5 p (λ d h fit. rw (le-ltb (length (openRows d)) 1024 (omega (arith, h .counts .rows))))
+  row-refused full = refusing 5 p (λ d h fit. rw (le-ltb (length (openRows d)) maxRows (omega (arith, h .counts .rows))))
 
-  pub row-proceeds : s .rows < 1024 → s .functions < 16 → {t′ : List ℕ} {k : ℕ} → k ≡ functionAt (s .functions) + rowsOffset + rowLength * s .rows → t′ ≡ sets t k (rowAt s)
+  pub row-proceeds : s .rows < maxRows → s .functions < maxFunctions → {t′ : List ℕ} {k : ℕ} → k ≡ functionAt (s .functions) + rowsOffset + rowLength * s .rows → t′ ≡ sets t k (rowAt s)
       → Acts OwnEntries (endInstruction p) s t (taken.Reading (writtenAt s)) t′
   row-proceeds room few {t′} {k} place e =
       record {
@@ -527,7 +527,7 @@ module _ {s : Reader} (b : Bounded s) (p : ℕ) (t : List ℕ) where
             λ d h own.
             let c = h .counts in
             let q : functionAt (s .functions) ≡ functionAt (length (d .functions)) = ap functionAt (c .functions) in
-            let room′ : length (openRows d) < 1024 = omega (arith, c .rows) in
+            let room′ : length (openRows d) < maxRows = omega (arith, c .rows) in
             proceeding (instruction-ended d p room′)
             (stored h (ends-instruction d (h .within) own (omega (arith, c .functions)) room′ (omega (arith, c .rows))) (e ∙ ap (λ (r : List ℕ). sets t k r) (row-is c))
             (counts-written c (h .within) own));

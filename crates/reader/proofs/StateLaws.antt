@@ -8,7 +8,7 @@ use native.Mathlib.Omega.{arith}
 use lib.ListN.{length, length-append}
 use lib.Seq.{sets, length-sets}
 use Rattle.table.specs.Named.{firstNamed}
-use Rattle.language.specs.Programs.{Register, noBlock, rowsOf, entryCount}
+use Rattle.language.specs.Programs.{Register, noBlock, rowsOf, entryCount, maxFunctions}
 use Rattle.language.specs.Table.{functionAt, blockLength, blockNamesOffset, functionLength, functionNamesOffset, registerLength, registerNamesOffset}
 use Rattle.language.specs.Reading.{Draft, ActOutcome, functionNumber, registerNumber, blockNumber}
 use Rattle.reader.specs.Draft.{Stores, openRows}
@@ -55,8 +55,8 @@ module _ {Fit : Draft → Type 0} {act : Draft → ActOutcome} {s : Reader} {t :
 
 -- ---- names looked for in the table
 
-module _ {d : Draft} {s : Reader} {t : List ℕ} (h : Holds d s t) (less : s .functions < 16) (n : List ℕ) where
-  few : length (d .functions) < 16
+module _ {d : Draft} {s : Reader} {t : List ℕ} (h : Holds d s t) (less : s .functions < maxFunctions) (n : List ℕ) where
+  few : length (d .functions) < maxFunctions
   few = omega (arith, h .counts .functions)
 
   pub function-found : firstNamed t functionNamesOffset functionLength (s .functions) n ≡ functionNumber (d .functions) n

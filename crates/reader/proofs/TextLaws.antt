@@ -26,7 +26,7 @@ use Rattle.language.proofs.NameLaws.{isSpelled, names-spelled}
 use Rattle.language.proofs.ReadingLaws.{refusal-stands}
 use Rattle.grammar.specs.Ready.{isTop}
 use Rattle.grammar.proofs.Ready.{ready-start}
-use Rattle.lexer.specs.Lexing.{part, Stands, Means, Finds, tokenBytes, Gives, Scanned, GivesLast, Finished, lexerFrom}
+use Rattle.lexer.specs.Lexing.{part, Stands, Means, Finds, tokenBytes, Gives, Scanned, GivesLast, LexerFinished, lexerFrom}
 use Rattle.lexer.specs.declared.Lexer.{Lexer}
 use Rattle.lexer.specs.declared.Lexed.{Lexed}
 use Rattle.lexer.specs.declared.Found.{Found}
@@ -36,7 +36,7 @@ use Rattle.lexer.specs.declared.Token.the-variants as tokens
 use Rattle.lexer.proofs.Folds.{stands-first, lex-onward, read-bytes, take-part, reads-on}
 use Rattle.reader.specs.Draft.{closedTable}
 use Rattle.reader.specs.State.{Bounded, Counts, betweenAt}
-use Rattle.reader.specs.Parse.{standing, Follows, Reads, Reached, Lent, Placed, Takes, PlacedAt, FoundIn, TakesFound, TakesBoth, Nexts, Told}
+use Rattle.reader.specs.Parse.{standing, Follows, Reads, ReaderReached, Lent, Placed, Takes, PlacedAt, FoundIn, TakesFound, TakesBoth, Nexts, Told}
 use Rattle.reader.specs.declared.state.Reader.{Reader}
 use Rattle.reader.specs.declared.state.Taken.{Taken}
 use Rattle.reader.specs.declared.state.Taken.the-variants as taken
@@ -129,7 +129,7 @@ bytes-take zero xs h = tt
 bytes-take (suc n) [] h = tt
 bytes-take (suc n) (x ∷ xs) h = (h .0, bytes-take n xs (h .1))
 
-spelled-short : (n : List ℕ) → T (spelled n) → length n ≤ 64
+spelled-short : (n : List ℕ) → T (spelled n) → length n ≤ maxName
 unfolding spelled
 spelled-short n h =
     let a = whole (foldl spell Spelling.none n) in
@@ -138,7 +138,7 @@ spelled-short n h =
 
 -- what stands in the text, its names spelled, may be taken
 module _ (text : List ℕ) where
-  short-token : (p : ℕ) {x : Tokenᶜ} {m : Token} → Means text p x m → p + tokenBytes x ≤ length text → T (isSpelled (Foundᴸ.token p m)) → tokenBytes x ≤ 64
+  short-token : (p : ℕ) {x : Tokenᶜ} {m : Token} → Means text p x m → p + tokenBytes x ≤ length text → T (isSpelled (Foundᴸ.token p m)) → tokenBytes x ≤ maxName
   short-token p (Means.name n) h k =
       omega (arith, spelled-short (take n (drop p text)) k, length-take n (drop p text), length-drop p text)
   short-token p (Means.word w) h k = omega arith
@@ -211,7 +211,7 @@ module _ (text : List ℕ) (c : Reader) (t pend : List ℕ) where
   found-token p x k parse h fs (Finds.token q y m means b) = k parse h m means
 
   module _ (f : Found) (r : Taken) (t₁ pend₁ : List ℕ) (first : TakesFound text f c t pend r t₁ pend₁) where
-    pub found-reached : FoundIn text f → Reached c t pend → (q : Reader) → r ≡ taken.Reading q → Reached q t₁ pend₁
+    pub found-reached : FoundIn text f → ReaderReached c t pend → (q : Reader) → r ≡ taken.Reading q → ReaderReached q t₁ pend₁
     found-reached i h q e =
         record {
           parse = foldl meaning.takeToken (h .parse) (i .one);
@@ -298,8 +298,8 @@ module _ (text : List ℕ) (f g : Found) (c : Reader) (t pend : List ℕ) where
     one : k ≡ 1 → h ≡ g → TakesFound text f c t pend (taken.Reading q) t₁ pend₁ → Halfway k h q t₁ pend₁
     both : k ≡ 2 → TakesBoth text f g c t pend (taken.Reading q) t₁ pend₁ → Halfway k h q t₁ pend₁
 
-  pub both-reached : FoundIn text f → FoundIn text g → Reached c t pend → {q : Reader} {t₁ pend₁ : List ℕ}
-      → TakesBoth text f g c t pend (taken.Reading q) t₁ pend₁ → Reached q t₁ pend₁
+  pub both-reached : FoundIn text f → FoundIn text g → ReaderReached c t pend → {q : Reader} {t₁ pend₁ : List ℕ}
+      → TakesBoth text f g c t pend (taken.Reading q) t₁ pend₁ → ReaderReached q t₁ pend₁
   both-reached i j h takes =
       record { parse = foldl meaning.takeToken (h .parse) (i .one ++ j .one); reads = takes (h .parse) (h .reads) (i .one) (j .one) (i .finds) (j .finds) }
 
@@ -309,7 +309,7 @@ module _ (text : List ℕ) (f g : Found) (c : Reader) (t pend : List ℕ) where
     half-found i j (Halfway.one a e takes) l = rw e j
     half-found i j (Halfway.both a takes) l = absurd (omega arith)
 
-    pub half-reached : FoundIn text f → FoundIn text g → Reached c t pend → Halfway k h q t₁ pend₁ → Reached q t₁ pend₁
+    pub half-reached : FoundIn text f → FoundIn text g → ReaderReached c t pend → Halfway k h q t₁ pend₁ → ReaderReached q t₁ pend₁
     half-reached i j s (Halfway.none a e e₁ e₂ e₃) = rw (e₁, e₂, e₃) s
     half-reached i j s (Halfway.one a e takes) = found-reached text c t pend f (taken.Reading q) t₁ pend₁ takes i s q refl
     half-reached i j s (Halfway.both a takes) = both-reached i j s takes
@@ -351,7 +351,7 @@ pub record Midway (text t pend : List ℕ) (l : Lexer) (c : Reader) : Type 0 whe
 pub midway-start : (text t pend : List ℕ) → Bytes text → t ≡ zeros tableLength → Midway text t pend (lexerFrom 0 0 0 false 0 false) (betweenAt 0)
 midway-start text t pend b e = record { bytes = b; order = lit≤ tt; within = omega arith; lexer = stands-first text; parse = reads-start t pend e }
 
-pub midway-reached : {text t pend : List ℕ} {l : Lexer} {c : Reader} → Midway text t pend l c → Reached c t pend
+pub midway-reached : {text t pend : List ℕ} {l : Lexer} {c : Reader} → Midway text t pend l c → ReaderReached c t pend
 midway-reached {text} {l = l} h = record { parse = readTo text (l .next) .parse; reads = h .parse }
 
 module _ {text t pend : List ℕ} {l : Lexer} {c : Reader} (h : Midway text t pend l c) where
@@ -403,7 +403,7 @@ module _ {text t pend : List ℕ} {l : Lexer} {c : Reader} (h : Midway text t pe
           (told-refused (still-refused (still-refused reads-further k (rest .found)) k (lexEnd (rest .lexer))) k t₂)
 
   -- what the text's end ends
-  module _ {f : Found} (ends : Finished text l f) (at-end : length text ≤ l .next) where
+  module _ {f : Found} (ends : LexerFinished text l f) (at-end : length text ≤ l .next) where
     abbrev last : GivesLast text (readTo text (l .next) .lexer) f
     last = ends .gives (readTo text (l .next) .lexer) (h .lexer)
 

@@ -40,15 +40,15 @@ leftCell g x = cond (ltb 0 (sourceCount g)) (getD (x .sources) 0 0) 0
 abbrev pub rightCell : Form → Parts → ℕ
 rightCell g x = cond (ltb 1 (sourceCount g)) (getD (x .sources) 1 0) 0
 
-abbrev pub operandNumber : Operand → ℕ → Parts → ℕ
-operandNumber Operand.none n x = 0
-operandNumber Operand.number n x = x .number
-operandNumber Operand.registers n x = n + 65536 * length (x .entries)
-operandNumber Operand.block n x = getD (x .mentions) 0 0
-operandNumber Operand.blocks n x = getD (x .mentions) 0 0 + 65536 * getD (x .mentions) 1 0
+abbrev pub operandCell : Operand → ℕ → Parts → ℕ
+operandCell Operand.none n x = 0
+operandCell Operand.number n x = x .number
+operandCell Operand.registers n x = n + 65536 * length (x .entries)
+operandCell Operand.block n x = getD (x .mentions) 0 0
+operandCell Operand.blocks n x = getD (x .mentions) 0 0 + 65536 * getD (x .mentions) 1 0
 
 abbrev pub cellsAs : Form → ℕ → Parts → List ℕ
-cellsAs g n x = x .op ∷ targetCell g x ∷ leftCell g x ∷ rightCell g x ∷ eightBytes (operandNumber (operandOf g) n x)
+cellsAs g n x = x .op ∷ targetCell g x ∷ leftCell g x ∷ rightCell g x ∷ eightBytes (operandCell (operandOf g) n x)
 
 unfoldable pub instructionCells : ℕ → Parts → List ℕ
 instructionCells n x = cellsAs (formOf (x .op)) n x
@@ -75,7 +75,7 @@ unfoldable pub openRowCells : Draft → List ℕ
 openRowCells d = pad rowsLength (gatherFrom (λ r. length (entriesOf r)) pendingCells 0 (openRows d))
 
 unfoldable pub openEntries : Draft → List ℕ
-openEntries d = pad 1024 (gather entriesOf (openRows d) ++ d .parts .entries)
+openEntries d = pad maxEntries (gather entriesOf (openRows d) ++ d .parts .entries)
 
 unfoldable pub openCells : Draft → List ℕ
 openCells d = openHead d ++ (openRegisters d ++ (openBlocks d ++ (openRowCells d ++ openEntries d)))

@@ -87,7 +87,7 @@ pub data Closes (t : List ℕ) : ActOutcome → Taken → Type 0 where
 
 -- A function's end in code, from the state s and the table t to r and t′, does what the definition does to every draft that s, t and the
 -- mentions put down stand for, no block and no phi entries being in hand.
-pub record Ends (s : Reader) (t pend : List ℕ) (p : ℕ) (r : Taken) (t′ : List ℕ) : Type 0 where
+pub record EndsFunction (s : Reader) (t pend : List ℕ) (p : ℕ) (r : Taken) (t′ : List ℕ) : Type 0 where
   pub kept : KeepsBounds s r
   pub size : length t′ ≡ length t
   pub meaning :

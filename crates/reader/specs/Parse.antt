@@ -5,13 +5,13 @@ use mathlib.Core.List.{List, [], _++_, foldl}
 use Prim.Native.Nat.{ℕ, _+_, _≤_, _<_}
 use lib.Dec.{T}
 use lib.ListN.{length, take, drop}
-use Rattle.language.specs.Programs.{Program, noBlock, entriesOf}
+use Rattle.language.specs.Programs.{Program, noBlock, entriesOf, maxFunctions, maxName}
 use Rattle.language.specs.Table.{cells, tableLength}
 use Rattle.language.specs.Tokens.{Token as Tokenᴸ, Found as Foundᴸ}
 use Rattle.language.specs.Grammar.{Stage, Act as Actᴸ}
-use Rattle.language.specs.Reading.{Draft, Parse, Reading, rowOf, markSsa, setResult, nameFunction, nameRegister, nameBlock, endBlock, beginInstruction, setTarget, setInstruction, addSource, addEntry, addMention, setNumber, endInstruction}
+use Rattle.language.specs.Reading.{Draft, Parse, Reading, rowOf, markSsa, setResult, nameFunction, nameRegister, nameBlock, endBlock, beginInstruction, setTarget, setInstruction, addSource, addEntry, addMention, setNumber, endInstruction, maxMentions}
 use Rattle.language.specs.Reading as meaning
-use Rattle.grammar.specs.Meaning.{Spot, stageIs, actOf, actBytes}
+use Rattle.grammar.specs.Meaning.{TokenSpot, stageIs, actOf, actBytes}
 use Rattle.grammar.specs.Ready.{isTop, StageReady}
 use Rattle.grammar.specs.declared.Act.{Act}
 use Rattle.lexer.specs.declared.Lexer.{Lexer}
@@ -23,8 +23,8 @@ use Rattle.lexer.specs.declared.Found.the-variants as founds
 use Rattle.reader.specs.Draft.{WithinSizes, openTable, closedTable, depth, InHand}
 use Rattle.reader.specs.State.{Bounded, Counts, Pending, Acts, Always, MentionKept, ifRoomAt, scratchLength}
 use Rattle.lexer.specs.Numbers.{amountFrom, amountOf}
-use Rattle.lexer.specs.Lexing.{Means, Finds, tokenBytes, Scanned, Finished}
-use Rattle.reader.specs.Ending.{Ends}
+use Rattle.lexer.specs.Lexing.{Means, Finds, tokenBytes, Scanned, LexerFinished}
+use Rattle.reader.specs.Ending.{EndsFunction}
 use Rattle.reader.specs.declared.state.Reader.{Reader}
 use Rattle.reader.specs.declared.state.Taken.{Taken}
 use Rattle.reader.specs.declared.state.Taken.the-variants as taken
@@ -52,7 +52,7 @@ pub data Reads (t pend : List ℕ) : Parse → Taken → Type 0 where
   reading : (s : Stage) (d : Draft) (c : Reader) → Follows s d c t pend → Reads t pend (Parse.reading s d) (taken.Reading c)
 
 -- Some tokens bring the reader to this state.
-pub record Reached (c : Reader) (t pend : List ℕ) : Type 0 where
+pub record ReaderReached (c : Reader) (t pend : List ℕ) : Type 0 where
   pub parse : Parse
   pub reads : Reads t pend parse (taken.Reading c)
 
@@ -61,12 +61,12 @@ pub record Lent (text t pend found : List ℕ) : Type 0 where
   pub size : length text ≤ 65536
   pub table : length t ≡ tableLength
   pub pending : length pend ≡ scratchLength
-  pub blocks : length found ≡ 2048
+  pub blocks : length found ≡ maxMentions
 
 -- A token at p that the text holds.
 pub record Placed (text : List ℕ) (p : ℕ) (x : Token) : Type 0 where
   pub held : p + tokenBytes x ≤ length text
-  pub short : tokenBytes x ≤ 64
+  pub short : tokenBytes x ≤ maxName
 
 -- One more token.
 abbrev pub Takes : (text : List ℕ) (p : ℕ) (x : Token) (c : Reader) (t pend : List ℕ) (r : Taken) (t′ pend′ : List ℕ) → Type 0
@@ -103,7 +103,7 @@ pub data Told (t : List ℕ) : Reading → Taken → Type 0 where
 -- What comes next in a text: what a scan finds; at the end what the end ends, and the end.
 pub data Nexts (text : List ℕ) (c : Lexer) (r : Lexed) : Type 0 where
   scanned : c .next < length text → Scanned text c r → Nexts text c r
-  ended : length text ≤ c .next → Finished text c (r .first) → r .second ≡ founds.Token (length text) tokens.End → Nexts text c r
+  ended : length text ≤ c .next → LexerFinished text c (r .first) → r .second ≡ founds.Token (length text) tokens.End → Nexts text c r
 
 -- ---- an act
 
@@ -132,11 +132,11 @@ inFunction Actᴸ.endBlock = true
 inFunction Actᴸ.endFunction = true
 
 -- The token at p of the text.
-abbrev pub spotAt : (text : List ℕ) (p : ℕ) → (ℕ → ℕ) → Spot
-spotAt text p large = record { text = text; place = p; large = large }
+abbrev pub tokenSpot : (text : List ℕ) (p : ℕ) → (ℕ → ℕ) → TokenSpot
+tokenSpot text p large = record { text = text; place = p; large = large }
 
 abbrev pub wantsFunction : Act → Bool
-wantsFunction a = inFunction (actOf (spotAt [] 0 (λ v. v)) a)
+wantsFunction a = inFunction (actOf (tokenSpot [] 0 (λ v. v)) a)
 
 -- What an act asks for: the bytes it names, and room for the function it is in.
 pub record Enabled (text t pend found : List ℕ) (p : ℕ) (c : Reader) (a : Act) : Type 0 where
@@ -144,7 +144,7 @@ pub record Enabled (text t pend found : List ℕ) (p : ℕ) (c : Reader) (a : Ac
   pub lent : Lent text t pend found
   pub held : p + actBytes a ≤ length text
   pub short : actBytes a ≤ 64
-  pub room : T (wantsFunction a) → c .functions < 16
+  pub room : T (wantsFunction a) → c .functions < maxFunctions
 
 -- Nothing lent is changed, and this is the answer.
 abbrev pub LeavesLent : (t pend : List ℕ) (r : Taken) (t′ pend′ : List ℕ) → Taken → Type 0
@@ -182,4 +182,4 @@ Performs text p c t pend r t′ pend′ (Act.SetNumber neg v over) =
 Performs text p c t pend r t′ pend′ Act.EndInstruction =
     Acts (λ d. entriesOf (rowOf (d .parts)) ≡ d .parts .entries) (endInstruction p) c t r t′ × (pend′ ≡ pend)
 Performs text p c t pend r t′ pend′ Act.EndBlock = Acts Always (endBlock p) c t r t′ × (pend′ ≡ pend)
-Performs text p c t pend r t′ pend′ Act.EndFunction = Ends c t pend p r t′ × (pend′ ≡ pend)
+Performs text p c t pend r t′ pend′ Act.EndFunction = EndsFunction c t pend p r t′ × (pend′ ≡ pend)

@@ -6,7 +6,7 @@ use Prim.Native.Nat.{ℕ, _+_, _-_, _*_, _≤_, _<_, min}
 use lib.Dec.{ltb}
 use lib.ListN.{length, getD}
 use Rattle.laws.specs.Lists.{gather}
-use Rattle.language.specs.Programs.{entryCount}
+use Rattle.language.specs.Programs.{entryCount, maxRows, maxEntries, maxBlocks, maxRegisters, maxFunctions}
 use Rattle.language.specs.Instructions.{Operand, formOf, hasTarget, sourceCount, operandOf}
 use Rattle.language.specs.Table.{nameAt, four, eightBytes, nameLength}
 use Rattle.language.specs.Reading.{Draft, Mention, ActOutcome, openFunction, maxMentions}
@@ -18,20 +18,20 @@ use Rattle.reader.specs.declared.state.Taken.the-variants as taken
 
 -- The bounds of every state, whatever it stands for.
 pub record Bounded (s : Reader) : Type 0 where
-  pub functions : s .functions ≤ 16
-  pub registers : s .registers ≤ 256
+  pub functions : s .functions ≤ maxFunctions
+  pub registers : s .registers ≤ maxRegisters
   pub params : s .params ≤ s .registers
-  pub blocks : s .blocks ≤ 64
-  pub rows : s .rows ≤ 1024
+  pub blocks : s .blocks ≤ maxBlocks
+  pub rows : s .rows ≤ maxRows
   pub first : s .first ≤ s .rows
-  pub entries : s .entries ≤ 1024
+  pub entries : s .entries ≤ maxEntries
   pub own : s .own ≤ s .entries
-  pub mentions : s .mentions ≤ 2048
+  pub mentions : s .mentions ≤ maxMentions
   pub target : s .target < 256
   pub left : s .left < 256
   pub right : s .right < 256
-  pub here : s .here < 2048
-  pub there : s .there < 2048
+  pub here : s .here < maxMentions
+  pub there : s .there < maxMentions
 
 -- The numbers of a draft.
 pub record Counts (d : Draft) (s : Reader) : Type 0 where
@@ -177,6 +177,6 @@ pub record MentionKept (s : Reader) (name : List ℕ) (p : ℕ) (pend pend′ : 
   pub all :
       (ms : List Mention)
       → s .mentions ≡ length ms
-      → s .mentions < 2048
+      → s .mentions < maxMentions
       → Pending ms pend
       → Pending (ms ++ (record { name = name; place = p } ∷ [])) pend′

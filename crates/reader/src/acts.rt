@@ -1,6 +1,7 @@
 // Declarations: functions, registers, blocks. Each tests 5, then 6, and puts the name down in the table.
 use crate::state::Reader;
 use crate::state::Taken;
+use numbers::put_two;
 use table::BLOCK_LENGTH;
 use table::BLOCK_NAMES_OFFSET;
 use table::BLOCKS_OFFSET;
@@ -15,12 +16,11 @@ use table::REGISTER_NAMES_OFFSET;
 use table::find_name;
 use table::put_name;
 use table::put_register;
-use table::put_two;
 ghost use mathlib.Core.Path.{_≡_};
 ghost use mathlib.Core.List.{List, []};
 ghost use Prim.Native.Nat.{ℕ, _<_, _≤_};
 ghost use lib.ListN.{length};
-ghost use Rattle.language.specs.Programs.{noBlock};
+ghost use Rattle.language.specs.Programs.{noBlock, maxFunctions, maxName};
 ghost use Rattle.language.specs.Reading.{markSsa, setResult, nameFunction, nameRegister, nameBlock, endBlock};
 ghost use Rattle.language.specs.Table.{tableLength};
 ghost use Rattle.reader.specs.State.{Bounded, Acts, Always, ifRoomAt};
@@ -55,7 +55,7 @@ impl Reader {
     // The function's name: 6 if a function has it.
     pub fn name_function(self, t: &mut [u8], name: &[u8], p: usize) -> Taken
         requires { ⌜ Bounded self ⌝ }
-        requires { ⌜ (length (now t) ≡ tableLength) × (length (now name) ≤ 64) ⌝ }
+        requires { ⌜ (length (now t) ≡ tableLength) × (length (now name) ≤ maxName) ⌝ }
         ensures { λ r. ⌜ Acts (λ d. d .function .name ≡ []) (nameFunction (now (name .entry)) p) self (now (t .entry)) r (now (t .exit)) ⌝ }
     {
         let n = self.functions;
@@ -89,7 +89,7 @@ impl Reader {
         p: usize,
     ) -> Taken
         requires { ⌜ Bounded self ⌝ }
-        requires { ⌜ (self .functions < 16) × (length (now t) ≡ tableLength) × (length (now name) ≤ 64) ⌝ }
+        requires { ⌜ (self .functions < maxFunctions) × (length (now t) ≡ tableLength) × (length (now name) ≤ maxName) ⌝ }
         requires { ⌜ more ≤ 1 ⌝ }
         ensures { λ r. ⌜ Acts Always (nameRegister more kind (now (name .entry)) p) self (now (t .entry)) r (now (t .exit)) ⌝ }
     {
@@ -120,7 +120,7 @@ impl Reader {
     // A block's name, of no bytes for entry: 6 if a block has it.
     pub fn name_block(self, t: &mut [u8], name: &[u8], p: usize) -> Taken
         requires { ⌜ Bounded self ⌝ }
-        requires { ⌜ (self .functions < 16) × (length (now t) ≡ tableLength) × (length (now name) ≤ 64) ⌝ }
+        requires { ⌜ (self .functions < maxFunctions) × (length (now t) ≡ tableLength) × (length (now name) ≤ maxName) ⌝ }
         ensures { λ r. ⌜ Acts (λ d. d .block ≡ noBlock) (nameBlock (now (name .entry)) p) self (now (t .entry)) r (now (t .exit)) ⌝ }
     {
         let n = self.blocks;
@@ -138,7 +138,7 @@ impl Reader {
     // A block's closing brace: its first row and its count of rows are put down.
     pub fn end_block(mut self, t: &mut [u8], p: usize) -> Taken
         requires { ⌜ Bounded self ⌝ }
-        requires { ⌜ (self .functions < 16) × (length (now t) ≡ tableLength) ⌝ }
+        requires { ⌜ (self .functions < maxFunctions) × (length (now t) ≡ tableLength) ⌝ }
         ensures { λ r. ⌜ Acts Always (endBlock p) self (now (t .entry)) r (now (t .exit)) ⌝ }
     {
         let n = self.blocks;

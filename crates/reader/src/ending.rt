@@ -6,11 +6,18 @@ ghost use lib.ListN.{length, getD, take};
 ghost use lib.Seq.{sets};
 ghost use Rattle.language.specs.Table.{nameAt, InTable, tableLength};
 ghost use Rattle.reader.specs.State.{Bounded, scratchLength};
-ghost use Rattle.reader.specs.Ending.{Resolved, patchRow, patchRows, headAt, closedAt, Ends};
+ghost use Rattle.reader.specs.Ending.{Resolved, patchRow, patchRows, headAt, closedAt, EndsFunction};
+ghost use Rattle.language.specs.Programs.{maxRows, maxBlocks, maxFunctions};
+ghost use Rattle.language.specs.Reading.{maxMentions};
 use crate::rows::MENTION;
 use crate::state::Reader;
 use crate::state::Taken;
 use instructions::ops;
+use numbers::four_at;
+use numbers::put_eight;
+use numbers::put_two;
+use numbers::two_at;
+use numbers::wide;
 use table::BLOCK_COUNT_OFFSET;
 use table::BLOCK_LENGTH;
 use table::BLOCK_NAMES_OFFSET;
@@ -22,12 +29,7 @@ use table::REGISTER_COUNT_OFFSET;
 use table::RESULT_OFFSET;
 use table::ROW_LENGTH;
 use table::find_name;
-use table::four_at;
-use table::put_eight;
-use table::put_two;
 use table::row_op;
-use table::two_at;
-use table::wide;
 
 // The name whose length is cell k: `name_at`, but for a scratch that need not go on for 256 cells behind it.
 fn mentioned(pend: &[u8], k: usize) -> &[u8]
@@ -52,8 +54,8 @@ fn resolve(
     mentions: usize,
     found: &mut [u8],
 ) -> usize
-    requires { ⌜ (InTable (now t) a) × (blocks ≤ 64) × (mentions ≤ 2048) ⌝ }
-    requires { ⌜ (length (now pend) ≡ scratchLength) × (length (now found) ≡ 2048) ⌝ }
+    requires { ⌜ (InTable (now t) a) × (blocks ≤ maxBlocks) × (mentions ≤ maxMentions) ⌝ }
+    requires { ⌜ (length (now pend) ≡ scratchLength) × (length (now found) ≡ maxMentions) ⌝ }
     ensures { λ r. ⌜ Resolved (now (t .entry)) a blocks (now (pend .entry)) mentions r (now (found .exit)) ⌝ }
 {
     let mut k = 0;
@@ -87,7 +89,7 @@ fn block_of(found: &[u8], mentions: usize, m: usize) -> usize
 
 // A jump or branch gets its blocks' numbers in place of the mentions'.
 fn patch_row(t: &mut [u8], a: usize, r: usize, found: &[u8], mentions: usize)
-    requires { ⌜ (InTable (now t) a) × (r < 1024) × (mentions ≤ length (now found)) ⌝ }
+    requires { ⌜ (InTable (now t) a) × (r < maxRows) × (mentions ≤ length (now found)) ⌝ }
     ensures { λ _. ⌜ now (t .exit) ≡ patchRow (now (t .entry)) a (take mentions (now (found .entry))) r ⌝ }
 {
     let op = row_op(t, a, r);
@@ -106,7 +108,7 @@ fn patch_row(t: &mut [u8], a: usize, r: usize, found: &[u8], mentions: usize)
 
 // All rows of the function at a.
 fn patch(t: &mut [u8], a: usize, rows: usize, found: &[u8], mentions: usize)
-    requires { ⌜ (InTable (now t) a) × (rows ≤ 1024) × (mentions ≤ length (now found)) ⌝ }
+    requires { ⌜ (InTable (now t) a) × (rows ≤ maxRows) × (mentions ≤ length (now found)) ⌝ }
     ensures { λ _. ⌜ now (t .exit) ≡ patchRows (now (t .entry)) a (take mentions (now (found .entry))) rows ⌝ }
 {
     let mut r = 0;
@@ -132,7 +134,7 @@ impl Reader {
 
     // The state behind the closing brace: one function more is closed, and the stage is kept.
     fn closed(self) -> Self
-        requires { ⌜ self .functions < 16 ⌝ }
+        requires { ⌜ self .functions < maxFunctions ⌝ }
         ensures { λ r. ⌜ r ≡ closedAt self ⌝ }
     {
         let stage = self.stage;
@@ -144,8 +146,8 @@ impl Reader {
     // The closing brace at p. A function is in hand, its blocks closed.
     pub fn end_function(self, t: &mut [u8], pend: &[u8], found: &mut [u8], p: usize) -> Taken
         requires { ⌜ Bounded self ⌝ }
-        requires { ⌜ (self .functions < 16) × (length (now t) ≡ tableLength) × (length (now pend) ≡ scratchLength) × (length (now found) ≡ 2048) ⌝ }
-        ensures { λ r. ⌜ Ends self (now (t .entry)) (now (pend .entry)) p r (now (t .exit)) ⌝ }
+        requires { ⌜ (self .functions < maxFunctions) × (length (now t) ≡ tableLength) × (length (now pend) ≡ scratchLength) × (length (now found) ≡ maxMentions) ⌝ }
+        ensures { λ r. ⌜ EndsFunction self (now (t .entry)) (now (pend .entry)) p r (now (t .exit)) ⌝ }
     {
         let a = self.base();
         let n = self.blocks;

@@ -13,7 +13,7 @@ ghost use Rattle.language.specs.Answers.{zeros};
 ghost use Rattle.language.specs.Reading.{read};
 ghost use Rattle.language.specs.Table.{tableLength};
 ghost use Rattle.lexer.specs.Lexing.{classTable};
-ghost use Rattle.reader.specs.Parse.{Lent, Reached, FoundIn, TakesFound, TakesBoth, Nexts, Told};
+ghost use Rattle.reader.specs.Parse.{Lent, ReaderReached, FoundIn, TakesFound, TakesBoth, Nexts, Told};
 
 impl Reader {
     // What the lexer found, if anything: 2 for a place that has no token.
@@ -26,7 +26,7 @@ impl Reader {
         f: Found,
     ) -> Taken
         requires { ⌜ Lent (now text) (now t) (now pend) (now found) ⌝ }
-        requires { ⌜ Reached self (now t) (now pend) ⌝ }
+        requires { ⌜ ReaderReached self (now t) (now pend) ⌝ }
         requires { ⌜ FoundIn (now text) f ⌝ }
         ensures { λ r. ⌜ TakesFound (now (text .entry)) f self (now (t .entry)) (now (pend .entry)) r (now (t .exit)) (now (pend .exit)) ⌝ }
     {
@@ -48,7 +48,7 @@ impl Reader {
         second: Found,
     ) -> Taken
         requires { ⌜ Lent (now text) (now t) (now pend) (now found) ⌝ }
-        requires { ⌜ Reached self (now t) (now pend) ⌝ }
+        requires { ⌜ ReaderReached self (now t) (now pend) ⌝ }
         requires { ⌜ FoundIn (now text) first × FoundIn (now text) second ⌝ }
         ensures { λ r. ⌜ TakesBoth (now (text .entry)) first second self (now (t .entry)) (now (pend .entry)) r (now (t .exit)) (now (pend .exit)) ⌝ }
     {

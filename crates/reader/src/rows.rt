@@ -6,6 +6,8 @@ use instructions::load_type;
 use instructions::number_in_range;
 use instructions::operands;
 use instructions::shape_of;
+use numbers::if_so;
+use numbers::put_four;
 use table::MAX_ENTRIES;
 use table::MAX_ROWS;
 use table::NAME_LENGTH;
@@ -13,16 +15,14 @@ use table::REGISTER_LENGTH;
 use table::REGISTER_NAMES_OFFSET;
 use table::find_name;
 use table::put_entry;
-use table::put_four;
 use table::put_name;
 use table::put_row;
-ghost use mathlib.Core.Bool.{cond};
 ghost use mathlib.Core.Path.{_≡_};
 ghost use mathlib.Core.List.{List, []};
 ghost use Prim.Native.Nat.{ℕ, _+_, _*_, _<_, _≤_};
 ghost use lib.ListN.{length};
 ghost use lib.Seq.{sets};
-ghost use Rattle.language.specs.Programs.{entriesOf};
+ghost use Rattle.language.specs.Programs.{entriesOf, maxRows, maxFunctions, maxName};
 ghost use Rattle.language.specs.Reading.{Draft, registerNumber, beginInstruction, setTarget, setInstruction, addSource, addEntry, addMention, setNumber, rowOf, endInstruction};
 ghost use Rattle.language.specs.Table.{InTable, rowLength, rowsOffset, tableLength};
 ghost use Rattle.lexer.specs.Numbers.{amountFrom, amountOf};
@@ -42,7 +42,7 @@ impl Reader {
     // A register's number by its name, or the count of registers.
     fn register_number(self, t: &[u8], name: &[u8]) -> usize
         requires { ⌜ Bounded self ⌝ }
-        requires { ⌜ (self .functions < 16) × (length (now t) ≡ tableLength) ⌝ }
+        requires { ⌜ (self .functions < maxFunctions) × (length (now t) ≡ tableLength) ⌝ }
         ensures { λ r. ⌜ ((d : Draft) → Holds d self (now (t .entry)) → r ≡ registerNumber (d .function) (now (name .entry))) ⌝ }
     {
         find_name(
@@ -86,7 +86,7 @@ impl Reader {
     // A target: 5 for one instruction too many, 7 for a name that is no register's.
     pub fn set_target(self, t: &[u8], name: &[u8], p: usize) -> Taken
         requires { ⌜ Bounded self ⌝ }
-        requires { ⌜ (self .functions < 16) × (length (now t) ≡ tableLength) × (length (now name) ≤ 64) ⌝ }
+        requires { ⌜ (self .functions < maxFunctions) × (length (now t) ≡ tableLength) × (length (now name) ≤ maxName) ⌝ }
         ensures { λ r. ⌜ Acts (λ d. d .parts .entries ≡ []) (setTarget (now (name .entry)) p) self (now (t .entry)) r (now (t .entry)) ⌝ }
     {
         if MAX_ROWS <= self.rows {
@@ -111,7 +111,7 @@ impl Reader {
     // A source: 7 for a name that is no register's.
     pub fn add_source(mut self, t: &[u8], name: &[u8], p: usize) -> Taken
         requires { ⌜ Bounded self ⌝ }
-        requires { ⌜ (self .functions < 16) × (length (now t) ≡ tableLength) × (length (now name) ≤ 64) ⌝ }
+        requires { ⌜ (self .functions < maxFunctions) × (length (now t) ≡ tableLength) × (length (now name) ≤ maxName) ⌝ }
         ensures { λ r. ⌜ Acts Always (addSource (now (name .entry)) p) self (now (t .entry)) r (now (t .entry)) ⌝ }
     {
         let r = self.register_number(t, name);
@@ -133,7 +133,7 @@ impl Reader {
     // A phi entry: 5 for one too many, 7 for a name that is no register's.
     pub fn add_entry(mut self, t: &mut [u8], name: &[u8], p: usize) -> Taken
         requires { ⌜ Bounded self ⌝ }
-        requires { ⌜ (self .functions < 16) × (length (now t) ≡ tableLength) × (length (now name) ≤ 64) ⌝ }
+        requires { ⌜ (self .functions < maxFunctions) × (length (now t) ≡ tableLength) × (length (now name) ≤ maxName) ⌝ }
         ensures { λ r. ⌜ Acts Always (addEntry (now (name .entry)) p) self (now (t .entry)) r (now (t .exit)) ⌝ }
     {
         if MAX_ENTRIES <= self.entries {
@@ -152,7 +152,7 @@ impl Reader {
     // A block that a jump mentions: its name and place are kept until the function ends.
     pub fn add_mention(mut self, pend: &mut [u8], name: &[u8], p: usize) -> Taken
         requires { ⌜ Bounded self ⌝ }
-        requires { ⌜ (length (now pend) ≡ scratchLength) × (length (now name) ≤ 64) × (p < 4294967296) ⌝ }
+        requires { ⌜ (length (now pend) ≡ scratchLength) × (length (now name) ≤ maxName) × (p < 4294967296) ⌝ }
         ensures { λ r. ⌜ ((t : List ℕ) → Acts Always (addMention (now (name .entry)) p) self t r t) ⌝ }
         ensures { λ r. ⌜ MentionKept self (now (name .entry)) p (now (pend .entry)) (now (pend .exit)) ⌝ }
     {
@@ -194,7 +194,7 @@ impl Reader {
     // The semicolon: the row is put down.
     pub fn end_instruction(mut self, t: &mut [u8], p: usize) -> Taken
         requires { ⌜ Bounded self ⌝ }
-        requires { ⌜ (self .functions < 16) × (length (now t) ≡ tableLength) ⌝ }
+        requires { ⌜ (self .functions < maxFunctions) × (length (now t) ≡ tableLength) ⌝ }
         ensures { λ r. ⌜ Acts (λ d. entriesOf (rowOf (d .parts)) ≡ d .parts .entries) (endInstruction p) self (now (t .entry)) r (now (t .exit)) ⌝ }
     {
         if MAX_ROWS <= self.rows {
@@ -224,7 +224,7 @@ impl Reader {
     // Row r of the function at a, by the shape of its instruction.
     fn put(self, t: &mut [u8], a: usize, r: usize)
         requires { ⌜ Bounded self ⌝ }
-        requires { ⌜ (InTable (now t) a) × (r < 1024) ⌝ }
+        requires { ⌜ (InTable (now t) a) × (r < maxRows) ⌝ }
         ensures { λ _. ⌜ now (t .exit) ≡ sets (now (t .entry)) (a + rowsOffset + rowLength * r) (rowAt self) ⌝ }
     {
         let op = self.op;
@@ -244,14 +244,4 @@ impl Reader {
             self.operand(shape.operand),
         );
     }
-}
-
-// n where the test holds, else 0.
-fn if_so(test: bool, n: usize) -> usize
-    ensures { λ r. ⌜ (r ≡ cond test n 0) × (r ≤ n) ⌝ }
-{
-    if test {
-        return n;
-    }
-    0
 }

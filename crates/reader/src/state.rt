@@ -5,6 +5,7 @@ ghost use mathlib.Core.Path.{_≡_};
 ghost use Prim.Native.Nat.{_≤_};
 ghost use Rattle.language.specs.Table.{functionAt};
 ghost use Rattle.reader.specs.State.{betweenAt};
+ghost use Rattle.language.specs.Programs.{maxFunctions};
 
 // `functions` are closed. Of the function in hand: its mark and return type; how many parameters, registers, closed blocks, rows and phi
 // entries it has; the first row of the block in hand; how many blocks its jumps have mentioned. Of the instruction in hand: its number,
@@ -82,7 +83,7 @@ impl Reader {
 
     // Where the function in hand begins in the table.
     pub fn base(self) -> usize
-        requires { ⌜ self .functions ≤ 16 ⌝ }
+        requires { ⌜ self .functions ≤ maxFunctions ⌝ }
         ensures { λ r. ⌜ r ≡ functionAt (self .functions) ⌝ }
     {
         function_at(self.functions)

@@ -7,7 +7,7 @@ use lexer::Token;
 ghost use mathlib.Core.Path.{_≡_};
 ghost use Prim.Native.Nat.{_+_, _≤_};
 ghost use lib.ListN.{length, take, drop};
-ghost use Rattle.reader.specs.Parse.{Lent, Placed, Reached, Takes, Enabled, Performs};
+ghost use Rattle.reader.specs.Parse.{Lent, Placed, ReaderReached, Takes, Enabled, Performs};
 
 // The n bytes of the text from p on.
 fn part(text: &[u8], p: usize, n: usize) -> &[u8]
@@ -31,7 +31,7 @@ impl Reader {
     ) -> Taken
         requires { ⌜ Lent (now text) (now t) (now pend) (now found) ⌝ }
         requires { ⌜ Placed (now text) p token ⌝ }
-        requires { ⌜ Reached self (now t) (now pend) ⌝ }
+        requires { ⌜ ReaderReached self (now t) (now pend) ⌝ }
         ensures { λ r. ⌜ Takes (now (text .entry)) p token self (now (t .entry)) (now (pend .entry)) r (now (t .exit)) (now (pend .exit)) ⌝ }
     {
         let stage = self.stage;

@@ -18,8 +18,8 @@ use Rattle.language.specs.Answers.{zeros}
 use Rattle.language.specs.Table.{eight, eightBytes}
 use Rattle.theorems.proofs.TableParts.{eight-back}
 use Rattle.records.specs.declared.Record.{Record}
-use Rattle.records.specs.Records.{Sized}
-use Rattle.records.specs.Stores.{Rising, AllSized, capacity, storeLength, recordCells, storeCells, Holds, recordAt, countOf, recordsOf}
+use Rattle.records.specs.Records.{SizedRecord}
+use Rattle.records.specs.Stores.{Rising, AllSized, capacity, storeLength, recordCells, storeCells, StoreHolds, recordAt, countOf, recordsOf, recordOffset, recordLength, timesOffset, failsOffset, tabletsOffset, readingsOffset}
 
 -- what is read past the records of a list
 abbrev pub noRecord : Record
@@ -27,22 +27,22 @@ noRecord = record { appliance = 0; time = 0; fail = 0; tablet = 0; reading = 0 }
 
 -- ---- lengths
 
-pub length-record : (r : Record) → length (recordCells r) ≡ 40
+pub length-record : (r : Record) → length (recordCells r) ≡ recordLength
 unfolding recordCells
 length-record r = refl
 
-pub length-records : (es : List Record) → length (gather recordCells es) ≡ 40 * length es
-length-records es = length-each recordCells 40 noRecord es (λ i b. length-record _)
+pub length-records : (es : List Record) → length (gather recordCells es) ≡ recordLength * length es
+length-records es = length-each recordCells recordLength noRecord es (λ i b. length-record _)
 
 -- a count and records
-pub length-before : (n : ℕ) (xs : List Record) → length (eightBytes n ++ gather recordCells xs) ≡ 8 + 40 * length xs
+pub length-before : (n : ℕ) (xs : List Record) → length (eightBytes n ++ gather recordCells xs) ≡ recordOffset (length xs)
 length-before n xs = length-append (eightBytes n) (gather recordCells xs) ∙ ap (λ (m : ℕ). 8 + m) (length-records xs)
 
 -- the count and the records, without the zeros behind them
 abbrev pub front : List Record → List ℕ
 front es = eightBytes (length es) ++ gather recordCells es
 
-pub length-front : (es : List Record) → length (front es) ≡ 8 + 40 * length es
+pub length-front : (es : List Record) → length (front es) ≡ recordOffset (length es)
 length-front es = length-before (length es) es
 
 pub length-store : (es : List Record) → length es ≤ capacity → length (storeCells es) ≡ storeLength
@@ -51,7 +51,7 @@ length-store es h = length-pad storeLength (front es) (omega (arith, length-fron
 
 -- ---- read back
 
-module _ (t : List ℕ) (i : ℕ) (r : Record) (s : Sized r) (h : At t (8 + 40 * i) (recordCells r)) where
+module _ (t : List ℕ) (i : ℕ) (r : Record) (s : SizedRecord r) (h : At t (recordOffset i) (recordCells r)) where
   -- the numbers of a record, one behind the other
   pub record-back : recordAt t i ≡ r
   unfolding recordCells
@@ -61,15 +61,15 @@ module _ (t : List ℕ) (i : ℕ) (r : Record) (s : Sized r) (h : At t (8 + 40 *
       let c = eightBytes (r .fail) in
       let d = eightBytes (r .tablet) in
       let e = eightBytes (r .reading) in
-      let h1 : At t (16 + 40 * i) (b ++ (c ++ (d ++ e))) = at-move (omega arith) (at-right a (b ++ (c ++ (d ++ e))) h) in
-      let h2 : At t (24 + 40 * i) (c ++ (d ++ e)) = at-move (omega arith) (at-right b (c ++ (d ++ e)) h1) in
-      let h3 : At t (32 + 40 * i) (d ++ e) = at-move (omega arith) (at-right c (d ++ e) h2) in
-      let h4 : At t (40 + 40 * i) e = at-move (omega arith) (at-right d e h3) in
-      let p : eight t (8 + 40 * i) ≡ r .appliance = eight-back (r .appliance) (at-left a (b ++ (c ++ (d ++ e))) h) refl ∙ mod-eq-of-lt (s .appliance) in
-      let q : eight t (16 + 40 * i) ≡ r .time = eight-back (r .time) (at-left b (c ++ (d ++ e)) h1) refl ∙ mod-eq-of-lt (s .time) in
-      let u : eight t (24 + 40 * i) ≡ r .fail = eight-back (r .fail) (at-left c (d ++ e) h2) refl ∙ mod-eq-of-lt (omega (arith, s .fail)) in
-      let v : eight t (32 + 40 * i) ≡ r .tablet = eight-back (r .tablet) (at-left d e h3) refl ∙ mod-eq-of-lt (s .tablet) in
-      let w : eight t (40 + 40 * i) ≡ r .reading = eight-back (r .reading) h4 refl ∙ mod-eq-of-lt (s .reading) in
+      let h1 : At t (timesOffset + recordLength * i) (b ++ (c ++ (d ++ e))) = at-move (omega arith) (at-right a (b ++ (c ++ (d ++ e))) h) in
+      let h2 : At t (failsOffset + recordLength * i) (c ++ (d ++ e)) = at-move (omega arith) (at-right b (c ++ (d ++ e)) h1) in
+      let h3 : At t (tabletsOffset + recordLength * i) (d ++ e) = at-move (omega arith) (at-right c (d ++ e) h2) in
+      let h4 : At t (readingsOffset + recordLength * i) e = at-move (omega arith) (at-right d e h3) in
+      let p : eight t (recordOffset i) ≡ r .appliance = eight-back (r .appliance) (at-left a (b ++ (c ++ (d ++ e))) h) refl ∙ mod-eq-of-lt (s .appliance) in
+      let q : eight t (timesOffset + recordLength * i) ≡ r .time = eight-back (r .time) (at-left b (c ++ (d ++ e)) h1) refl ∙ mod-eq-of-lt (s .time) in
+      let u : eight t (failsOffset + recordLength * i) ≡ r .fail = eight-back (r .fail) (at-left c (d ++ e) h2) refl ∙ mod-eq-of-lt (omega (arith, s .fail)) in
+      let v : eight t (tabletsOffset + recordLength * i) ≡ r .tablet = eight-back (r .tablet) (at-left d e h3) refl ∙ mod-eq-of-lt (s .tablet) in
+      let w : eight t (readingsOffset + recordLength * i) ≡ r .reading = eight-back (r .reading) h4 refl ∙ mod-eq-of-lt (s .reading) in
       λ j. record { appliance = p j; time = q j; fail = u j; tablet = v j; reading = w j }
 
 at-front : (es : List Record) → At (storeCells es) 0 (front es)
@@ -79,7 +79,7 @@ at-front es = at-pad storeLength (front es) at-self
 at-records : (es : List Record) → At (storeCells es) 8 (gather recordCells es)
 at-records es = at-right (eightBytes (length es)) (gather recordCells es) (at-front es)
 
-pub sized-at : (es : List Record) (d : Record) → AllSized es → (i : ℕ) → i < length es → Sized (getD es i d)
+pub sized-at : (es : List Record) (d : Record) → AllSized es → (i : ℕ) → i < length es → SizedRecord (getD es i d)
 sized-at [] d h i l = absurd (not-suc-le-zero l)
 sized-at (e ∷ es) d h zero l = h .0
 sized-at (e ∷ es) d h (suc i) l = sized-at es d (h .1) i (le-of-suc-le-suc l)
@@ -95,11 +95,11 @@ count-stored es h = rw (number-stored es h, le-ltb capacity (length es) h)
 
 pub record-stored : (es : List Record) (d : Record) → AllSized es → (i : ℕ) → i < length es → recordAt (storeCells es) i ≡ getD es i d
 record-stored es d h i l =
-    record-back (storeCells es) i (getD es i d) (sized-at es d h i l) (at-each recordCells 40 d es (λ j b. length-record _) i l (at-records es))
+    record-back (storeCells es) i (getD es i d) (sized-at es d h i l) (at-each recordCells recordLength d es (λ j b. length-record _) i l (at-records es))
 
 -- ---- what bytes hold
 
-module _ {s : List ℕ} {es : List Record} (h : Holds s es) where
+module _ {s : List ℕ} {es : List Record} (h : StoreHolds s es) where
   pub held-length : length s ≡ storeLength
   held-length = ap length (h .bytes) ∙ length-store es (h .room)
 
@@ -116,13 +116,13 @@ module _ {s : List ℕ} {es : List Record} (h : Holds s es) where
       ∙ map-from (recordAt s) noRecord 0 es (λ i l. ap (recordAt s) (let z : 0 + i ≡ i = omega arith in z) ∙ held-record noRecord i l)
 
 -- they hold one list of records alone
-pub held-alone : {s : List ℕ} {es fs : List Record} → Holds s es → Holds s fs → es ≡ fs
+pub held-alone : {s : List ℕ} {es fs : List Record} → StoreHolds s es → StoreHolds s fs → es ≡ fs
 held-alone h k = sym (held-records h) ∙ held-records k
 
-pub stored-holds : (es : List Record) → Rising es → AllSized es → length es ≤ capacity → Holds (storeCells es) es
+pub stored-holds : (es : List Record) → Rising es → AllSized es → length es ≤ capacity → StoreHolds (storeCells es) es
 stored-holds es r s l = record { rising = r; sized = s; room = l; bytes = refl }
 
-pub empty-holds : Holds (storeCells []) []
+pub empty-holds : StoreHolds (storeCells []) []
 empty-holds = stored-holds [] tt tt (omega arith)
 
 -- An empty store is all zero.
@@ -146,18 +146,18 @@ module _ (xs ys : List Record) where
       rw (length-append xs (e ∷ ys), gather-append recordCells xs (e ∷ ys))
       (sym (append-assoc (eightBytes (length xs + suc (length ys))) (gather recordCells xs) (recordCells e ++ gather recordCells ys)))
 
-  pub replaced : (e r : Record) → sets (storeCells (xs ++ (e ∷ ys))) (8 + 40 * length xs) (recordCells r) ≡ storeCells (xs ++ (r ∷ ys))
+  pub replaced : (e r : Record) → sets (storeCells (xs ++ (e ∷ ys))) (recordOffset (length xs)) (recordCells r) ≡ storeCells (xs ++ (r ∷ ys))
   unfolding storeCells
   replaced e r =
       let n : ℕ = length xs + suc (length ys) in
       let before : List ℕ = eightBytes n ++ gather recordCells xs in
-      let over : Stored (front (xs ++ (e ∷ ys))) (8 + 40 * length xs) (recordCells r) (front (xs ++ (r ∷ ys))) =
+      let over : Stored (front (xs ++ (e ∷ ys))) (recordOffset (length xs)) (recordCells r) (front (xs ++ (r ∷ ys))) =
       record {
         cells =
             front-between r
             ∙ sym (sets-middle (recordCells r) before (recordCells e) (gather recordCells ys) (length-record e ∙ sym (length-record r)) (sym (length-before n xs)))
-            ∙ ap (λ (t : List ℕ). sets t (8 + 40 * length xs) (recordCells r)) (sym (front-between e));
+            ∙ ap (λ (t : List ℕ). sets t (recordOffset (length xs)) (recordCells r)) (sym (front-between e));
       } in
-      let fits : 8 + 40 * length xs + length (recordCells r) ≤ length (front (xs ++ (e ∷ ys))) =
+      let fits : recordOffset (length xs) + length (recordCells r) ≤ length (front (xs ++ (e ∷ ys))) =
       omega (arith, length-front (xs ++ (e ∷ ys)), length-append xs (e ∷ ys), length-record r) in
       sym (stored-pad over storeLength fits .cells)

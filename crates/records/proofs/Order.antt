@@ -15,7 +15,7 @@ use Rattle.language.specs.Instructions.{int64, width, signed}
 use Rattle.language.specs.Arithmetic.{meaning}
 use Rattle.language.proofs.Widths.{meaning-is}
 use Rattle.records.specs.declared.Record.{Record}
-use Rattle.records.specs.Records.{Sized, compared, greater, lower, meant, larger, wins, best}
+use Rattle.records.specs.Records.{SizedRecord, compared, greater, lower, meant, larger, wins, best}
 
 -- ---- whole numbers
 
@@ -78,7 +78,7 @@ Agree (k ∷ ks) x y = (k x ≡ k y) × Agree ks x y
 record Ordered (ge : Record → Record → Bool) (ks : List (Record → ℕ)) : Type 0 where
   either : (x y : Record) → (ge x y ≡ true) ⊎ (ge y x ≡ true)
   onward : (x y z : Record) → ge x y ≡ true → ge y z ≡ true → ge x z ≡ true
-  same : (x y : Record) → Sized x → Sized y → ge x y ≡ true → ge y x ≡ true → Agree ks x y
+  same : (x y : Record) → SizedRecord x → SizedRecord y → ge x y ≡ true → ge y x ≡ true → Agree ks x y
 
 larger-ordered : Ordered larger ((λ r. r .reading) ∷ [])
 unfolding larger meant width
@@ -157,7 +157,7 @@ module _ (ahead : ℕ → ℕ → Bool) (s : Strict ahead) (k : Record → ℕ) 
     ahead-onward x y z (inr p) (inl q) = inl (subst (λ (n : ℕ). ahead n (k z) ≡ true) (sym (p .0)) q)
     ahead-onward x y z (inr p) (inr q) = inr (p .0 ∙ q .0, o .onward x y z (p .1) (q .1))
 
-    ahead-same : (x y : Record) → Sized x → Sized y → Ahead ahead k next x y → Ahead ahead k next y x → Agree (k ∷ ks) x y
+    ahead-same : (x y : Record) → SizedRecord x → SizedRecord y → Ahead ahead k next x y → Ahead ahead k next y x → Agree (k ∷ ks) x y
     ahead-same x y h i (inl p) (inl q) = absurd (s .one-way (k x) (k y) p q)
     ahead-same x y h i (inl p) (inr q) = absurd (ahead-apart (k x) (k y) p (sym (q .0)))
     ahead-same x y h i (inr p) (inl q) = absurd (ahead-apart (k y) (k x) q (sym (p .0)))
@@ -191,7 +191,7 @@ wins-self x = by (wins-either x x)
     by (inr e) = e
 
 -- two records of an appliance that win over each other are the same
-pub wins-same : (x y : Record) → Sized x → Sized y → x .appliance ≡ y .appliance → wins x y ≡ true → wins y x ≡ true → x ≡ y
+pub wins-same : (x y : Record) → SizedRecord x → SizedRecord y → x .appliance ≡ y .appliance → wins x y ≡ true → wins y x ≡ true → x ≡ y
 wins-same x y h k e p q =
     let s = wins-ordered .same x y h k p q in
     λ i. record { appliance = e i; time = s .0 i; fail = s .1 .0 i; tablet = s .1 .1 .0 i; reading = s .1 .1 .1 .0 i }

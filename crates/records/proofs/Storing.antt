@@ -9,7 +9,7 @@ use lib.Dec.{eqb, ltb}
 use lib.ListN.{length}
 use borrow.Author.Tests.{eq-eqb, ne-eqb, eqb-true, eqb-false, ltb-true, ltb-false}
 use Rattle.records.specs.declared.Record.{Record}
-use Rattle.records.specs.Records.{Sized, best}
+use Rattle.records.specs.Records.{SizedRecord, best}
 use Rattle.records.specs.Stores.{FoundRecord, insert, inserts, lookup, Above, Rising, AllSized}
 use Rattle.records.proofs.Order.{best-is}
 
@@ -57,10 +57,10 @@ rising-inserts (r ∷ rs) es h = rising-inserts rs (insert r es) (rising-insert 
 
 -- ---- sizes
 
-pub sized-insert : (r : Record) (es : List Record) → Sized r → AllSized es → AllSized (insert r es)
+pub sized-insert : (r : Record) (es : List Record) → SizedRecord r → AllSized es → AllSized (insert r es)
 sized-insert r [] h k = (h, tt)
 sized-insert r (e ∷ es) h k =
-    by-order AllSized (r .appliance) (e .appliance) (λ l. (h, k)) (λ d. (best-is Sized r e h (k .0), k .1))
+    by-order AllSized (r .appliance) (e .appliance) (λ l. (h, k)) (λ d. (best-is SizedRecord r e h (k .0), k .1))
     (λ l. (k .0, sized-insert r es h (k .1)))
 
 pub sized-inserts : (rs es : List Record) → AllSized rs → AllSized es → AllSized (inserts rs es)

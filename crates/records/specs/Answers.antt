@@ -10,8 +10,8 @@ use lib.ListN.{length, getD}
 use Rattle.laws.specs.Lists.{below}
 use Rattle.language.specs.Checking.{Verdict}
 use Rattle.records.specs.declared.Record.{Record}
-use Rattle.records.specs.Stores.{FoundRecord, insert, inserts, joined, lookup, nth, capacity, storeLength, storeCells, Holds, Among, recordsOf}
-use Rattle.records.specs.Limits.{Test, limitAnswer, judged}
+use Rattle.records.specs.Stores.{FoundRecord, insert, inserts, joined, lookup, nth, capacity, storeLength, storeCells, StoreHolds, Among, recordsOf}
+use Rattle.records.specs.Limits.{Test, limitAnswer, judgedTest}
 
 pub record MergedStore : Type 0 where
   pub answer : Verdict
@@ -38,13 +38,13 @@ pub record Harmless (s : List ℕ) (m : MergedStore) : Type 0 where
 
 -- The bytes s have become those of f of the records that they held, or are as they were, with 60.
 pub record Kept (s : List ℕ) (f : List Record → List Record) (m : MergedStore) : Type 0 where
-  pub held : (es : List Record) → Holds s es → m ≡ kept s (f es)
+  pub held : (es : List Record) → StoreHolds s es → m ≡ kept s (f es)
   pub harmless : Harmless s m
 
 -- 22, which is never 60: lent bytes or numbers of another length than the call's.
-abbrev pub Lent : Bool → List ℕ → (MergedStore → Type 0) → MergedStore → Type 0
-Lent true s P m = P m
-Lent false s P m = m ≡ unchanged s 22 0
+abbrev pub IfLent : Bool → List ℕ → (MergedStore → Type 0) → MergedStore → Type 0
+IfLent true s P m = P m
+IfLent false s P m = m ≡ unchanged s 22 0
 
 -- A limit function that is refused, before all else.
 abbrev pub Allowed : Verdict → List ℕ → (MergedStore → Type 0) → MergedStore → Type 0
@@ -59,7 +59,7 @@ emptied s = cond (eqb (length s) storeLength) (record { answer = Verdict.accepte
 
 -- Test x is merged, with its verdict by function i of table t and a budget.
 abbrev pub RecordMerged : List ℕ → ℕ → ℕ → Test → List ℕ → MergedStore → Type 0
-RecordMerged t i budget x s = Allowed (limitAnswer t i) s (Lent (eqb (length s) storeLength) s (Kept s (insert (judged t i budget x))))
+RecordMerged t i budget x s = Allowed (limitAnswer t i) s (IfLent (eqb (length s) storeLength) s (Kept s (insert (judgedTest t i budget x))))
 
 -- The tests that these numbers say, four each; numbers left over say none.
 abbrev pub testAt : List ℕ → ℕ → Test
@@ -78,17 +78,17 @@ testsOf ns = map (testAt ns) (below (length ns / 4))
 abbrev pub RecordsMerged : List ℕ → ℕ → ℕ → List ℕ → List ℕ → MergedStore → Type 0
 RecordsMerged t i budget ns s =
     Allowed (limitAnswer t i) s
-    (Lent (eqb (length s) storeLength && eqb (length ns % 4) 0) s (Kept s (inserts (map (judged t i budget) (testsOf ns)))))
+    (IfLent (eqb (length s) storeLength && eqb (length ns % 4) 0) s (Kept s (inserts (map (judgedTest t i budget) (testsOf ns)))))
 
 -- Store u is merged: its records one after the other, all or none. Of any bytes of the right length it is the records in them, taken in one pass from
 -- the front.
 pub record StoreJoined (u s : List ℕ) (m : MergedStore) : Type 0 where
   pub exact : m ≡ kept s (joined (recordsOf s) (recordsOf u))
-  pub held : (es fs : List Record) → Holds s es → Holds u fs → m ≡ kept s (inserts fs es)
+  pub held : (es fs : List Record) → StoreHolds s es → StoreHolds u fs → m ≡ kept s (inserts fs es)
   pub harmless : Harmless s m
 
 abbrev pub StoreMerged : List ℕ → List ℕ → MergedStore → Type 0
-StoreMerged u s = Lent (eqb (length s) storeLength && eqb (length u) storeLength) s (StoreJoined u s)
+StoreMerged u s = IfLent (eqb (length s) storeLength && eqb (length u) storeLength) s (StoreJoined u s)
 
 -- ---- looking
 
@@ -103,7 +103,7 @@ LentToLook false P l = l ≡ Looked.refused 22
 
 -- Appliance a is looked up. Of bytes that are no store's a record of that appliance, or none: which is free.
 pub record LookedIn (s : List ℕ) (a : ℕ) (l : Looked) : Type 0 where
-  pub held : (es : List Record) → Holds s es → l ≡ Looked.looked (lookup a es)
+  pub held : (es : List Record) → StoreHolds s es → l ≡ Looked.looked (lookup a es)
   pub among :
       (l ≡ Looked.looked FoundRecord.none)
       ⊎ ((r : Record) × ((l ≡ Looked.looked (FoundRecord.found r)) × (Among r (recordsOf s) × (r .appliance ≡ a))))

@@ -34,8 +34,8 @@ failOf (Ran.stopped n p s) = 1
 failOf (Ran.refused n p) = 1
 
 -- A test with its verdict, by function i of table t run on the reading for so many steps; no function has more registers.
-unfoldable pub judged : List ℕ → ℕ → ℕ → Test → Record
-judged t i budget x =
+unfoldable pub judgedTest : List ℕ → ℕ → ℕ → Test → Record
+judgedTest t i budget x =
     record {
       appliance = x .appliance;
       time = x .time;

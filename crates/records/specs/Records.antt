@@ -11,7 +11,7 @@ use Rattle.language.specs.Arithmetic.{meaning}
 use Rattle.records.specs.declared.Record.{Record}
 
 -- "each below 2^64"; the verdict is a pass or a fail.
-pub record Sized (r : Record) : Type 0 where
+pub record SizedRecord (r : Record) : Type 0 where
   pub appliance : r .appliance < 2 ^ 64
   pub time : r .time < 2 ^ 64
   pub fail : r .fail < 2

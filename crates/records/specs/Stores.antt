@@ -11,7 +11,7 @@ use Rattle.laws.specs.Lists.{below, gather}
 use Rattle.laws.specs.Sections.{pad}
 use Rattle.language.specs.Table.{eight, eightBytes}
 use Rattle.records.specs.declared.Record.{Record}
-use Rattle.records.specs.Records.{Sized, best}
+use Rattle.records.specs.Records.{SizedRecord, best}
 
 -- ---- What a store holds.
 
@@ -56,7 +56,7 @@ Among r (e ∷ es) = (r ≡ e) ⊎ Among r es
 
 abbrev pub AllSized : List Record → Type 0
 AllSized [] = Unit {0}
-AllSized (e ∷ es) = Sized e × AllSized es
+AllSized (e ∷ es) = SizedRecord e × AllSized es
 
 -- ---- Its bytes: the count of its records and their numbers, eight bytes each, low byte first; the rest is 0.
 
@@ -64,9 +64,38 @@ AllSized (e ∷ es) = Sized e × AllSized es
 abbrev pub capacity : ℕ
 capacity = 1024
 
--- Eight bytes of the count, and 40 a record.
+-- The layout, every offset and length from the parts: the count, then records of five numbers. No other page says these numbers.
+abbrev pub numberLength : ℕ
+numberLength = 8
+
+abbrev pub recordLength : ℕ
+recordLength = 5 * numberLength
+
 abbrev pub storeLength : ℕ
-storeLength = 40968
+storeLength = numberLength + capacity * recordLength
+
+-- The columns: where the number of the first record stands.
+abbrev pub appliancesOffset : ℕ
+appliancesOffset = numberLength
+
+abbrev pub timesOffset : ℕ
+timesOffset = appliancesOffset + numberLength
+
+abbrev pub failsOffset : ℕ
+failsOffset = timesOffset + numberLength
+
+abbrev pub tabletsOffset : ℕ
+tabletsOffset = failsOffset + numberLength
+
+abbrev pub readingsOffset : ℕ
+readingsOffset = tabletsOffset + numberLength
+
+-- Where record i begins, and that n records lie within these bytes.
+abbrev pub recordOffset : ℕ → ℕ
+recordOffset i = appliancesOffset + recordLength * i
+
+abbrev pub HasRoom : List ℕ → ℕ → Type 0
+HasRoom s n = recordOffset n ≤ length s
 
 unfoldable pub recordCells : Record → List ℕ
 recordCells r =
@@ -76,7 +105,7 @@ unfoldable pub storeCells : List Record → List ℕ
 storeCells es = pad storeLength (eightBytes (length es) ++ gather recordCells es)
 
 -- These bytes are those of a store with these records.
-pub record Holds (s : List ℕ) (es : List Record) : Type 0 where
+pub record StoreHolds (s : List ℕ) (es : List Record) : Type 0 where
   pub rising : Rising es
   pub sized : AllSized es
   pub room : length es ≤ capacity
@@ -87,11 +116,11 @@ pub record Holds (s : List ℕ) (es : List Record) : Type 0 where
 abbrev pub recordAt : List ℕ → ℕ → Record
 recordAt s i =
     record {
-      appliance = eight s (8 + 40 * i);
-      time = eight s (16 + 40 * i);
-      fail = eight s (24 + 40 * i);
-      tablet = eight s (32 + 40 * i);
-      reading = eight s (40 + 40 * i);
+      appliance = eight s (appliancesOffset + recordLength * i);
+      time = eight s (timesOffset + recordLength * i);
+      fail = eight s (failsOffset + recordLength * i);
+      tablet = eight s (tabletsOffset + recordLength * i);
+      reading = eight s (readingsOffset + recordLength * i);
     }
 
 unfoldable pub countOf : List ℕ → ℕ

@@ -10,7 +10,7 @@ use lib.Dec.{T}
 use lib.ListN.{length}
 use Rattle.laws.specs.Lists.{member}
 use Rattle.records.specs.declared.Record.{Record}
-use Rattle.records.specs.Records.{Sized, wins}
+use Rattle.records.specs.Records.{SizedRecord, wins}
 use Rattle.records.specs.Stores.{FoundRecord, insert, inserts, lookup, capacity}
 
 -- "any order and grouping of merges": nothing yet; a record merged into what is there; a store merged into it.
@@ -41,7 +41,7 @@ Winner t a (FoundRecord.found w) =
 
 -- "each below 2^64"
 abbrev pub SizedIn : Tree → Type 0
-SizedIn t = (r : Record) → In r t → Sized r
+SizedIn t = (r : Record) → In r t → SizedRecord r
 
 -- The same set of records, merged in any order, grouping and repetition.
 abbrev pub SameRecords : Tree → Tree → Type 0

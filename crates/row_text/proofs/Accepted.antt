@@ -12,8 +12,8 @@ use Rattle.laws.specs.Lists.{from}
 use Rattle.laws.proofs.Every.{Every, every-all, every-at, every-left, every-right}
 use Rattle.laws.proofs.Ranges.{getD-map-from, length-map-from}
 use Rattle.laws.proofs.Sums.{sum-below-le}
-use Rattle.language.specs.Instructions.{Form, formOf, formNumber, instructionCount, width, loadType, operandOf, phiOp}
-use Rattle.language.specs.Programs.{Row, Func, opOf, formIn, targetsOf, sourcesOf, entriesOf, namedBy, rowsOf}
+use Rattle.language.specs.Instructions.{Form, formOf, formNumber, instructionCount, width, loadType, operandOf, phiOp, Operand}
+use Rattle.language.specs.Programs.{Row, Func, opOf, formIn, targetsOf, sourcesOf, entriesOf, namedBy, rowsOf, maxBlocks, maxRegisters}
 use Rattle.language.specs.Checking.{shaped, numberFits, inRange}
 use Rattle.language.specs.Table.{registerCount, blockCount, rowCount, rowOp, rowTarget, rowLeft, rowRight, loadNumber, jumpFirst, jumpSecond, phiFirst, phiCount, phiEntry, rowEntries, decodeAs, decodeRow, decodeFunction}
 use Rattle.instructions.specs.Shapes.{operandNumber, shapeOf}
@@ -33,7 +33,7 @@ instruction-of x h = ltb→lt (opOf x) instructionCount (and-l (ltb (opOf x) ins
 -- ---- the operand, by the kind's number
 
 module _ (t : List ℕ) (a r : ℕ) where
-  number-as : (g : Form) → operandNumber (operandOf g) ≡ 1 → T (numberFits (decodeAs g t a r)) → loadNumber t a r < 2 ^ width (loadType (rowOp t a r))
+  number-as : (g : Form) → operandNumber (operandOf g) ≡ operandNumber Operand.number → T (numberFits (decodeAs g t a r)) → loadNumber t a r < 2 ^ width (loadType (rowOp t a r))
   unfolding decodeAs
   number-as Form.nop e h = absurd (omega arith)
   number-as Form.load e h = ltb→lt (loadNumber t a r) (2 ^ width (loadType (rowOp t a r))) h
@@ -46,7 +46,7 @@ module _ (t : List ℕ) (a r : ℕ) where
   number-as Form.leave e h = absurd (omega arith)
   number-as Form.unknown e h = absurd (omega arith)
 
-  phi-as : (g : Form) → operandNumber (operandOf g) ≡ 2 → decodeAs g t a r ≡ Row.phi (rowTarget t a r) (map (phiEntry t a) (from (phiFirst t a r) (phiCount t a r)))
+  phi-as : (g : Form) → operandNumber (operandOf g) ≡ operandNumber Operand.registers → decodeAs g t a r ≡ Row.phi (rowTarget t a r) (map (phiEntry t a) (from (phiFirst t a r) (phiCount t a r)))
   unfolding decodeAs
   phi-as Form.nop e = absurd (omega arith)
   phi-as Form.load e = absurd (omega arith)
@@ -101,7 +101,7 @@ module _ (t : List ℕ) (a : ℕ) (sized : Sized t a) (clean : Clean (decodeFunc
       let h : Every Known (take n both) = subst (Every Known) (sources-are t a r) sources-known in
       rw (getD-take n both k 0 b) at (known (take n both) h k (simp length-take (omega arith)))
 
-  entries-of : shapeOf (rowOp t a r) .operand ≡ 2 → Entries t a (phiFirst t a r) (phiCount t a r)
+  entries-of : shapeOf (rowOp t a r) .operand ≡ operandNumber Operand.registers → Entries t a (phiFirst t a r) (phiCount t a r)
   unfolding decodeRow shapeOf
   entries-of e =
       let row : decodeRow t a r ≡ Row.phi (rowTarget t a r) (map (phiEntry t a) (from (phiFirst t a r) (phiCount t a r))) = phi-as t a r (formOf (rowOp t a r)) e in
@@ -141,6 +141,6 @@ module _ (t : List ℕ) (a : ℕ) (sized : Sized t a) (clean : Clean (decodeFunc
 
 -- An accepted function with its made names numbered is ready.
 pub ready : {t : List ℕ} {a : ℕ} {rs bs : List ℕ} → Sized t a → Clean (decodeFunction t a)
-    → RegistersNumbered (decodeFunction t a) rs → BlocksNumbered (decodeFunction t a) bs → 256 ≤ length rs → 64 ≤ length bs → TextReady t a rs bs
+    → RegistersNumbered (decodeFunction t a) rs → BlocksNumbered (decodeFunction t a) bs → maxRegisters ≤ length rs → maxBlocks ≤ length bs → TextReady t a rs bs
 ready {t} {a} sized clean registers blocks m n =
     record { sized = sized; rows = row-ready t a sized clean; registers = registers; blocks = blocks; registerRoom = m; blockRoom = n }

@@ -7,17 +7,18 @@ use lib.ListN.{length}
 use Rattle.language.specs.Table.{registerCount, blockCount, rowCount, decodeFunction, InTable}
 use Rattle.naming.specs.Numbered.{RegistersNumbered, BlocksNumbered}
 use Rattle.row_text.specs.Ready.{Entries, TextReady}
+use Rattle.language.specs.Programs.{maxRows, maxBlocks, maxRegisters}
 
 module _ {t : List ℕ} {a : ℕ} {rs bs : List ℕ} (y : TextReady t a rs bs) where
   pub register-asked : {u : ℕ} (v : ℕ) → u ≡ v → v < registerCount t a
-      → ((InTable t a) × (registerCount t a ≤ 256) × (256 ≤ length rs)) × (RegistersNumbered (decodeFunction t a) rs × (u < registerCount t a))
+      → ((InTable t a) × (registerCount t a ≤ maxRegisters) × (maxRegisters ≤ length rs)) × (RegistersNumbered (decodeFunction t a) rs × (u < registerCount t a))
   register-asked v e l = ((y .sized .within, y .sized .registers, y .registerRoom), (y .registers, omega arith))
 
   pub block-asked : {u : ℕ} (v : ℕ) → u ≡ v → v < blockCount t a
-      → ((InTable t a) × (blockCount t a ≤ 64) × (64 ≤ length bs)) × (BlocksNumbered (decodeFunction t a) bs × (u < blockCount t a))
+      → ((InTable t a) × (blockCount t a ≤ maxBlocks) × (maxBlocks ≤ length bs)) × (BlocksNumbered (decodeFunction t a) bs × (u < blockCount t a))
   block-asked v e l = ((y .sized .within, y .sized .blocks, y .blockRoom), (y .blocks, omega arith))
 
-  pub row-asked : {r : ℕ} → r < rowCount t a → (InTable t a) × (r < 1024)
+  pub row-asked : {r : ℕ} → r < rowCount t a → (InTable t a) × (r < maxRows)
   row-asked l = (y .sized .within, omega (arith, y .sized .rows))
 
 pub entries-asked : {t : List ℕ} {a u v n m : ℕ} → u ≡ v → n ≡ m → Entries t a v m → Entries t a u n

@@ -17,7 +17,7 @@ use Rattle.instructions.specs.Shapes.{shapeOf}
 use Rattle.language.proofs.TableView.{op-decoded}
 use Rattle.token_text.specs.Spaced.{spaced}
 use Rattle.token_text.proofs.Lines.{line-ends}
-use Rattle.row_text.specs.Ready.{titled, operandAs}
+use Rattle.row_text.specs.Ready.{titled, operandTokens}
 use Rattle.row_text.proofs.Shapes.{targets-are, sources-are, operand-is, few}
 
 regroup : (ts : List Token) (w : Token) (ss os : List Token) (e : Token) → (((ts ++ (w ∷ [])) ++ ss) ++ os) ++ (e ∷ []) ≡ ts ++ (w ∷ (ss ++ (os ++ (e ∷ []))))
@@ -82,7 +82,7 @@ lines-more f k n = sym (gather-from-more f k n)
 pub row-line : (t : List ℕ) (a r : ℕ) {op kind : ℕ} → op ≡ rowOp t a r → kind ≡ shapeOf (rowOp t a r) .operand
     → (let g = titled t a in
     let row = decodeRow t a r in
-    spaced (((targetPart g (targetsOf row) ++ (opToken op ∷ [])) ++ registersPart g (sourcesOf row)) ++ operandAs t a r kind) ++ (semicolon ∷ lineFeed ∷ []) ≡ lineBytes (rowLine g row))
+    spaced (((targetPart g (targetsOf row) ++ (opToken op ∷ [])) ++ registersPart g (sourcesOf row)) ++ operandTokens t a r kind) ++ (semicolon ∷ lineFeed ∷ []) ≡ lineBytes (rowLine g row))
 unfolding bytesFor rowLine
 row-line t a r {op} {kind} d e =
     let g = titled t a in
@@ -90,9 +90,9 @@ row-line t a r {op} {kind} d e =
     let ts : List Token = targetPart g (targetsOf row) in
     let ss : List Token = registersPart g (sourcesOf row) in
     let word : opToken op ≡ opToken (opOf row) = ap opToken (d ∙ sym (op-decoded t a r)) in
-    let operand : operandAs t a r kind ≡ operandPart g row = ap (operandAs t a r) e ∙ operand-is t a r in
-    let whole : (((ts ++ (opToken op ∷ [])) ++ ss) ++ operandAs t a r kind) ++ (Token.mark semicolon ∷ []) ≡ rowLine g row =
-    ap (λ (w : Token). (((ts ++ (w ∷ [])) ++ ss) ++ operandAs t a r kind) ++ (Token.mark semicolon ∷ [])) word
+    let operand : operandTokens t a r kind ≡ operandPart g row = ap (operandTokens t a r) e ∙ operand-is t a r in
+    let whole : (((ts ++ (opToken op ∷ [])) ++ ss) ++ operandTokens t a r kind) ++ (Token.mark semicolon ∷ []) ≡ rowLine g row =
+    ap (λ (w : Token). (((ts ++ (w ∷ [])) ++ ss) ++ operandTokens t a r kind) ++ (Token.mark semicolon ∷ [])) word
     ∙ ap (λ (os : List Token). (((ts ++ (opToken (opOf row) ∷ [])) ++ ss) ++ os) ++ (Token.mark semicolon ∷ [])) operand
     ∙ regroup ts (opToken (opOf row)) ss (operandPart g row) (Token.mark semicolon) in
-    sym (line-ends (((ts ++ (opToken op ∷ [])) ++ ss) ++ operandAs t a r kind) (Token.mark semicolon)) ∙ ap lineBytes whole
+    sym (line-ends (((ts ++ (opToken op ∷ [])) ++ ss) ++ operandTokens t a r kind) (Token.mark semicolon)) ∙ ap lineBytes whole

@@ -11,7 +11,7 @@ use Rattle.language.specs.Table.{rowOp, rowTarget, rowLeft, rowRight, decodeAs,
 use Rattle.language.specs.Writing.{operandPart}
 use Rattle.language.proofs.TableView.{targets-as, sources-as}
 use Rattle.instructions.specs.Shapes.{operandNumber, shapeOf}
-use Rattle.row_text.specs.Ready.{titled, operandAs}
+use Rattle.row_text.specs.Ready.{titled, operandTokens}
 
 module _ (t : List ℕ) (a r : ℕ) where
   pub targets-are : targetsOf (decodeRow t a r) ≡ cond (shapeOf (rowOp t a r) .target) (rowTarget t a r ∷ []) []
@@ -22,7 +22,7 @@ module _ (t : List ℕ) (a r : ℕ) where
   unfolding decodeRow shapeOf
   sources-are = sources-as t a r (formOf (rowOp t a r))
 
-  operand-as : (g : Form) → operandAs t a r (operandNumber (operandOf g)) ≡ operandPart (titled t a) (decodeAs g t a r)
+  operand-as : (g : Form) → operandTokens t a r (operandNumber (operandOf g)) ≡ operandPart (titled t a) (decodeAs g t a r)
   unfolding decodeAs
   operand-as Form.nop = refl
   operand-as Form.load = refl
@@ -35,7 +35,7 @@ module _ (t : List ℕ) (a r : ℕ) where
   operand-as Form.leave = refl
   operand-as Form.unknown = refl
 
-  pub operand-is : operandAs t a r (shapeOf (rowOp t a r) .operand) ≡ operandPart (titled t a) (decodeRow t a r)
+  pub operand-is : operandTokens t a r (shapeOf (rowOp t a r) .operand) ≡ operandPart (titled t a) (decodeRow t a r)
   unfolding decodeRow shapeOf
   operand-is = operand-as (formOf (rowOp t a r))
 

@@ -5,13 +5,13 @@ use mathlib.Core.Path.{_≡_}
 use Prim.Native.Nat.{ℕ, _+_, _^_, _<_, _≤_}
 use lib.ListN.{length, getD}
 use Rattle.laws.specs.Lists.{from}
-use Rattle.language.specs.Instructions.{width, loadType, instructionCount}
+use Rattle.language.specs.Instructions.{width, loadType, instructionCount, Operand}
 use Rattle.language.specs.MadeNames.{namedFunction}
 use Rattle.language.specs.Programs.{Func, maxRegisters, maxBlocks, maxEntries}
 use Rattle.language.specs.Table.{registerCount, blockCount, rowCount, rowOp, rowTarget, rowLeft, rowRight, loadNumber, jumpFirst, jumpSecond, phiFirst, phiCount, phiEntry, decodeFunction}
 use Rattle.language.specs.Tokens.{Token}
 use Rattle.language.specs.Writing.{numberToken, registersPart, blocksPart, inParens}
-use Rattle.instructions.specs.Shapes.{shapeOf}
+use Rattle.instructions.specs.Shapes.{shapeOf, operandNumber}
 use Rattle.naming.specs.Numbered.{RegistersNumbered, BlocksNumbered}
 use Rattle.flow.specs.Sized.{Sized}
 
@@ -32,10 +32,10 @@ pub record RowReady (t : List ℕ) (a r : ℕ) : Type 0 where
   pub target : shapeOf (rowOp t a r) .target ≡ true → rowTarget t a r < registerCount t a
   pub left : 0 < shapeOf (rowOp t a r) .sources → rowLeft t a r < registerCount t a
   pub right : 1 < shapeOf (rowOp t a r) .sources → rowRight t a r < registerCount t a
-  pub number : shapeOf (rowOp t a r) .operand ≡ 1 → loadNumber t a r < 2 ^ width (loadType (rowOp t a r))
-  pub entries : shapeOf (rowOp t a r) .operand ≡ 2 → Entries t a (phiFirst t a r) (phiCount t a r)
-  pub first : 2 < shapeOf (rowOp t a r) .operand → jumpFirst t a r < blockCount t a
-  pub second : 3 < shapeOf (rowOp t a r) .operand → jumpSecond t a r < blockCount t a
+  pub number : shapeOf (rowOp t a r) .operand ≡ operandNumber Operand.number → loadNumber t a r < 2 ^ width (loadType (rowOp t a r))
+  pub entries : shapeOf (rowOp t a r) .operand ≡ operandNumber Operand.registers → Entries t a (phiFirst t a r) (phiCount t a r)
+  pub first : operandNumber Operand.registers < shapeOf (rowOp t a r) .operand → jumpFirst t a r < blockCount t a
+  pub second : operandNumber Operand.block < shapeOf (rowOp t a r) .operand → jumpSecond t a r < blockCount t a
 
 -- Every row of the function at cell a is so, and the numbers of its made names are prepared.
 pub record TextReady (t : List ℕ) (a : ℕ) (rs bs : List ℕ) : Type 0 where
@@ -48,8 +48,8 @@ pub record TextReady (t : List ℕ) (a : ℕ) (rs bs : List ℕ) : Type 0 where
 
 -- ---- the operand of row r by its kind, with the parentheses
 
-abbrev pub operandAs : List ℕ → (a r kind : ℕ) → List Token
-operandAs t a r kind =
+abbrev pub operandTokens : List ℕ → (a r kind : ℕ) → List Token
+operandTokens t a r kind =
     getD
     ([]
     ∷ inParens (numberToken (loadType (rowOp t a r)) (loadNumber t a r) ∷ [])

@@ -7,11 +7,14 @@ ghost use Rattle.language.specs.Bytes.{comma};
 ghost use Rattle.language.specs.Table.{rowCount, registerCount, rowOp, phiEntry};
 ghost use Rattle.language.specs.Tokens.{Token};
 ghost use Rattle.language.specs.Writing.{registerToken, registersPart};
-ghost use Rattle.instructions.specs.Shapes.{shapeOf};
+ghost use Rattle.language.specs.Instructions.{Operand};
+ghost use Rattle.instructions.specs.Shapes.{operandNumber, shapeOf};
 ghost use Rattle.page.specs.Page.{page, puts};
 ghost use Rattle.token_text.specs.Spaced.{spaced};
-ghost use Rattle.row_text.specs.Ready.{Entries, TextReady, titled, operandAs};
+ghost use Rattle.row_text.specs.Ready.{Entries, TextReady, titled, operandTokens};
+ghost use Rattle.language.specs.Programs.{maxEntries};
 use instructions::load_type;
+use instructions::operands;
 use page::put_part;
 use table::jump_first;
 use table::jump_second;
@@ -34,8 +37,8 @@ fn put_load(
     out: &mut [u8],
     at: usize,
 ) -> usize
-    requires { ⌜ TextReady (now t) a (now registers) (now blocks) × (r < rowCount (now t) a) × (shapeOf (rowOp (now t) a r) .operand ≡ 1) ⌝ }
-    ensures { λ e. ⌜ page (now (out .exit)) e ≡ puts (page (now (out .entry)) at) (spaced (operandAs (now (t .entry)) a r 1)) ⌝ }
+    requires { ⌜ TextReady (now t) a (now registers) (now blocks) × (r < rowCount (now t) a) × (shapeOf (rowOp (now t) a r) .operand ≡ operandNumber Operand.number) ⌝ }
+    ensures { λ e. ⌜ page (now (out .exit)) e ≡ puts (page (now (out .entry)) at) (spaced (operandTokens (now (t .entry)) a r (operandNumber Operand.number))) ⌝ }
 {
     let e = put_part(out, at, b"( ");
     let kind = load_type(row_op(t, a, r));
@@ -53,7 +56,7 @@ fn put_entry(
     out: &mut [u8],
     at: usize,
 ) -> usize
-    requires { ⌜ TextReady (now t) a (now registers) (now blocks) × (k < 1024) × (phiEntry (now t) a k < registerCount (now t) a) ⌝ }
+    requires { ⌜ TextReady (now t) a (now registers) (now blocks) × (k < maxEntries) × (phiEntry (now t) a k < registerCount (now t) a) ⌝ }
     ensures { λ e. ⌜ page (now (out .exit)) e ≡ puts (page (now (out .entry)) at) (spaced (Token.mark comma ∷ registerToken (titled (now (t .entry)) a) (phiEntry (now (t .entry)) a k) ∷ [])) ⌝ }
 {
     let e = put_part(out, at, b", ");
@@ -114,8 +117,8 @@ fn put_phi(
     out: &mut [u8],
     at: usize,
 ) -> usize
-    requires { ⌜ TextReady (now t) a (now registers) (now blocks) × (r < rowCount (now t) a) × (shapeOf (rowOp (now t) a r) .operand ≡ 2) ⌝ }
-    ensures { λ e. ⌜ page (now (out .exit)) e ≡ puts (page (now (out .entry)) at) (spaced (operandAs (now (t .entry)) a r 2)) ⌝ }
+    requires { ⌜ TextReady (now t) a (now registers) (now blocks) × (r < rowCount (now t) a) × (shapeOf (rowOp (now t) a r) .operand ≡ operandNumber Operand.registers) ⌝ }
+    ensures { λ e. ⌜ page (now (out .exit)) e ≡ puts (page (now (out .entry)) at) (spaced (operandTokens (now (t .entry)) a r (operandNumber Operand.registers))) ⌝ }
 {
     let e = put_part(out, at, b"( ");
     let f = put_entries(
@@ -141,8 +144,8 @@ fn put_jump(
     out: &mut [u8],
     at: usize,
 ) -> usize
-    requires { ⌜ TextReady (now t) a (now registers) (now blocks) × (r < rowCount (now t) a) × (shapeOf (rowOp (now t) a r) .operand ≡ 3) ⌝ }
-    ensures { λ e. ⌜ page (now (out .exit)) e ≡ puts (page (now (out .entry)) at) (spaced (operandAs (now (t .entry)) a r 3)) ⌝ }
+    requires { ⌜ TextReady (now t) a (now registers) (now blocks) × (r < rowCount (now t) a) × (shapeOf (rowOp (now t) a r) .operand ≡ operandNumber Operand.block) ⌝ }
+    ensures { λ e. ⌜ page (now (out .exit)) e ≡ puts (page (now (out .entry)) at) (spaced (operandTokens (now (t .entry)) a r (operandNumber Operand.block))) ⌝ }
 {
     let e = put_part(out, at, b"( ");
     let f = put_block(t, a, blocks, jump_first(t, a, r), out, e);
@@ -159,8 +162,8 @@ fn put_branch(
     out: &mut [u8],
     at: usize,
 ) -> usize
-    requires { ⌜ TextReady (now t) a (now registers) (now blocks) × (r < rowCount (now t) a) × (shapeOf (rowOp (now t) a r) .operand ≡ 4) ⌝ }
-    ensures { λ e. ⌜ page (now (out .exit)) e ≡ puts (page (now (out .entry)) at) (spaced (operandAs (now (t .entry)) a r 4)) ⌝ }
+    requires { ⌜ TextReady (now t) a (now registers) (now blocks) × (r < rowCount (now t) a) × (shapeOf (rowOp (now t) a r) .operand ≡ operandNumber Operand.blocks) ⌝ }
+    ensures { λ e. ⌜ page (now (out .exit)) e ≡ puts (page (now (out .entry)) at) (spaced (operandTokens (now (t .entry)) a r (operandNumber Operand.blocks))) ⌝ }
 {
     let first = jump_first(t, a, r);
     let second = jump_second(t, a, r);
@@ -183,13 +186,13 @@ pub fn put_operand(
     at: usize,
 ) -> usize
     requires { ⌜ TextReady (now t) a (now registers) (now blocks) × (r < rowCount (now t) a) × (kind ≡ shapeOf (rowOp (now t) a r) .operand) ⌝ }
-    ensures { λ e. ⌜ page (now (out .exit)) e ≡ puts (page (now (out .entry)) at) (spaced (operandAs (now (t .entry)) a r kind)) ⌝ }
+    ensures { λ e. ⌜ page (now (out .exit)) e ≡ puts (page (now (out .entry)) at) (spaced (operandTokens (now (t .entry)) a r kind)) ⌝ }
 {
     match kind {
-        0 => at,
-        1 => put_load(t, a, registers, blocks, r, out, at),
-        2 => put_phi(t, a, registers, blocks, r, out, at),
-        3 => put_jump(t, a, registers, blocks, r, out, at),
+        operands::NONE => at,
+        operands::NUMBER => put_load(t, a, registers, blocks, r, out, at),
+        operands::REGISTERS => put_phi(t, a, registers, blocks, r, out, at),
+        operands::BLOCK => put_jump(t, a, registers, blocks, r, out, at),
         _ => put_branch(t, a, registers, blocks, r, out, at),
     }
 }

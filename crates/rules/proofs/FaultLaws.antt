@@ -14,21 +14,21 @@ use Rattle.laws.specs.Lists.{any, member, position}
 use Rattle.laws.proofs.Agreeing.{any-every}
 use Rattle.laws.proofs.Indexing.{any-at}
 use Rattle.laws.proofs.Every.{Every, every-imp}
-use Rattle.language.specs.Programs.{Func, Row, isSsa, rowsAt, rowsOf, isPhi, targetsOf, sourcesOf, entriesOf}
+use Rattle.language.specs.Programs.{Func, Row, isSsa, rowsAt, rowsOf, isPhi, targetsOf, sourcesOf, entriesOf, maxRegisters}
 use Rattle.language.specs.Table.{functionSsa, functionParams, decodeRow, decodeFunction}
 use Rattle.language.specs.Checking.{assignedIn, isParameter, breaks12, breaks16}
 use Rattle.flow.specs.Layout.{assignmentIn, phisIn}
 use Rattle.flow.specs.Assignments.{assignedAt}
 use Rattle.flow.specs.Leading.{leadingPhis}
 use Rattle.flow.specs.Prepared.{Prepared}
-use Rattle.rules.specs.Cells.{Stands, spot, retaken, unset}
+use Rattle.rules.specs.Cells.{RowStands, spot, retaken, unset}
 use Rattle.rules.proofs.Firsts.{any-before, any-after-leading, any-and}
 use Rattle.rules.proofs.Standing.{row-in, row-of, number-here}
 
 -- ---- what is prepared, against what the tests scan for
 
 module _ (f : Func) (m : List ℕ) (h : Prepared f m) where
-  pub assigned-any : (u : ℕ) → u < 256 → assignedIn (rowsOf f) u ≡ not (eqb (assignmentIn m u) 0)
+  pub assigned-any : (u : ℕ) → u < maxRegisters → assignedIn (rowsOf f) u ≡ not (eqb (assignmentIn m u) 0)
   unfolding assignedAt
   assigned-any u l = by (assignedIn (rowsOf f) u) (h .assigned u l)
     where
@@ -39,7 +39,7 @@ module _ (f : Func) (m : List ℕ) (h : Prepared f m) where
   -- an earlier row than k, which assigns u, does so too
   pub assigned-before :
       (u k : ℕ)
-      → u < 256
+      → u < maxRegisters
       → k < length (rowsOf f)
       → member u (targetsOf (getD (rowsOf f) k Row.nop)) ≡ true
       → assignedIn (take k (rowsOf f)) u ≡ not (eqb (assignmentIn m u) (k + 1))
@@ -75,23 +75,23 @@ not-ltb u n = elim (decLt u n) [
   | no h ↦ ap not (le-ltb u n (omega arith)) ∙ sym (le-leb n u (omega arith))
 ]
 
-module _ (t : List ℕ) (a : ℕ) (m : List ℕ) (b j k : ℕ) (h : Stands t a m b j k) where
+module _ (t : List ℕ) (a : ℕ) (m : List ℕ) (b j k : ℕ) (h : RowStands t a m b j k) where
   abbrev f : Func
   f = decodeFunction t a
 
-  pub breaks12-at : (r : Row) (u : ℕ) → decodeRow t a k ≡ r → targetsOf r ≡ u ∷ [] → u < 256 → breaks12 f (spot b j r) ≡ retaken t a m u k
+  pub breaks12-at : (r : Row) (u : ℕ) → decodeRow t a k ≡ r → targetsOf r ≡ u ∷ [] → u < maxRegisters → breaks12 f (spot b j r) ≡ retaken t a m u k
   unfolding breaks12 retaken
   breaks12-at r u e g l =
       let here : member u (targetsOf (getD (rowsOf f) k Row.nop)) ≡ true =
       ap (λ r. member u (targetsOf r)) (row-of t a m b j k h ∙ e) ∙ ap (member u) g ∙ ap (λ c. c || false) (eq-eqb u u refl) in
       rw (g, number-here t a m b j k h r, ssa-is t a, param-is t a u, assigned-before f m (h .prepared) u k l (row-in t a m b j k h) here, or-false)
 
-  unset-is : (u : ℕ) → u < 256 → (isSsa f && not (isParameter f u || assignedIn (rowsOf f) u)) ≡ unset t a m u
+  unset-is : (u : ℕ) → u < maxRegisters → (isSsa f && not (isParameter f u || assignedIn (rowsOf f) u)) ≡ unset t a m u
   unfolding unset
   unset-is u l =
       rw (ssa-is t a, param-is t a u, assigned-any f m (h .prepared) u l, not-either (ltb u (functionParams t a)) (eqb (assignmentIn m u) 0), not-ltb)
 
-  pub breaks16-at : (r : Row) → Every (λ u. u < 256) (sourcesOf r ++ entriesOf r) → breaks16 f (spot b j r) ≡ any (unset t a m) (sourcesOf r ++ entriesOf r)
+  pub breaks16-at : (r : Row) → Every (λ u. u < maxRegisters) (sourcesOf r ++ entriesOf r) → breaks16 f (spot b j r) ≡ any (unset t a m) (sourcesOf r ++ entriesOf r)
   unfolding breaks16
   breaks16-at r l =
       any-and (λ u. not (isParameter f u || assignedIn (rowsOf f) u)) (isSsa f) (sourcesOf r ++ entriesOf r)

@@ -3,7 +3,7 @@
 use mathlib.Core.Path.{_≡_, refl, sym, ap, ap₂, _∙_}
 use mathlib.Core.Bool.{Bool, true, false, cond, not, _&&_, _||_, and-false, or-false}
 use mathlib.Core.List.{List, [], _∷_, _++_, map}
-use Prim.Native.Nat.{ℕ, zero, suc, _+_, _≤_, _<_}
+use Prim.Native.Nat.{ℕ, zero, suc, _≤_, _<_}
 use native.Mathlib.Nat.{zero-lt-suc}
 use native.Mathlib.Omega.{arith}
 use lib.Dec.{T, eqb, ltb, lit<, eqb·suc-zero}
@@ -14,14 +14,14 @@ use Rattle.laws.proofs.Agreeing.{all-agree}
 use Rattle.laws.proofs.Ranges.{length-map-from}
 use Rattle.laws.proofs.Every.{Every, none, more, every-at, every-imp, every-right}
 use Rattle.language.specs.Instructions.{Form, formOf, formNumber, loadType, uint, void, convOp, copyOp}
-use Rattle.language.specs.Programs.{Func, Row, isSsa, typeAt, rowsAt, isPhi, targetsOf, sourcesOf, entriesOf, opOf}
+use Rattle.language.specs.Programs.{Func, Row, isSsa, typeAt, rowsAt, isPhi, targetsOf, sourcesOf, entriesOf, opOf, maxRegisters}
 use Rattle.language.specs.Table.{functionSsa, functionResult, functionEntry, registerCount, registerType, rowOp, rowTarget, rowLeft, rowRight, loadNumber, jumpFirst, jumpSecond, phiFirst, phiCount, phiEntry, blockRows, decodeAs, decodeRow, decodeFunction}
 use Rattle.language.specs.Checking.{Spot, inRange, typed, breaks11, breaks12, breaks13, breaks14, breaks15, breaks16}
 use Rattle.language.proofs.TableView.{register-count, type-is, block-count, block-rows-count}
 use Rattle.theorems.proofs.AcceptanceRows.{range-parts}
 use Rattle.rules.specs.Tests.{lowest, laterTests}
 use Rattle.flow.specs.Layout.{incomingIn, phisIn}
-use Rattle.rules.specs.Cells.{Stands, Judged, spot, retaken, unset, binaryTyped}
+use Rattle.rules.specs.Cells.{RowStands, Judged, spot, retaken, unset, binaryTyped}
 use Rattle.rules.proofs.Firsts.{any-not-all}
 use Rattle.rules.proofs.FaultLaws.{ssa-is, led, breaks12-at, breaks16-at}
 
@@ -64,7 +64,7 @@ empty-from : (g : ℕ → ℕ) (k n : ℕ) → empty (map g (from k n)) ≡ eqb 
 empty-from g k zero = refl
 empty-from g k (suc n) = sym (eqb·suc-zero n)
 
-module _ (t : List ℕ) (a : ℕ) (m : List ℕ) (b j k : ℕ) (h : Stands t a m b j k) where
+module _ (t : List ℕ) (a : ℕ) (m : List ℕ) (b j k : ℕ) (h : RowStands t a m b j k) where
   abbrev f : Func
   f = decodeFunction t a
 
@@ -72,8 +72,8 @@ module _ (t : List ℕ) (a : ℕ) (m : List ℕ) (b j k : ℕ) (h : Stands t a m
   ranged : (r : Row) → T (inRange f r) → Every (λ u. u < registerCount t a) (targetsOf r ++ (sourcesOf r ++ entriesOf r))
   ranged r n = rw register-count at (range-parts f r n .registers)
 
-  few : (u : ℕ) → u < registerCount t a → u < 256
-  few u l = let q : registerCount t a ≤ 256 = h .sized .registers in omega arith
+  few : (u : ℕ) → u < registerCount t a → u < maxRegisters
+  few u l = let q : registerCount t a ≤ maxRegisters = h .sized .registers in omega arith
 
   row-as : (g : Form) → formOf (rowOp t a k) ≡ g → decodeRow t a k ≡ decodeAs g t a k
   unfolding decodeRow

@@ -17,7 +17,7 @@ use Rattle.language.specs.Table.{functionResult, registerType, blockRows, rowOp
 use Rattle.language.specs.Checking.{Spot, spotAt, inRange, breaks10}
 use Rattle.language.proofs.TableView.{block-rows-count}
 use Rattle.rules.specs.Tests.{lowest, laterTests, formFault}
-use Rattle.rules.specs.Cells.{Stands, Judged, spot, unset}
+use Rattle.rules.specs.Cells.{RowStands, Judged, spot, unset}
 use Rattle.language.proofs.FormLaws.{each, form-past, unknown-past}
 use Rattle.rules.proofs.RangeLaws.{row-form, unknown-range}
 use Rattle.rules.proofs.FormFaultLaws.{nop-judged, jump-judged, branch-judged, return-judged, leave-judged}
@@ -25,7 +25,7 @@ use Rattle.rules.proofs.Standing.{spot-here}
 
 -- ---- 11 to 16, by the form
 
-module _ (t : List ℕ) (a : ℕ) (m : List ℕ) (b j k op form : ℕ) (h : Stands t a m b j k) (n : T (inRange (decodeFunction t a) (decodeRow t a k))) (fetched : op ≡ rowOp t a k) (formed : form ≡ formNumber (formOf op)) where
+module _ (t : List ℕ) (a : ℕ) (m : List ℕ) (b j k op form : ℕ) (h : RowStands t a m b j k) (n : T (inRange (decodeFunction t a) (decodeRow t a k))) (fetched : op ≡ rowOp t a k) (formed : form ≡ formNumber (formOf op)) where
   abbrev Later : ℕ → Row → Type 0
   Later r x = r ≡ lowest 11 (laterTests (decodeFunction t a) (spot b j x))
 
@@ -123,7 +123,7 @@ form-fault : (f : Func) (s : Spot) → formFault f s ≡ cond (breaks10 f s) 10 
 unfolding formFault laterTests
 form-fault f s = refl
 
-module _ (t : List ℕ) (a : ℕ) (m : List ℕ) (b j k : ℕ) (h : Stands t a m b j k) where
+module _ (t : List ℕ) (a : ℕ) (m : List ℕ) (b j k : ℕ) (h : RowStands t a m b j k) where
   abbrev f : Func
   f = decodeFunction t a
 

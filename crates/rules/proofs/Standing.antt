@@ -5,25 +5,25 @@ use mathlib.Core.List.{List}
 use Prim.Native.Nat.{ℕ, _+_, _≤_, _<_}
 use native.Mathlib.Omega.{arith}
 use lib.ListN.{length, getD}
-use Rattle.language.specs.Programs.{Row, rowsAt, rowsOf}
+use Rattle.language.specs.Programs.{Row, rowsAt, rowsOf, maxRows, maxEntries}
 use Rattle.language.specs.Table.{blockFirst, rowCount, rowOp, phiFirst, phiCount, decodeRow, decodeFunction}
 use Rattle.language.specs.Checking.{spotAt, rowNumber}
 use Rattle.language.specs.Instructions.{phiOp}
 use Rattle.language.proofs.TableView.{block-row-is, first-row-is, row-is, row-count}
 use Rattle.flow.proofs.Standing.{row-within, entries-within}
-use Rattle.rules.specs.Cells.{Stands, spot}
+use Rattle.rules.specs.Cells.{RowStands, spot}
 
-module _ (t : List ℕ) (a : ℕ) (m : List ℕ) (b j k : ℕ) (h : Stands t a m b j k) where
+module _ (t : List ℕ) (a : ℕ) (m : List ℕ) (b j k : ℕ) (h : RowStands t a m b j k) where
   pub row-below : k < rowCount t a
   row-below = rw (h .row) (row-within t a (h .sized) b j (h .block) (h .index))
 
-  pub row-limit : k < 1024
-  row-limit = let l : k < rowCount t a = row-below in let q : rowCount t a ≤ 1024 = h .sized .rows in omega arith
+  pub row-limit : k < maxRows
+  row-limit = let l : k < rowCount t a = row-below in let q : rowCount t a ≤ maxRows = h .sized .rows in omega arith
 
-  pub place-limit : j < 1024
-  place-limit = let l : k < 1024 = row-limit in let e : k ≡ blockFirst t a b + j = h .row in omega arith
+  pub place-limit : j < maxRows
+  place-limit = let l : k < maxRows = row-limit in let e : k ≡ blockFirst t a b + j = h .row in omega arith
 
-  pub phi-limit : rowOp t a k ≡ phiOp → phiFirst t a k + phiCount t a k ≤ 1024
+  pub phi-limit : rowOp t a k ≡ phiOp → phiFirst t a k + phiCount t a k ≤ maxEntries
   phi-limit e = entries-within t a (h .sized) k row-below e
 
   -- the row at the place, by its number

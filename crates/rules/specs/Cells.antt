@@ -16,7 +16,7 @@ use Rattle.flow.specs.Prepared.{Prepared}
 use Rattle.rules.specs.Tests.{lowest, laterTests}
 
 -- Row k of the function at cell a stands at place j of block b, and m is prepared of that function.
-pub record Stands (t : List ℕ) (a : ℕ) (m : List ℕ) (b j k : ℕ) : Type 0 where
+pub record RowStands (t : List ℕ) (a : ℕ) (m : List ℕ) (b j k : ℕ) : Type 0 where
   pub sized : Sized t a
   pub prepared : Prepared (decodeFunction t a) m
   pub block : b < blockCount t a
@@ -30,7 +30,7 @@ spot b j r = record { block = b; index = j; row = r }
 -- r is the lowest of 11 to 16 that row k breaks, if it is of form g and its numbers are in their ranges.
 unfoldable pub Judged : Form → List ℕ → ℕ → List ℕ → ℕ → ℕ → ℕ → ℕ → Type 0
 Judged g t a m b j k r =
-    Stands t a m b j k
+    RowStands t a m b j k
     → formOf (rowOp t a k) ≡ g
     → T (inRange (decodeFunction t a) (decodeAs g t a k))
     → r ≡ lowest 11 (laterTests (decodeFunction t a) (spot b j (decodeAs g t a k)))

@@ -13,8 +13,9 @@ ghost use Rattle.language.specs.Table.{InTable};
 ghost use Rattle.language.specs.Checking.{inRange, spotAt};
 ghost use Rattle.flow.specs.Layout.{flowLength};
 ghost use Rattle.rules.specs.Tests.{lowest, laterTests, formFault};
-ghost use Rattle.rules.specs.Cells.{Stands, Judged, spot, retaken as retakenBy, unset as unsetBy, binaryTyped};
+ghost use Rattle.rules.specs.Cells.{RowStands, Judged, spot, retaken as retakenBy, unset as unsetBy, binaryTyped};
 ghost use Rattle.instructions.specs.Shapes.{isTerminatorOp};
+ghost use Rattle.language.specs.Programs.{maxRows, maxEntries, maxBlocks, maxRegisters};
 use crate::ranges::form_of;
 use flow::assignment;
 use flow::incoming;
@@ -40,7 +41,7 @@ use table::row_target;
 
 // 12 of a row k that assigns register u.
 fn retaken(t: &[u8], a: usize, m: &[u16], u: usize, k: usize) -> bool
-    requires { ⌜ (InTable (now t) a) × (length (now m) ≡ flowLength) × (u < 256) × (k < 1024) ⌝ }
+    requires { ⌜ (InTable (now t) a) × (length (now m) ≡ flowLength) × (u < maxRegisters) × (k < maxRows) ⌝ }
     ensures { λ r. ⌜ r ≡ retakenBy (now (t .entry)) a (now (m .entry)) u k ⌝ }
 {
     (function_ssa(t, a) == 1) & ((u < function_params(t, a)) | (assignment(m, u) != k + 1))
@@ -48,7 +49,7 @@ fn retaken(t: &[u8], a: usize, m: &[u16], u: usize, k: usize) -> bool
 
 // 16 of a row that uses register u.
 fn unset(t: &[u8], a: usize, m: &[u16], u: usize) -> bool
-    requires { ⌜ (InTable (now t) a) × (length (now m) ≡ flowLength) × (u < 256) ⌝ }
+    requires { ⌜ (InTable (now t) a) × (length (now m) ≡ flowLength) × (u < maxRegisters) ⌝ }
     ensures { λ r. ⌜ r ≡ unsetBy (now (t .entry)) a (now (m .entry)) u ⌝ }
 {
     (function_ssa(t, a) == 1) & ((function_params(t, a) <= u) & (assignment(m, u) == 0))
@@ -94,7 +95,7 @@ fn binary_typed(op: u8, target: u8, left: u8, right: u8) -> bool
 
 // Every one of `count` phi entries from `first` on is a register of this type.
 fn entries_typed(t: &[u8], a: usize, first: usize, count: usize, kind: u8) -> bool
-    requires { ⌜ (InTable (now t) a) × (first + count ≤ 1024) ⌝ }
+    requires { ⌜ (InTable (now t) a) × (first + count ≤ maxEntries) ⌝ }
     ensures { λ r. ⌜ r ≡ all (λ u. eqb (registerType (now (t .entry)) a u) kind) (map (phiEntry (now (t .entry)) a) (from first count)) ⌝ }
 {
     let mut i = 0;
@@ -109,7 +110,7 @@ fn entries_typed(t: &[u8], a: usize, first: usize, count: usize, kind: u8) -> bo
 
 // None of them breaks 16.
 fn entries_set(t: &[u8], a: usize, m: &[u16], first: usize, count: usize) -> bool
-    requires { ⌜ (InTable (now t) a) × (length (now m) ≡ flowLength) × (first + count ≤ 1024) ⌝ }
+    requires { ⌜ (InTable (now t) a) × (length (now m) ≡ flowLength) × (first + count ≤ maxEntries) ⌝ }
     ensures { λ r. ⌜ r ≡ all (λ u. not (unsetBy (now (t .entry)) a (now (m .entry)) u)) (map (phiEntry (now (t .entry)) a) (from first count)) ⌝ }
 {
     let mut i = 0;
@@ -132,7 +133,7 @@ fn misended(op: u8, last: bool) -> bool
 // The lowest of 11 to 16 that a row of each form breaks.
 
 fn load_fault(t: &[u8], a: usize, m: &[u16], k: usize) -> u8
-    requires { ⌜ (InTable (now t) a) × (length (now m) ≡ flowLength) × (k < 1024) ⌝ }
+    requires { ⌜ (InTable (now t) a) × (length (now m) ≡ flowLength) × (k < maxRows) ⌝ }
     ensures { λ r. ⌜ ((b j : ℕ) → Judged Form.load (now (t .entry)) a (now (m .entry)) b j k r) ⌝ }
 {
     let target = row_target(t, a, k);
@@ -148,7 +149,7 @@ fn load_fault(t: &[u8], a: usize, m: &[u16], k: usize) -> u8
 }
 
 fn unary_fault(t: &[u8], a: usize, m: &[u16], k: usize) -> u8
-    requires { ⌜ (InTable (now t) a) × (length (now m) ≡ flowLength) × (k < 1024) ⌝ }
+    requires { ⌜ (InTable (now t) a) × (length (now m) ≡ flowLength) × (k < maxRows) ⌝ }
     ensures { λ r. ⌜ ((b j : ℕ) → Judged Form.unary (now (t .entry)) a (now (m .entry)) b j k r) ⌝ }
 {
     let op = row_op(t, a, k);
@@ -167,7 +168,7 @@ fn unary_fault(t: &[u8], a: usize, m: &[u16], k: usize) -> u8
 }
 
 fn binary_fault(t: &[u8], a: usize, m: &[u16], k: usize) -> u8
-    requires { ⌜ (InTable (now t) a) × (length (now m) ≡ flowLength) × (k < 1024) ⌝ }
+    requires { ⌜ (InTable (now t) a) × (length (now m) ≡ flowLength) × (k < maxRows) ⌝ }
     ensures { λ r. ⌜ ((b j : ℕ) → Judged Form.binary (now (t .entry)) a (now (m .entry)) b j k r) ⌝ }
 {
     let target = row_target(t, a, k);
@@ -192,8 +193,8 @@ fn binary_fault(t: &[u8], a: usize, m: &[u16], k: usize) -> u8
 }
 
 fn phi_fault(t: &[u8], a: usize, m: &[u16], b: usize, j: usize, k: usize) -> u8
-    requires { ⌜ (InTable (now t) a) × (length (now m) ≡ flowLength) × (b < 64) × (k < 1024) ⌝ }
-    requires { ⌜ phiFirst (now t) a k + phiCount (now t) a k ≤ 1024 ⌝ }
+    requires { ⌜ (InTable (now t) a) × (length (now m) ≡ flowLength) × (b < maxBlocks) × (k < maxRows) ⌝ }
+    requires { ⌜ phiFirst (now t) a k + phiCount (now t) a k ≤ maxEntries ⌝ }
     ensures { λ r. ⌜ Judged Form.phi (now (t .entry)) a (now (m .entry)) b j k r ⌝ }
 {
     let target = row_target(t, a, k);
@@ -215,7 +216,7 @@ fn phi_fault(t: &[u8], a: usize, m: &[u16], b: usize, j: usize, k: usize) -> u8
 
 // A terminator with a source, which must be of type `kind`.
 fn source_fault(t: &[u8], a: usize, m: &[u16], k: usize, kind: u8) -> u8
-    requires { ⌜ (InTable (now t) a) × (length (now m) ≡ flowLength) × (k < 1024) ⌝ }
+    requires { ⌜ (InTable (now t) a) × (length (now m) ≡ flowLength) × (k < maxRows) ⌝ }
     ensures { λ r. ⌜ r ≡ lowest 11 (not (eqb (registerType (now (t .entry)) a (rowLeft (now (t .entry)) a k)) kind) ∷ false ∷ false ∷ false ∷ false ∷ unsetBy (now (t .entry)) a (now (m .entry)) (rowLeft (now (t .entry)) a k) ∷ []) ⌝ }
 {
     let source = row_left(t, a, k);
@@ -245,8 +246,8 @@ fn leave_fault(t: &[u8], a: usize) -> u8
 
 // The lowest of 11 to 16 that row k breaks; `op` is its instruction.
 fn later_fault(t: &[u8], a: usize, m: &[u16], b: usize, j: usize, k: usize, op: u8) -> u8
-    requires { ⌜ (InTable (now t) a) × (length (now m) ≡ flowLength) × (b < 64) × (k < 1024) × (op ≡ rowOp (now t) a k) ⌝ }
-    requires { ⌜ Stands (now t) a (now m) b j k × T (inRange (decodeFunction (now t) a) (decodeRow (now t) a k)) ⌝ }
+    requires { ⌜ (InTable (now t) a) × (length (now m) ≡ flowLength) × (b < maxBlocks) × (k < maxRows) × (op ≡ rowOp (now t) a k) ⌝ }
+    requires { ⌜ RowStands (now t) a (now m) b j k × T (inRange (decodeFunction (now t) a) (decodeRow (now t) a k)) ⌝ }
     ensures { λ r. ⌜ r ≡ lowest 11 (laterTests (decodeFunction (now (t .entry)) a) (spot b j (decodeRow (now (t .entry)) a k))) ⌝ }
 {
     let form = form_of(op);
@@ -266,7 +267,7 @@ fn later_fault(t: &[u8], a: usize, m: &[u16], b: usize, j: usize, k: usize, op: 
 
 // The lowest of 10 to 16 that row k breaks, which stands at place j of block b, or 0. Its numbers are in their ranges.
 pub fn form_fault(t: &[u8], a: usize, m: &[u16], b: usize, j: usize, k: usize) -> u8
-    requires { ⌜ Stands (now t) a (now m) b j k × T (inRange (decodeFunction (now t) a) (decodeRow (now t) a k)) ⌝ }
+    requires { ⌜ RowStands (now t) a (now m) b j k × T (inRange (decodeFunction (now t) a) (decodeRow (now t) a k)) ⌝ }
     ensures { λ r. ⌜ r ≡ formFault (decodeFunction (now (t .entry)) a) (spotAt (decodeFunction (now (t .entry)) a) b j) ⌝ }
 {
     let op = row_op(t, a, k);

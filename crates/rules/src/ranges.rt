@@ -7,6 +7,7 @@ ghost use Rattle.laws.specs.Lists.{all, from};
 ghost use Rattle.language.specs.Instructions.{Form, formOf, formNumber, phiOp};
 ghost use Rattle.language.specs.Table.{registerCount, blockCount, rowOp, phiFirst, phiCount, phiEntry, decodeAs, decodeRow, decodeFunction, InTable};
 ghost use Rattle.language.specs.Checking.{inRange};
+ghost use Rattle.language.specs.Programs.{maxRows, maxEntries};
 use instructions::forms;
 use instructions::load_type;
 use instructions::number_fits;
@@ -32,7 +33,7 @@ pub fn form_of(op: u8) -> u8
 
 // Every one of `count` phi entries from `first` on is a register.
 fn entries_in_range(t: &[u8], a: usize, registers: usize, first: usize, count: usize) -> bool
-    requires { ⌜ (InTable (now t) a) × (first + count ≤ 1024) ⌝ }
+    requires { ⌜ (InTable (now t) a) × (first + count ≤ maxEntries) ⌝ }
     ensures { λ r. ⌜ r ≡ all (λ u. ltb u registers) (map (phiEntry (now (t .entry)) a) (from first count)) ⌝ }
 {
     let mut i = 0;
@@ -48,7 +49,7 @@ fn entries_in_range(t: &[u8], a: usize, registers: usize, first: usize, count: u
 // The same test of a row of each form.
 
 fn load_in_range(t: &[u8], a: usize, registers: usize, k: usize, op: u8) -> bool
-    requires { ⌜ (InTable (now t) a) × (registers ≡ registerCount (now t) a) × (k < 1024) ⌝ }
+    requires { ⌜ (InTable (now t) a) × (registers ≡ registerCount (now t) a) × (k < maxRows) ⌝ }
     requires { ⌜ (op ≡ rowOp (now t) a k) × (formOf op ≡ Form.load) ⌝ }
     ensures { λ r. ⌜ r ≡ inRange (decodeFunction (now (t .entry)) a) (decodeAs Form.load (now (t .entry)) a k) ⌝ }
 {
@@ -56,7 +57,7 @@ fn load_in_range(t: &[u8], a: usize, registers: usize, k: usize, op: u8) -> bool
 }
 
 fn unary_in_range(t: &[u8], a: usize, registers: usize, k: usize) -> bool
-    requires { ⌜ (InTable (now t) a) × (registers ≡ registerCount (now t) a) × (k < 1024) ⌝ }
+    requires { ⌜ (InTable (now t) a) × (registers ≡ registerCount (now t) a) × (k < maxRows) ⌝ }
     requires { ⌜ formOf (rowOp (now t) a k) ≡ Form.unary ⌝ }
     ensures { λ r. ⌜ r ≡ inRange (decodeFunction (now (t .entry)) a) (decodeAs Form.unary (now (t .entry)) a k) ⌝ }
 {
@@ -64,7 +65,7 @@ fn unary_in_range(t: &[u8], a: usize, registers: usize, k: usize) -> bool
 }
 
 fn binary_in_range(t: &[u8], a: usize, registers: usize, k: usize) -> bool
-    requires { ⌜ (InTable (now t) a) × (registers ≡ registerCount (now t) a) × (k < 1024) ⌝ }
+    requires { ⌜ (InTable (now t) a) × (registers ≡ registerCount (now t) a) × (k < maxRows) ⌝ }
     requires { ⌜ formOf (rowOp (now t) a k) ≡ Form.binary ⌝ }
     ensures { λ r. ⌜ r ≡ inRange (decodeFunction (now (t .entry)) a) (decodeAs Form.binary (now (t .entry)) a k) ⌝ }
 {
@@ -74,8 +75,8 @@ fn binary_in_range(t: &[u8], a: usize, registers: usize, k: usize) -> bool
 }
 
 fn phi_in_range(t: &[u8], a: usize, registers: usize, k: usize) -> bool
-    requires { ⌜ (InTable (now t) a) × (registers ≡ registerCount (now t) a) × (k < 1024) ⌝ }
-    requires { ⌜ phiFirst (now t) a k + phiCount (now t) a k ≤ 1024 ⌝ }
+    requires { ⌜ (InTable (now t) a) × (registers ≡ registerCount (now t) a) × (k < maxRows) ⌝ }
+    requires { ⌜ phiFirst (now t) a k + phiCount (now t) a k ≤ maxEntries ⌝ }
     ensures { λ r. ⌜ r ≡ inRange (decodeFunction (now (t .entry)) a) (decodeAs Form.phi (now (t .entry)) a k) ⌝ }
 {
     (row_target(t, a, k) < registers)
@@ -83,14 +84,14 @@ fn phi_in_range(t: &[u8], a: usize, registers: usize, k: usize) -> bool
 }
 
 fn jump_in_range(t: &[u8], a: usize, blocks: usize, k: usize) -> bool
-    requires { ⌜ (InTable (now t) a) × (blocks ≡ blockCount (now t) a) × (k < 1024) ⌝ }
+    requires { ⌜ (InTable (now t) a) × (blocks ≡ blockCount (now t) a) × (k < maxRows) ⌝ }
     ensures { λ r. ⌜ r ≡ inRange (decodeFunction (now (t .entry)) a) (decodeAs Form.jump (now (t .entry)) a k) ⌝ }
 {
     jump_first(t, a, k) < blocks
 }
 
 fn branch_in_range(t: &[u8], a: usize, registers: usize, blocks: usize, k: usize) -> bool
-    requires { ⌜ (InTable (now t) a) × (registers ≡ registerCount (now t) a) × (blocks ≡ blockCount (now t) a) × (k < 1024) ⌝ }
+    requires { ⌜ (InTable (now t) a) × (registers ≡ registerCount (now t) a) × (blocks ≡ blockCount (now t) a) × (k < maxRows) ⌝ }
     ensures { λ r. ⌜ r ≡ inRange (decodeFunction (now (t .entry)) a) (decodeAs Form.branch (now (t .entry)) a k) ⌝ }
 {
     (row_left(t, a, k) < registers)
@@ -99,7 +100,7 @@ fn branch_in_range(t: &[u8], a: usize, registers: usize, blocks: usize, k: usize
 }
 
 fn return_in_range(t: &[u8], a: usize, registers: usize, k: usize) -> bool
-    requires { ⌜ (InTable (now t) a) × (registers ≡ registerCount (now t) a) × (k < 1024) ⌝ }
+    requires { ⌜ (InTable (now t) a) × (registers ≡ registerCount (now t) a) × (k < maxRows) ⌝ }
     ensures { λ r. ⌜ r ≡ inRange (decodeFunction (now (t .entry)) a) (decodeAs Form.return (now (t .entry)) a k) ⌝ }
 {
     row_left(t, a, k) < registers
@@ -108,8 +109,8 @@ fn return_in_range(t: &[u8], a: usize, registers: usize, k: usize) -> bool
 // Row k of the function at cell a has no number outside its range. The function's two counts are handed in, since every row
 // is tested against them.
 pub fn in_range(t: &[u8], a: usize, registers: usize, blocks: usize, k: usize) -> bool
-    requires { ⌜ (InTable (now t) a) × (registers ≡ registerCount (now t) a) × (blocks ≡ blockCount (now t) a) × (k < 1024) ⌝ }
-    requires { ⌜ (rowOp (now t) a k ≡ phiOp → phiFirst (now t) a k + phiCount (now t) a k ≤ 1024) ⌝ }
+    requires { ⌜ (InTable (now t) a) × (registers ≡ registerCount (now t) a) × (blocks ≡ blockCount (now t) a) × (k < maxRows) ⌝ }
+    requires { ⌜ (rowOp (now t) a k ≡ phiOp → phiFirst (now t) a k + phiCount (now t) a k ≤ maxEntries) ⌝ }
     ensures { λ r. ⌜ r ≡ inRange (decodeFunction (now (t .entry)) a) (decodeRow (now (t .entry)) a k) ⌝ }
 {
     let op = row_op(t, a, k);

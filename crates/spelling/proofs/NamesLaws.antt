@@ -18,7 +18,7 @@ use Rattle.language.specs.Programs.{maxName}
 use Rattle.language.specs.Words.{wordOf, wordCount}
 use Rattle.laws.proofs.Branches.{cond-same}
 use Rattle.language.proofs.SpelledNames.{spoiled}
-use Rattle.spelling.specs.Names.{Begins, closing}
+use Rattle.spelling.specs.Names.{Begins, closesQuote}
 
 -- the first i bytes bring the spelling this far
 abbrev pub spelling : List ℕ → ℕ → Spelling
@@ -107,8 +107,8 @@ module _ (b : ℕ) {k : ℕ} (small : b < 256) (class : k ≡ classNumber (class
 
 -- ---- in quotes
 
-next-quoted : (a b : ℕ) → nextSpelled (insideQuotes a) b ≡ cond (closing a b) Spelling.closed (insideQuotes b)
-unfolding closing
+next-quoted : (a b : ℕ) → nextSpelled (insideQuotes a) b ≡ cond (closesQuote a b) Spelling.closed (insideQuotes b)
+unfolding closesQuote
 next-quoted a b = by (eqb a backslash)
   where
     by : (p : Bool) → nextSpelled (cond p Spelling.escaping Spelling.inside) b ≡ cond (eqb b quoteByte && not p) Spelling.closed (insideQuotes b)
@@ -116,10 +116,10 @@ next-quoted a b = by (eqb a backslash)
     by false = rw (and-true (eqb b quoteByte))
 
 module _ (a b : ℕ) (small : b < 256) where
-  pub quoted-on : closing a b ≡ false → spell (insideQuotes a) b ≡ insideQuotes b
+  pub quoted-on : closesQuote a b ≡ false → spell (insideQuotes a) b ≡ insideQuotes b
   quoted-on e = spell-byte (insideQuotes a) b small ∙ next-quoted a b ∙ rw e
 
-  pub quoted-closes : closing a b ≡ true → spell (insideQuotes a) b ≡ Spelling.closed
+  pub quoted-closes : closesQuote a b ≡ true → spell (insideQuotes a) b ≡ Spelling.closed
   quoted-closes e = spell-byte (insideQuotes a) b small ∙ next-quoted a b ∙ rw e
 
 pub opened-on : (b : ℕ) → b < 256 → (b ≡ quoteByte → ⊥) → spell Spelling.opened b ≡ insideQuotes b

@@ -19,7 +19,7 @@ use Rattle.laws.proofs.Tests.{of-true}
 use Rattle.language.specs.Checking.{distinct}
 use Rattle.spelling.specs.Names.{namesIn}
 use Rattle.spelling.specs.Hashes.{hashOf}
-use Rattle.spelling.specs.Chains.{Chained, Falling, Met, ChainsKept, Added, fresh}
+use Rattle.spelling.specs.Chains.{Chained, Falling, ChainMet, ChainsKept, Added, freshName}
 use Rattle.spelling.proofs.InTable.{name, names-more, names-rest}
 use Rattle.spelling.proofs.Distinct.{unlike, distinct-more, distinct-not}
 
@@ -50,20 +50,20 @@ module _ (t : List ℕ) (at stride i : ℕ) where
   abbrev new : List ℕ
   new = name t at stride i
 
-  pub fresh-empty : length new ≡ 0 → fresh t at stride i ≡ true
-  unfolding fresh
+  pub fresh-empty : length new ≡ 0 → freshName t at stride i ≡ true
+  unfolding freshName
   fresh-empty e = rw (empty-none new e)
 
-  pub fresh-not : (length new ≡ 0 → ⊥) → (j : ℕ) → j < i → same (name t at stride j) new ≡ true → fresh t at stride i ≡ false
-  unfolding fresh namesIn
+  pub fresh-not : (length new ≡ 0 → ⊥) → (j : ℕ) → j < i → same (name t at stride j) new ≡ true → freshName t at stride i ≡ false
+  unfolding freshName namesIn
   fresh-not n j h e =
       let found : any (same new) (namesIn t at stride i) ≡ true =
       any-at (same new) (namesIn t at stride i) j [] (rw (length-map-from (name t at stride) 0 i) h)
       (ap (same new) (getD-map-from (name t at stride) [] 0 i j h ∙ ap (name t at stride) (zero-add j)) ∙ same-sym new (name t at stride j) ∙ e) in
       rw (empty-some new n, found)
 
-  pub fresh-new : (length new ≡ 0 → ⊥) → ((j : ℕ) → j < i → same (name t at stride j) new ≡ true → ⊥) → fresh t at stride i ≡ true
-  unfolding fresh namesIn
+  pub fresh-new : (length new ≡ 0 → ⊥) → ((j : ℕ) → j < i → same (name t at stride j) new ≡ true → ⊥) → freshName t at stride i ≡ true
+  unfolding freshName namesIn
   fresh-new n h =
       let none : any (same new) (namesIn t at stride i) ≡ false =
       none-every (same new)
@@ -160,7 +160,7 @@ module _ (t : List ℕ) (at stride i : ℕ) {last before : List ℕ} (k : Chains
   added-empty e = record { clashes = rw (fresh-empty t at stride i e); kept = λ p. kept-empty t at stride i k e }
 
   module _ {part : List ℕ} (is : part ≡ name t at stride i) (some : length part ≡ 0 → ⊥) {h x : ℕ} (hash : h ≡ hashOf part) (from : x ≡ getD last h 0) {r : Bool}
-      (m : Met t at stride part x before r) where
+      (m : ChainMet t at stride part x before r) where
     bytes : length (name t at stride i) ≡ 0 → ⊥
     bytes e = some (ap length is ∙ e)
 
@@ -194,12 +194,12 @@ module _ (t : List ℕ) (at stride i : ℕ) {last before : List ℕ} (k : Chains
 
 module _ (t : List ℕ) (at stride i : ℕ) {last before : List ℕ} {r : Bool} (so-far : distinct (namesIn t at stride i) ≡ true) (a : Added t at stride i last before r) where
   next : distinct (namesIn t at stride (i + 1)) ≡ not r
-  unfolding fresh
+  unfolding freshName
   next =
       ap distinct (names-more t at stride i)
       ∙ distinct-more (namesIn t at stride i) (name t at stride i)
       ∙ ap (λ (b : Bool). b && unlike (name t at stride i) (namesIn t at stride i)) so-far
-      ∙ sym (ap not (a .clashes) ∙ Bool·not-not (fresh t at stride i))
+      ∙ sym (ap not (a .clashes) ∙ Bool·not-not (freshName t at stride i))
 
   pub distinct-on : r ≡ false → distinct (namesIn t at stride (i + 1)) ≡ true
   distinct-on e = next ∙ ap not e

@@ -20,5 +20,5 @@ pub record Begins (name : List ℕ) (s : Spelling) : Type 0 where
   pub first : spell Spelling.none (getD name 0 0) ≡ s
 
 -- A quote that no backslash makes part of the name.
-unfoldable pub closing : (before byte : ℕ) → Bool
-closing a b = eqb b quoteByte && not (eqb a backslash)
+unfoldable pub closesQuote : (before byte : ℕ) → Bool
+closesQuote a b = eqb b quoteByte && not (eqb a backslash)

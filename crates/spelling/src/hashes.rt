@@ -3,10 +3,10 @@ ghost use mathlib.Core.Path.{_≡_};
 ghost use Prim.Native.Nat.{_/_, _<_, _≤_};
 ghost use lib.ListN.{length};
 ghost use Rattle.spelling.specs.Hashes.{mixed, eightsOf, endOf, hashOf};
+use numbers::eight_at;
+use numbers::four_at;
+use numbers::wide;
 use std::num::wrapping_add_u64;
-use table::eight_at;
-use table::four_at;
-use table::wide;
 
 // Eight bytes more: two products whose high bits all of them reach.
 fn mix(h: u64, x: u64) -> u64

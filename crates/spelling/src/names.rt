@@ -1,17 +1,16 @@
 // Names that some text can spell, told from their bytes in one pass.
 ghost use mathlib.Core.Path.{_≡_};
 ghost use mathlib.Core.List.{foldl};
-ghost use Prim.Native.Nat.{_+_, _*_, _≤_};
-ghost use lib.ListN.{length};
 ghost use Rattle.laws.specs.Lists.{all};
 ghost use Rattle.language.specs.Names.{Spelling, spell, whole, spelled as spelledOf};
 ghost use Rattle.language.specs.Checking.{spelledOrNone};
 ghost use Rattle.lexer.specs.Lexing.{classTable};
-ghost use Rattle.spelling.specs.Names.{Begins, closing, namesIn};
+ghost use Rattle.spelling.specs.Names.{Begins, closesQuote, namesIn};
+ghost use Rattle.table.specs.Named.{NamesWithin};
 use instructions::words;
+use numbers::wide;
 use table::MAX_NAME;
 use table::name_at;
-use table::wide;
 
 // "A name has 1 to 64 bytes so counted."
 
@@ -32,7 +31,7 @@ fn plain(name: &[u8], classes: &[u8; 256]) -> bool
 
 // A bare quote: no backslash stands directly before it.
 fn closes(before: u8, b: u8) -> bool
-    ensures { λ r. ⌜ r ≡ closing before b ⌝ }
+    ensures { λ r. ⌜ r ≡ closesQuote before b ⌝ }
 {
     if b != 39 {
         return false;
@@ -106,7 +105,7 @@ fn spelled_or_none(name: &[u8], classes: &[u8; 256]) -> bool
 
 // Whether each of `count` names has no bytes or is one that a text can spell. Their length cells stand `stride` apart, from cell `at` on.
 pub fn all_spelled(t: &[u8], at: usize, stride: usize, count: usize, classes: &[u8; 256]) -> bool
-    requires { ⌜ (at + stride * count + 256 ≤ length (now t) + stride) × (now classes ≡ classTable) ⌝ }
+    requires { ⌜ NamesWithin (now t) at stride count × (now classes ≡ classTable) ⌝ }
     ensures { λ r. ⌜ r ≡ all spelledOrNone (namesIn (now (t .entry)) at stride count) ⌝ }
 {
     let mut i = 0;

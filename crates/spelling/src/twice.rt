@@ -5,21 +5,19 @@ ghost use Prim.Native.Nat.{_+_, _*_, _<_, _≤_};
 ghost use lib.ListN.{length};
 ghost use Rattle.language.specs.Checking.{distinct};
 ghost use Rattle.spelling.specs.Names.{namesIn};
-ghost use Rattle.spelling.specs.Chains.{Falling, Met, ChainsKept, Added};
+ghost use Rattle.spelling.specs.Chains.{Falling, ChainMet, ChainsKept, Added};
+ghost use Rattle.language.specs.Programs.{maxRegisters};
+ghost use Rattle.table.specs.Named.{NameWithin, NamesWithin};
 use crate::hashes::hash;
+use numbers::wide_two;
+use table::MAX_REGISTERS;
 use table::name_at;
 use table::same;
 
-fn wide(x: u16) -> usize
-    ensures { λ r. ⌜ (r ≡ x) × (r < 65536) ⌝ }
-{
-    x as usize
-}
-
 // Whether the chain from x on has a name of these bytes.
 fn met(t: &[u8], at: usize, stride: usize, name: &[u8], x: usize, before: &[u16]) -> bool
-    requires { ⌜ (at + stride * x + 256 ≤ length (now t) + stride) × (x ≤ length (now before)) × Falling (now before) ⌝ }
-    ensures { λ r. ⌜ Met (now (t .entry)) at stride (now (name .entry)) x (now (before .entry)) r ⌝ }
+    requires { ⌜ NamesWithin (now t) at stride x × (x ≤ length (now before)) × Falling (now before) ⌝ }
+    ensures { λ r. ⌜ ChainMet (now (t .entry)) at stride (now (name .entry)) x (now (before .entry)) r ⌝ }
 {
     let mut y = x;
     while y != 0 {
@@ -27,7 +25,7 @@ fn met(t: &[u8], at: usize, stride: usize, name: &[u8], x: usize, before: &[u16]
         if same(name_at(t, at + stride * j), name) {
             return true;
         }
-        y = wide(before[j]);
+        y = wide_two(before[j]);
     }
     false
 }
@@ -41,7 +39,7 @@ fn clashes(
     last: &mut [u16],
     before: &mut [u16],
 ) -> bool
-    requires { ⌜ (at + stride * i + 256 ≤ length (now t)) × (i < 256) × ChainsKept (now t) at stride i (now last) (now before) ⌝ }
+    requires { ⌜ NameWithin (now t) (at + stride * i) × (i < 256) × ChainsKept (now t) at stride i (now last) (now before) ⌝ }
     ensures { λ r. ⌜ Added (now (t .entry)) at stride i (now (last .exit)) (now (before .exit)) r ⌝ }
 {
     let name = name_at(t, at + stride * i);
@@ -49,7 +47,7 @@ fn clashes(
         return false;
     }
     let h = hash(name);
-    let x = wide(last[h]);
+    let x = wide_two(last[h]);
     if met(t, at, stride, name, x, before) {
         return true;
     }
@@ -60,11 +58,11 @@ fn clashes(
 
 // Whether no name of one byte or more stands twice among `count` names. Their length cells stand `stride` apart, from cell `at` on.
 pub fn distinct_names(t: &[u8], at: usize, stride: usize, count: usize) -> bool
-    requires { ⌜ (at + stride * count + 256 ≤ length (now t) + stride) × (count ≤ 256) ⌝ }
+    requires { ⌜ NamesWithin (now t) at stride count × (count ≤ maxRegisters) ⌝ }
     ensures { λ r. ⌜ r ≡ distinct (namesIn (now (t .entry)) at stride count) ⌝ }
 {
     let mut last = [0u16; 512];
-    let mut before = [0u16; 256];
+    let mut before = [0u16; MAX_REGISTERS];
     let mut i = 0;
     while i < count {
         if clashes(t, at, stride, i, &mut last, &mut before) {

@@ -12,7 +12,7 @@ use borrow.Author.Tests.{lt-ltb, le-ltb, ltb-true, eqb-true, ltb-false, eqb-fals
 use Rattle.laws.specs.Lists.{position, below, from}
 use Rattle.laws.proofs.Positions.{position-of}
 use Rattle.records.specs.declared.Record.{Record}
-use Rattle.records.specs.Stores.{FoundRecord, Among, Holds, recordAt, countOf, recordsOf}
+use Rattle.records.specs.Stores.{FoundRecord, Among, StoreHolds, recordAt, countOf, recordsOf}
 use Rattle.records.specs.Answers.{Looked, LookedIn}
 use Rattle.records.proofs.Placing.{Placed, Absent, placed, rising-at, lookup-known, lookup-new}
 use Rattle.records.proofs.Cells.{noRecord, held-count, held-record}
@@ -40,7 +40,7 @@ stands-no s n p a e = stands-cases s n p a false e
 
 -- ---- of the records that are held
 
-module _ {s : List ℕ} {es : List Record} (h : Holds s es) where
+module _ {s : List ℕ} {es : List Record} (h : StoreHolds s es) where
   sorted-held : Sorted s (length es)
   sorted-held i j l m =
       let p = held-record h noRecord i (omega arith) in

@@ -3,7 +3,7 @@ use mathlib.Core.Bool.{Bool, true, false, cond}
 use mathlib.Core.List.{List, _∷_, _++_}
 use mathlib.Core.Logic.{inl, inr}
 use mathlib.Core.Path.{_≡_, refl, sym, _∙_, ap}
-use Prim.Native.Nat.{ℕ, suc, _+_, _*_, _<_, _≤_}
+use Prim.Native.Nat.{ℕ, suc, _+_, _<_, _≤_}
 use native.Mathlib.Omega.{arith}
 use lib.ListN.{length, getD, take, drop, length-append, length-drop, take-append-drop}
 use lib.Seq.{sets, length-sets, split-at, length-take-le}
@@ -14,12 +14,12 @@ use Rattle.numbers.specs.Moving.{moved}
 use Rattle.numbers.proofs.MovesLaws.{moved-length}
 use Rattle.records.specs.declared.Record.{Record}
 use Rattle.records.specs.Records.{wins, best}
-use Rattle.records.specs.Stores.{insert, capacity, storeLength, recordCells, storeCells, Holds, recordAt, countOf}
+use Rattle.records.specs.Stores.{insert, capacity, storeLength, recordCells, storeCells, StoreHolds, recordAt, countOf, recordOffset, HasRoom, recordLength}
 use Rattle.records.specs.Answers.{unchanged, kept, keptAs, Kept}
 use Rattle.records.proofs.Placing.{Absent, insert-new, insert-known}
 use Rattle.records.proofs.Cells.{noRecord, held-count, held-record, replaced}
 use Rattle.store.specs.Places.{FirstPlace, standsAt}
-use Rattle.store.specs.Inserting.{overAt, betweenAt}
+use Rattle.store.specs.Inserting.{overAt, insertedAt}
 use Rattle.store.proofs.Finding.{stands-yes, stands-no, placed-held}
 use Rattle.store.proofs.Between.{between}
 
@@ -39,21 +39,21 @@ length-over : (s : List ℕ) (p : ℕ) (r : Record) → length (overAt s p r) �
 unfolding overAt
 length-over s p r = by (wins r (recordAt s p))
   where
-    by : (b : Bool) → length (cond b (sets s (8 + 40 * p) (recordCells r)) s) ≡ length s
-    by true = length-sets s (8 + 40 * p) (recordCells r)
+    by : (b : Bool) → length (cond b (sets s (recordOffset p) (recordCells r)) s) ≡ length s
+    by true = length-sets s (recordOffset p) (recordCells r)
     by false = refl
 
-length-between : (s : List ℕ) (n p : ℕ) (r : Record) → p ≤ n → 48 + 40 * n ≤ length s → length (betweenAt s n p r) ≡ length s
-unfolding betweenAt
+length-between : (s : List ℕ) (n p : ℕ) (r : Record) → p ≤ n → HasRoom s (n + 1) → length (insertedAt s n p r) ≡ length s
+unfolding insertedAt
 length-between s n p r l m =
-    let t = moved s (8 + 40 * p) (8 + 40 * n) 40 in
-    length-sets (sets t (8 + 40 * p) (recordCells r)) 0 (eightBytes (n + 1)) ∙ length-sets t (8 + 40 * p) (recordCells r)
-    ∙ moved-length s (8 + 40 * p) (8 + 40 * n) 40 (omega arith) (omega arith)
+    let t = moved s (recordOffset p) (recordOffset n) recordLength in
+    length-sets (sets t (recordOffset p) (recordCells r)) 0 (eightBytes (n + 1)) ∙ length-sets t (recordOffset p) (recordCells r)
+    ∙ moved-length s (recordOffset p) (recordOffset n) recordLength (omega arith) (omega arith)
 
 -- ---- the bytes
 
 -- at the place of a record of its appliance the winner stays
-over-held : {s : List ℕ} {es : List Record} → Holds s es → (p : ℕ) (r : Record) → p < length es
+over-held : {s : List ℕ} {es : List Record} → StoreHolds s es → (p : ℕ) (r : Record) → p < length es
     → overAt s p r ≡ storeCells (take p es ++ (best r (getD es p noRecord) ∷ drop (suc p) es))
 unfolding overAt best
 over-held {s} {es} h p r l = rw (held-record h noRecord p l) (by (wins r e))
@@ -64,24 +64,24 @@ over-held {s} {es} h p r l = rw (held-record h noRecord p l) (by (wins r e))
     whole : s ≡ storeCells (take p es ++ (e ∷ drop (suc p) es))
     whole = h .bytes ∙ ap storeCells (split-at es p noRecord l)
 
-    at : 8 + 40 * p ≡ 8 + 40 * length (take p es)
+    at : recordOffset p ≡ recordOffset (length (take p es))
     at = omega (arith, length-take-le p es (omega arith))
 
-    by : (b : Bool) → cond b (sets s (8 + 40 * p) (recordCells r)) s ≡ storeCells (take p es ++ (cond b r e ∷ drop (suc p) es))
+    by : (b : Bool) → cond b (sets s (recordOffset p) (recordCells r)) s ≡ storeCells (take p es ++ (cond b r e ∷ drop (suc p) es))
     by true =
-        ap (λ (k : ℕ). sets s k (recordCells r)) at ∙ ap (λ (t : List ℕ). sets t (8 + 40 * length (take p es)) (recordCells r)) whole
+        ap (λ (k : ℕ). sets s k (recordCells r)) at ∙ ap (λ (t : List ℕ). sets t (recordOffset (length (take p es))) (recordCells r)) whole
         ∙ replaced (take p es) (drop (suc p) es) e r
     by false = whole
 
 -- a record of a new appliance goes between the others
-between-held : {s : List ℕ} {es : List Record} → Holds s es → (n p : ℕ) (r : Record) → n ≡ length es → p ≤ n → n < capacity
-    → betweenAt s n p r ≡ storeCells (take p es ++ (r ∷ drop p es))
+between-held : {s : List ℕ} {es : List Record} → StoreHolds s es → (n p : ℕ) (r : Record) → n ≡ length es → p ≤ n → n < capacity
+    → insertedAt s n p r ≡ storeCells (take p es ++ (r ∷ drop p es))
 between-held {s} {es} h n p r e l m =
     let front : length (take p es) ≡ p = length-take-le p es (omega arith) in
     let both : length (take p es) + length (drop p es) ≡ n = omega (arith, length-drop p es) in
-    ap (λ (t : List ℕ). betweenAt t n p r) (h .bytes ∙ ap storeCells (sym (take-append-drop p es)))
-    ∙ ap (λ (k : ℕ). betweenAt (storeCells (take p es ++ drop p es)) k p r) (sym both)
-    ∙ ap (λ (k : ℕ). betweenAt (storeCells (take p es ++ drop p es)) (length (take p es) + length (drop p es)) k r) (sym front)
+    ap (λ (t : List ℕ). insertedAt t n p r) (h .bytes ∙ ap storeCells (sym (take-append-drop p es)))
+    ∙ ap (λ (k : ℕ). insertedAt (storeCells (take p es ++ drop p es)) k p r) (sym both)
+    ∙ ap (λ (k : ℕ). insertedAt (storeCells (take p es ++ drop p es)) (length (take p es) + length (drop p es)) k r) (sym front)
     ∙ between (take p es) (drop p es) r (omega arith)
 
 -- ---- the three outcomes
@@ -105,13 +105,13 @@ module _ (s : List ℕ) (n p : ℕ) (r : Record) (c : n ≡ countOf s) (k : Firs
       }
 
   module _ (y : standsAt s n p (r .appliance) ≡ false) where
-    new : (es : List Record) → Holds s es → insert r es ≡ take p es ++ (r ∷ drop p es)
+    new : (es : List Record) → StoreHolds s es → insert r es ≡ take p es ++ (r ∷ drop p es)
     new es h =
         let absent : Absent (r .appliance) es noRecord p = λ m g.
         stands-no s n p (r .appliance) y (omega (arith, held-count h)) (ap (λ (z : Record). z .appliance) (held-record h noRecord p m) ∙ g) in
         insert-new r es noRecord p (placed-held h n (r .appliance) p c k) absent
 
-    length-new : (es : List Record) → Holds s es → length (take p es ++ (r ∷ drop p es)) ≡ suc n
+    length-new : (es : List Record) → StoreHolds s es → length (take p es ++ (r ∷ drop p es)) ≡ suc n
     length-new es h =
         let l : p ≤ length es = omega (arith, k .within, held-count h) in
         omega (arith, length-append (take p es) (r ∷ drop p es), length-take-le p es l, length-drop p es, held-count h)
@@ -123,7 +123,7 @@ module _ (s : List ℕ) (n p : ℕ) (r : Record) (c : n ≡ countOf s) (k : Firs
           harmless = record { size = refl; either = inr refl };
         }
 
-    pub kept-between : length s ≡ storeLength → n < capacity → (t : List ℕ) → t ≡ betweenAt s n p r → Kept s (insert r) (keptAs true t)
+    pub kept-between : length s ≡ storeLength → n < capacity → (t : List ℕ) → t ≡ insertedAt s n p r → Kept s (insert r) (keptAs true t)
     kept-between z m t e =
         record {
           held = λ es h.

@@ -1,16 +1,20 @@
 // The count and the records of a store, read and put.
 ghost use mathlib.Core.Path.{_≡_};
-ghost use Prim.Native.Nat.{_+_, _*_, _≤_};
+ghost use Prim.Native.Nat.{_+_, _≤_};
 ghost use lib.ListN.{length};
 ghost use lib.Seq.{sets};
 ghost use Rattle.language.specs.Table.{eightBytes};
-ghost use Rattle.records.specs.Stores.{capacity, countOf, recordAt, recordCells};
+ghost use Rattle.records.specs.Stores.{capacity, countOf, recordAt, recordCells, recordOffset, HasRoom};
 use numbers::eight_at;
 use numbers::put_eight;
+use records::APPLIANCES_OFFSET;
+use records::CAPACITY;
+use records::FAILS_OFFSET;
+use records::READINGS_OFFSET;
+use records::RECORD_LENGTH;
 use records::Record;
-
-// "A store holds 1,024 appliances"
-pub const CAPACITY: usize = 1024;
+use records::TABLETS_OFFSET;
+use records::TIMES_OFFSET;
 
 // How many records there are; forged bytes say no more than 1,024.
 pub fn count(s: &[u8]) -> usize
@@ -26,23 +30,23 @@ pub fn count(s: &[u8]) -> usize
 
 // The appliance of record i, which a search compares.
 pub fn appliance_at(s: &[u8], i: usize) -> u64
-    requires { ⌜ 48 + 40 * i ≤ length (now s) ⌝ }
+    requires { ⌜ HasRoom (now s) (i + 1) ⌝ }
     ensures { λ r. ⌜ r ≡ recordAt (now (s .entry)) i .appliance ⌝ }
 {
-    eight_at(s, 8 + 40 * i)
+    eight_at(s, APPLIANCES_OFFSET + RECORD_LENGTH * i)
 }
 
 // Record i.
 pub fn record_at(s: &[u8], i: usize) -> Record
-    requires { ⌜ 48 + 40 * i ≤ length (now s) ⌝ }
+    requires { ⌜ HasRoom (now s) (i + 1) ⌝ }
     ensures { λ r. ⌜ r ≡ recordAt (now (s .entry)) i ⌝ }
 {
     Record {
-        appliance: eight_at(s, 8 + 40 * i),
-        time: eight_at(s, 16 + 40 * i),
-        fail: eight_at(s, 24 + 40 * i),
-        tablet: eight_at(s, 32 + 40 * i),
-        reading: eight_at(s, 40 + 40 * i),
+        appliance: eight_at(s, APPLIANCES_OFFSET + RECORD_LENGTH * i),
+        time: eight_at(s, TIMES_OFFSET + RECORD_LENGTH * i),
+        fail: eight_at(s, FAILS_OFFSET + RECORD_LENGTH * i),
+        tablet: eight_at(s, TABLETS_OFFSET + RECORD_LENGTH * i),
+        reading: eight_at(s, READINGS_OFFSET + RECORD_LENGTH * i),
     }
 }
 
@@ -56,10 +60,10 @@ pub fn put_count(s: &mut [u8], n: usize)
 
 // Record i becomes r.
 pub fn put_record(s: &mut [u8], i: usize, r: Record)
-    requires { ⌜ 48 + 40 * i ≤ length (now s) ⌝ }
-    ensures { λ _. ⌜ now (s .exit) ≡ sets (now (s .entry)) (8 + 40 * i) (recordCells r) ⌝ }
+    requires { ⌜ HasRoom (now s) (i + 1) ⌝ }
+    ensures { λ _. ⌜ now (s .exit) ≡ sets (now (s .entry)) (recordOffset i) (recordCells r) ⌝ }
 {
-    let k = 8 + 40 * i;
+    let k = APPLIANCES_OFFSET + RECORD_LENGTH * i;
     put_eight(s, k, r.appliance);
     put_eight(s, k + 8, r.time);
     put_eight(s, k + 16, r.fail);

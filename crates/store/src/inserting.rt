@@ -1,11 +1,10 @@
 // A record put into a store.
 ghost use mathlib.Core.Path.{_≡_};
-ghost use Prim.Native.Nat.{_+_, _*_, _≤_};
+ghost use Prim.Native.Nat.{_+_, _≤_};
 ghost use lib.ListN.{length};
-ghost use Rattle.records.specs.Stores.{insert as inserted, storeLength};
+ghost use Rattle.records.specs.Stores.{insert as inserted, storeLength, HasRoom};
 ghost use Rattle.records.specs.Answers.{Kept, keptAs};
-ghost use Rattle.store.specs.Inserting.{overAt, betweenAt};
-use crate::cells::CAPACITY;
+ghost use Rattle.store.specs.Inserting.{overAt, insertedAt};
 use crate::cells::count;
 use crate::cells::put_count;
 use crate::cells::put_record;
@@ -14,11 +13,14 @@ use crate::search::place;
 use crate::search::stands;
 use crate::winner::beats;
 use numbers::move_up;
+use records::APPLIANCES_OFFSET;
+use records::CAPACITY;
+use records::RECORD_LENGTH;
 use records::Record;
 
 // The winner of the record at place p and a newcomer of its appliance stays there; nothing is written where that is the one there.
 fn put_over(s: &mut [u8], p: usize, r: Record)
-    requires { ⌜ 48 + 40 * p ≤ length (now s) ⌝ }
+    requires { ⌜ HasRoom (now s) (p + 1) ⌝ }
     ensures { λ _. ⌜ now (s .exit) ≡ overAt (now (s .entry)) p r ⌝ }
 {
     let e = record_at(s, p);
@@ -29,10 +31,16 @@ fn put_over(s: &mut [u8], p: usize, r: Record)
 
 // A record of a new appliance goes in at place p of n; those from there on make room.
 fn put_between(s: &mut [u8], n: usize, p: usize, r: Record)
-    requires { ⌜ (p ≤ n) × (48 + 40 * n ≤ length (now s)) ⌝ }
-    ensures { λ _. ⌜ now (s .exit) ≡ betweenAt (now (s .entry)) n p r ⌝ }
+    requires { ⌜ (p ≤ n) × HasRoom (now s) (n + 1) ⌝ }
+    ensures { λ _. ⌜ now (s .exit) ≡ insertedAt (now (s .entry)) n p r ⌝ }
 {
-    move_up(s, 8 + 40 * p, 8 + 40 * n, 40);
+    let from = APPLIANCES_OFFSET + RECORD_LENGTH * p;
+    move_up(
+        s,
+        from,
+        APPLIANCES_OFFSET + RECORD_LENGTH * n,
+        RECORD_LENGTH,
+    );
     put_record(s, p, r);
     put_count(s, n + 1);
 }

@@ -1,8 +1,8 @@
 // A record looked for by its appliance number, by halves.
 ghost use mathlib.Core.Path.{_≡_};
-ghost use Prim.Native.Nat.{_+_, _*_, _≤_};
+ghost use Prim.Native.Nat.{_+_};
 ghost use lib.ListN.{length};
-ghost use Rattle.records.specs.Stores.{storeLength};
+ghost use Rattle.records.specs.Stores.{storeLength, HasRoom};
 ghost use Rattle.records.specs.Answers.{Looked, LookedIn};
 ghost use Rattle.store.specs.Places.{FirstPlace, pastOf, standsAt, lookedAt};
 use crate::cells::appliance_at;
@@ -10,7 +10,7 @@ use crate::cells::count;
 
 // Past place m where its appliance number is smaller than a, else still lo.
 fn past(s: &[u8], lo: usize, m: usize, a: u64) -> usize
-    requires { ⌜ 48 + 40 * m ≤ length (now s) ⌝ }
+    requires { ⌜ HasRoom (now s) (m + 1) ⌝ }
     ensures { λ r. ⌜ r ≡ pastOf (now (s .entry)) lo m a ⌝ }
 {
     if appliance_at(s, m) < a {
@@ -21,7 +21,7 @@ fn past(s: &[u8], lo: usize, m: usize, a: u64) -> usize
 
 // Where a record of appliance a stands or would stand among the first n: at lo or one of the `left` places behind it, which are halved.
 pub fn place(s: &[u8], n: usize, a: u64) -> usize
-    requires { ⌜ 8 + 40 * n ≤ length (now s) ⌝ }
+    requires { ⌜ HasRoom (now s) n ⌝ }
     ensures { λ r. ⌜ FirstPlace (now (s .entry)) n a r ⌝ }
 {
     let mut lo = 0;
@@ -35,7 +35,7 @@ pub fn place(s: &[u8], n: usize, a: u64) -> usize
 
 // Whether of n records the one at place p is of appliance a.
 pub fn stands(s: &[u8], n: usize, p: usize, a: u64) -> bool
-    requires { ⌜ 8 + 40 * n ≤ length (now s) ⌝ }
+    requires { ⌜ HasRoom (now s) n ⌝ }
     ensures { λ r. ⌜ r ≡ standsAt (now (s .entry)) n p a ⌝ }
 {
     if p < n {

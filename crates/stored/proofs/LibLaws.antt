@@ -12,12 +12,12 @@ use borrow.Author.Tests.{le-leb, ltb-true, ltb-false}
 use Rattle.laws.specs.Lists.{from, below}
 use Rattle.laws.proofs.Ranges.{length-map-from, getD-map-from}
 use Rattle.records.specs.declared.Record.{Record}
-use Rattle.records.specs.Records.{Sized}
-use Rattle.records.specs.Stores.{Rising, AllSized, Holds, capacity, storeCells, recordAt, countOf, recordsOf, joined}
+use Rattle.records.specs.Records.{SizedRecord}
+use Rattle.records.specs.Stores.{Rising, AllSized, StoreHolds, capacity, storeCells, recordAt, countOf, recordsOf, joined}
 use Rattle.records.specs.Answers.{MergedStore, kept, keptAs}
 use Rattle.records.proofs.Cells.{noRecord, sized-at, held-count, held-record, held-records, empty-holds}
 use Rattle.records.proofs.Placing.{rising-at, at-rising}
-use Rattle.stored.specs.Known.{Tells, Follows, AllFollow, IsStore}
+use Rattle.stored.specs.Known.{Tells, RecordFollows, AllFollow, IsStore}
 
 -- ---- answers
 
@@ -31,7 +31,7 @@ told-not n = record { yes = λ e. absurd (let z : _≡_ {A = ℕ} 0 1 = cc in om
 
 -- by the two numbers that are compared
 pub compared :
-    (s : List ℕ) (i : ℕ) → Sized (recordAt s i) → (i ≡ 0 → ⊥) → {x y : ℕ} → x ≡ recordAt s (i - 1) .appliance → y ≡ recordAt s i .appliance → Tells (ltb x y) (Follows s i)
+    (s : List ℕ) (i : ℕ) → SizedRecord (recordAt s i) → (i ≡ 0 → ⊥) → {x y : ℕ} → x ≡ recordAt s (i - 1) .appliance → y ≡ recordAt s i .appliance → Tells (ltb x y) (RecordFollows s i)
 compared s i h n {x} {y} p q =
     let before : (j : ℕ) → suc j ≡ i → recordAt s (i - 1) .appliance ≡ recordAt s j .appliance = λ j e. ap (λ (k : ℕ). recordAt s k .appliance) (omega arith) in
     record {
@@ -60,7 +60,7 @@ module _ (s : List ℕ) where
       let k : j < n = omega (arith, length-map-from (recordAt s) 0 n) in
       rw (record-there n i (omega arith), record-there n j k) (climbs n h i j l k))
 
-  sized-from : (k n : ℕ) → ((i : ℕ) → i < k + n → Sized (recordAt s i)) → AllSized (map (recordAt s) (from k n))
+  sized-from : (k n : ℕ) → ((i : ℕ) → i < k + n → SizedRecord (recordAt s i)) → AllSized (map (recordAt s) (from k n))
   sized-from k zero h = tt
   sized-from k (suc n) h = (h k (omega arith), sized-from (suc k) n (λ i l. h i (omega arith)))
 
@@ -79,11 +79,11 @@ module _ (s : List ℕ) where
 
 -- ---- bytes that hold records
 
-module _ {s : List ℕ} {es : List Record} (h : Holds s es) where
+module _ {s : List ℕ} {es : List Record} (h : StoreHolds s es) where
   pub holds-follow : AllFollow s (countOf s)
   holds-follow i l =
       let k : i < length es = omega (arith, held-count h) in (
-        subst Sized (sym (held-record h noRecord i k)) (sized-at es noRecord (h .sized) i k),
+        subst SizedRecord (sym (held-record h noRecord i k)) (sized-at es noRecord (h .sized) i k),
         λ j e.
             let number : Record → ℕ = λ r. r .appliance in
             omega (arith, rising-at es noRecord (h .rising) j i (omega arith) k, ap number (held-record h noRecord i k), ap number (held-record h noRecord j (omega arith))),

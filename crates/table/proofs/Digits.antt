@@ -7,7 +7,7 @@ use Prim.Native.Nat.{ℕ, _+_, _≤_, _<_}
 use native.Mathlib.Omega.{arith}
 use lib.ListN.{length, getD}
 use Rattle.language.specs.Table.{two, four, eight}
-use Rattle.table.specs.Named.{Agree}
+use Rattle.table.specs.Named.{CellsAgree}
 
 -- by whether j is below n
 either : {A : Type 0} (j n : ℕ) → (j < n → A) → (n ≤ j → A) → A
@@ -45,5 +45,5 @@ module _ (s t : List ℕ) where
         like-more k 4 4 (omega arith) (four-like k low) (four-like (k + 4) high)
 
 -- n cells that agree, and m more
-pub agree-more : (a b : List ℕ) {n : ℕ} (m : ℕ) → Agree a b n → n + m ≤ length a → Like a b n m → Agree a b (n + m)
+pub agree-more : (a b : List ℕ) {n : ℕ} (m : ℕ) → CellsAgree a b n → n + m ≤ length a → Like a b n m → CellsAgree a b (n + m)
 agree-more a b {n} m p h q = record { within = h; cells = λ k c. either k n (λ l. p .cells k l) (λ l. q k l c) }

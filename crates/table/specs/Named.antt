@@ -8,8 +8,19 @@ use lib.ListN.{length, getD}
 use Rattle.laws.specs.Lists.{same, position, below}
 use Rattle.language.specs.Table.{nameAt}
 
+-- A name may be read from cell k on in any table: its length says at most 255, and so many cells stand behind it.
+abbrev pub nameReach : ℕ
+nameReach = 256
+
+abbrev pub NameWithin : List ℕ → ℕ → Type 0
+NameWithin t k = k + nameReach ≤ length t
+
+-- So may `count` names, whose length cells stand `stride` apart from cell `at` on.
+abbrev pub NamesWithin : List ℕ → (at stride count : ℕ) → Type 0
+NamesWithin t at stride count = at + stride * count + nameReach ≤ length t + stride
+
 -- the first n cells of a and b are the same
-pub record Agree (a b : List ℕ) (n : ℕ) : Type 0 where
+pub record CellsAgree (a b : List ℕ) (n : ℕ) : Type 0 where
   pub within : n ≤ length a
   pub cells : (k : ℕ) → k < n → getD a k 0 ≡ getD b k 0
 

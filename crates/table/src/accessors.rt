@@ -6,6 +6,7 @@ ghost use lib.ListN.{length};
 ghost use Rattle.language.specs.Table.{functionCount, functionSsa, functionResult, functionParams, registerCount, blockCount, functionEntry, functionName, InTable};
 ghost use Rattle.language.specs.Table.{registerType, registerName, blockFirst, blockRows, blockName};
 ghost use Rattle.language.specs.Table.{rowOp, rowTarget, rowLeft, rowRight, loadNumber, jumpFirst, jumpSecond, phiFirst, phiCount, phiEntry};
+ghost use Rattle.language.specs.Programs.{maxRows, maxEntries, maxBlocks, maxRegisters};
 use crate::cells::name_at;
 use crate::layout::BLOCK_COUNT_OFFSET;
 use crate::layout::BLOCK_LENGTH;
@@ -90,14 +91,14 @@ pub fn function_name(t: &[u8], a: usize) -> &[u8]
 // Registers.
 
 pub fn register_type(t: &[u8], a: usize, r: usize) -> u8
-    requires { ⌜ (InTable (now t) a) × (r < 256) ⌝ }
+    requires { ⌜ (InTable (now t) a) × (r < maxRegisters) ⌝ }
     ensures { λ n. ⌜ n ≡ registerType (now (t .entry)) a r ⌝ }
 {
     t[a + REGISTERS_OFFSET + REGISTER_LENGTH * r]
 }
 
 pub fn register_name(t: &[u8], a: usize, r: usize) -> &[u8]
-    requires { ⌜ (InTable (now t) a) × (r < 256) ⌝ }
+    requires { ⌜ (InTable (now t) a) × (r < maxRegisters) ⌝ }
     ensures { λ n. ⌜ now n ≡ registerName (now (t .entry)) a r ⌝ }
 {
     name_at(t, a + REGISTER_NAMES_OFFSET + REGISTER_LENGTH * r)
@@ -106,21 +107,21 @@ pub fn register_name(t: &[u8], a: usize, r: usize) -> &[u8]
 // Blocks.
 
 pub fn block_first(t: &[u8], a: usize, b: usize) -> usize
-    requires { ⌜ (InTable (now t) a) × (b < 64) ⌝ }
+    requires { ⌜ (InTable (now t) a) × (b < maxBlocks) ⌝ }
     ensures { λ r. ⌜ (r ≡ blockFirst (now (t .entry)) a b) × (r < 65536) ⌝ }
 {
     two_at(t, a + BLOCKS_OFFSET + BLOCK_LENGTH * b)
 }
 
 pub fn block_rows(t: &[u8], a: usize, b: usize) -> usize
-    requires { ⌜ (InTable (now t) a) × (b < 64) ⌝ }
+    requires { ⌜ (InTable (now t) a) × (b < maxBlocks) ⌝ }
     ensures { λ r. ⌜ (r ≡ blockRows (now (t .entry)) a b) × (r < 65536) ⌝ }
 {
     two_at(t, a + BLOCK_ROWS_OFFSET + BLOCK_LENGTH * b)
 }
 
 pub fn block_name(t: &[u8], a: usize, b: usize) -> &[u8]
-    requires { ⌜ (InTable (now t) a) × (b < 64) ⌝ }
+    requires { ⌜ (InTable (now t) a) × (b < maxBlocks) ⌝ }
     ensures { λ r. ⌜ now r ≡ blockName (now (t .entry)) a b ⌝ }
 {
     name_at(t, a + BLOCK_NAMES_OFFSET + BLOCK_LENGTH * b)
@@ -129,70 +130,70 @@ pub fn block_name(t: &[u8], a: usize, b: usize) -> &[u8]
 // Rows, and the three readings of their eight operand cells: a load's number, the blocks of a jump, where a phi's entries stand.
 
 pub fn row_op(t: &[u8], a: usize, r: usize) -> u8
-    requires { ⌜ (InTable (now t) a) × (r < 1024) ⌝ }
+    requires { ⌜ (InTable (now t) a) × (r < maxRows) ⌝ }
     ensures { λ n. ⌜ n ≡ rowOp (now (t .entry)) a r ⌝ }
 {
     t[a + ROWS_OFFSET + ROW_LENGTH * r]
 }
 
 pub fn row_target(t: &[u8], a: usize, r: usize) -> usize
-    requires { ⌜ (InTable (now t) a) × (r < 1024) ⌝ }
+    requires { ⌜ (InTable (now t) a) × (r < maxRows) ⌝ }
     ensures { λ n. ⌜ (n ≡ rowTarget (now (t .entry)) a r) × (n < 256) ⌝ }
 {
     wide(t[a + TARGETS_OFFSET + ROW_LENGTH * r])
 }
 
 pub fn row_left(t: &[u8], a: usize, r: usize) -> usize
-    requires { ⌜ (InTable (now t) a) × (r < 1024) ⌝ }
+    requires { ⌜ (InTable (now t) a) × (r < maxRows) ⌝ }
     ensures { λ n. ⌜ (n ≡ rowLeft (now (t .entry)) a r) × (n < 256) ⌝ }
 {
     wide(t[a + LEFTS_OFFSET + ROW_LENGTH * r])
 }
 
 pub fn row_right(t: &[u8], a: usize, r: usize) -> usize
-    requires { ⌜ (InTable (now t) a) × (r < 1024) ⌝ }
+    requires { ⌜ (InTable (now t) a) × (r < maxRows) ⌝ }
     ensures { λ n. ⌜ (n ≡ rowRight (now (t .entry)) a r) × (n < 256) ⌝ }
 {
     wide(t[a + RIGHTS_OFFSET + ROW_LENGTH * r])
 }
 
 pub fn load_number(t: &[u8], a: usize, r: usize) -> u64
-    requires { ⌜ (InTable (now t) a) × (r < 1024) ⌝ }
+    requires { ⌜ (InTable (now t) a) × (r < maxRows) ⌝ }
     ensures { λ n. ⌜ n ≡ loadNumber (now (t .entry)) a r ⌝ }
 {
     eight_at(t, a + OPERANDS_OFFSET + ROW_LENGTH * r)
 }
 
 pub fn jump_first(t: &[u8], a: usize, r: usize) -> usize
-    requires { ⌜ (InTable (now t) a) × (r < 1024) ⌝ }
+    requires { ⌜ (InTable (now t) a) × (r < maxRows) ⌝ }
     ensures { λ n. ⌜ (n ≡ jumpFirst (now (t .entry)) a r) × (n < 256) ⌝ }
 {
     wide(t[a + OPERANDS_OFFSET + ROW_LENGTH * r])
 }
 
 pub fn jump_second(t: &[u8], a: usize, r: usize) -> usize
-    requires { ⌜ (InTable (now t) a) × (r < 1024) ⌝ }
+    requires { ⌜ (InTable (now t) a) × (r < maxRows) ⌝ }
     ensures { λ n. ⌜ (n ≡ jumpSecond (now (t .entry)) a r) × (n < 256) ⌝ }
 {
     wide(t[a + (OPERANDS_OFFSET + 1) + ROW_LENGTH * r])
 }
 
 pub fn phi_first(t: &[u8], a: usize, r: usize) -> usize
-    requires { ⌜ (InTable (now t) a) × (r < 1024) ⌝ }
+    requires { ⌜ (InTable (now t) a) × (r < maxRows) ⌝ }
     ensures { λ n. ⌜ (n ≡ phiFirst (now (t .entry)) a r) × (n < 65536) ⌝ }
 {
     two_at(t, a + OPERANDS_OFFSET + ROW_LENGTH * r)
 }
 
 pub fn phi_count(t: &[u8], a: usize, r: usize) -> usize
-    requires { ⌜ (InTable (now t) a) × (r < 1024) ⌝ }
+    requires { ⌜ (InTable (now t) a) × (r < maxRows) ⌝ }
     ensures { λ n. ⌜ (n ≡ phiCount (now (t .entry)) a r) × (n < 65536) ⌝ }
 {
     two_at(t, a + (OPERANDS_OFFSET + 2) + ROW_LENGTH * r)
 }
 
 pub fn phi_entry(t: &[u8], a: usize, k: usize) -> usize
-    requires { ⌜ (InTable (now t) a) × (k < 1024) ⌝ }
+    requires { ⌜ (InTable (now t) a) × (k < maxEntries) ⌝ }
     ensures { λ r. ⌜ (r ≡ phiEntry (now (t .entry)) a k) × (r < 256) ⌝ }
 {
     wide(t[a + ENTRIES_OFFSET + k])

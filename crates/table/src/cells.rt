@@ -1,13 +1,12 @@
 // A name's cells.
 ghost use mathlib.Core.Path.{_≡_};
-ghost use Prim.Native.Nat.{_+_, _≤_};
-ghost use lib.ListN.{length};
 ghost use Rattle.language.specs.Table.{nameAt};
+ghost use Rattle.table.specs.Named.{NameWithin};
 use numbers::wide;
 
 // The name whose length is cell k, a part of the table. A length may say up to 255, so that many cells stand behind it.
 pub fn name_at(t: &[u8], k: usize) -> &[u8]
-    requires { ⌜ k + 256 ≤ length (now t) ⌝ }
+    requires { ⌜ NameWithin (now t) k ⌝ }
     ensures { λ r. ⌜ now r ≡ nameAt (now (t .entry)) k ⌝ }
 {
     let n = wide(t[k]);

@@ -3,7 +3,9 @@ ghost use mathlib.Core.Path.{_≡_};
 ghost use Prim.Native.Nat.{_<_};
 ghost use Rattle.language.specs.Table.{functionAt};
 
-// "Sizes: .. 16 functions; in each function 256 registers (parameters counted), 64 blocks, 1,024 instructions, 1,024 phi entries."
+// "Sizes: text 65,536 bytes; 16 functions; in each function 256 registers (parameters counted), 64 blocks, 1,024 instructions, 1,024 phi entries."
+pub const MAX_TEXT: usize = 65536;
+
 pub const MAX_FUNCTIONS: usize = 16;
 
 pub const MAX_REGISTERS: usize = 256;

@@ -1,17 +1,17 @@
 // Names: two of them compared, and one looked for among those of a table.
 ghost use mathlib.Core.Path.{_≡_};
-ghost use Prim.Native.Nat.{_+_, _*_, _-_, _≤_};
+ghost use Prim.Native.Nat.{_-_, _≤_};
 ghost use lib.ListN.{length};
 ghost use Rattle.laws.specs.Lists.{same as sameAs};
 ghost use Rattle.language.specs.Table.{eight, nameAt};
-ghost use Rattle.table.specs.Named.{Agree, firstNamed};
+ghost use Rattle.table.specs.Named.{CellsAgree, firstNamed, NameWithin, NamesWithin};
 use crate::cells::name_at;
 use numbers::eight_at;
 
 // How many bytes agree, counted in eights: among the next eight there is a difference, or fewer than eight are left.
 fn agreeing(a: &[u8], b: &[u8]) -> usize
     requires { ⌜ length (now a) ≡ length (now b) ⌝ }
-    ensures { λ r. ⌜ Agree (now (a .entry)) (now (b .entry)) r ⌝ }
+    ensures { λ r. ⌜ CellsAgree (now (a .entry)) (now (b .entry)) r ⌝ }
 {
     let mut i = 0;
     while 8 <= a.len() - i {
@@ -50,7 +50,7 @@ pub fn same(a: &[u8], b: &[u8]) -> bool
 
 // Whether the name whose length is cell k is `name`, of 8 to 255 bytes, the last eight of which are `tail`: these first.
 fn is_long(t: &[u8], k: usize, name: &[u8], tail: u64) -> bool
-    requires { ⌜ (k + 256 ≤ length (now t)) × (8 ≤ length (now name)) × (length (now name) ≤ 255) ⌝ }
+    requires { ⌜ NameWithin (now t) k × (8 ≤ length (now name)) × (length (now name) ≤ 255) ⌝ }
     requires { ⌜ tail ≡ eight (now name) (length (now name) - 8) ⌝ }
     ensures { λ r. ⌜ r ≡ sameAs (nameAt (now (t .entry)) k) (now (name .entry)) ⌝ }
 {
@@ -62,7 +62,7 @@ fn is_long(t: &[u8], k: usize, name: &[u8], tail: u64) -> bool
 
 // `find_name` for a name of 8 to 255 bytes, and a distance that cannot lead past the largest number.
 fn find_long(t: &[u8], at: usize, stride: usize, count: usize, name: &[u8]) -> usize
-    requires { ⌜ at + stride * count + 256 ≤ length (now t) + stride ⌝ }
+    requires { ⌜ NamesWithin (now t) at stride count ⌝ }
     requires { ⌜ (8 ≤ length (now name)) × (length (now name) ≤ 255) × (stride ≤ 65535) ⌝ }
     ensures { λ r. ⌜ (r ≡ firstNamed (now (t .entry)) at stride count (now (name .entry))) × (r ≤ count) ⌝ }
 {
@@ -81,7 +81,7 @@ fn find_long(t: &[u8], at: usize, stride: usize, count: usize, name: &[u8]) -> u
 
 // `find_name` for any name.
 fn find_any(t: &[u8], at: usize, stride: usize, count: usize, name: &[u8]) -> usize
-    requires { ⌜ at + stride * count + 256 ≤ length (now t) + stride ⌝ }
+    requires { ⌜ NamesWithin (now t) at stride count ⌝ }
     ensures { λ r. ⌜ (r ≡ firstNamed (now (t .entry)) at stride count (now (name .entry))) × (r ≤ count) ⌝ }
 {
     let mut i = 0;
@@ -96,7 +96,7 @@ fn find_any(t: &[u8], at: usize, stride: usize, count: usize, name: &[u8]) -> us
 
 // The first of `count` names that equals `name`, or `count`. Their length cells stand `stride` apart, from cell `at` on.
 pub fn find_name(t: &[u8], at: usize, stride: usize, count: usize, name: &[u8]) -> usize
-    requires { ⌜ at + stride * count + 256 ≤ length (now t) + stride ⌝ }
+    requires { ⌜ NamesWithin (now t) at stride count ⌝ }
     ensures { λ r. ⌜ (r ≡ firstNamed (now (t .entry)) at stride count (now (name .entry))) × (r ≤ count) ⌝ }
 {
     let n = name.len();

@@ -6,6 +6,7 @@ ghost use Prim.Native.Nat.{_+_, _*_, _<_, _≤_};
 ghost use lib.ListN.{length};
 ghost use lib.Seq.{sets};
 ghost use Rattle.language.specs.Table.{eightBytes, InTable, entriesOffset, registerLength, registersOffset, rowLength, rowsOffset};
+ghost use Rattle.language.specs.Programs.{maxRows, maxEntries, maxRegisters, maxName};
 use crate::layout::ENTRIES_OFFSET;
 use crate::layout::REGISTER_LENGTH;
 use crate::layout::REGISTERS_OFFSET;
@@ -25,7 +26,7 @@ pub fn put_name(t: &mut [u8], k: usize, name: &[u8])
 
 // Register r: its type and its name.
 pub fn put_register(t: &mut [u8], a: usize, r: usize, kind: u8, name: &[u8])
-    requires { ⌜ (InTable (now t) a) × (r < 256) × (length (now name) ≤ 64) ⌝ }
+    requires { ⌜ (InTable (now t) a) × (r < maxRegisters) × (length (now name) ≤ maxName) ⌝ }
     ensures { λ _. ⌜ now (t .exit) ≡ sets (now (t .entry)) (a + registersOffset + registerLength * r) (kind ∷ length (now (name .entry)) ∷ now (name .entry)) ⌝ }
 {
     let k = a + REGISTERS_OFFSET + REGISTER_LENGTH * r;
@@ -44,7 +45,7 @@ pub fn put_row(
     right: usize,
     operand: u64,
 )
-    requires { ⌜ (InTable (now t) a) × (r < 1024) ⌝ }
+    requires { ⌜ (InTable (now t) a) × (r < maxRows) ⌝ }
     requires { ⌜ (target < 256) × (left < 256) × (right < 256) ⌝ }
     ensures { λ _. ⌜ now (t .exit) ≡ sets (now (t .entry)) (a + rowsOffset + rowLength * r) (op ∷ target ∷ left ∷ right ∷ eightBytes operand) ⌝ }
 {
@@ -58,7 +59,7 @@ pub fn put_row(
 
 // Phi entry k, a register.
 pub fn put_entry(t: &mut [u8], a: usize, k: usize, register: usize)
-    requires { ⌜ (InTable (now t) a) × (k < 1024) × (register < 256) ⌝ }
+    requires { ⌜ (InTable (now t) a) × (k < maxEntries) × (register < 256) ⌝ }
     ensures { λ _. ⌜ now (t .exit) ≡ sets (now (t .entry)) (a + entriesOffset + k) (register ∷ []) ⌝ }
 {
     t[a + ENTRIES_OFFSET + k] = register as u8;

@@ -8,7 +8,7 @@ use lib.Dec.{ltb, ltb→lt}
 use lib.ListN.{length}
 use Rattle.laws.proofs.Indexing.{all-at}
 use Rattle.language.specs.Instructions.{typeCount}
-use Rattle.language.specs.Programs.{noRegister}
+use Rattle.language.specs.Programs.{noRegister, maxFunctions}
 use Rattle.language.specs.Table.{tableLength, functionCount, functionAt, decodeFunction, decode}
 use Rattle.language.specs.Checking.{Verdict, check}
 use Rattle.language.specs.Answers.{checkAnswer}
@@ -42,7 +42,7 @@ module _ (t : List ℕ) (size : length t ≡ tableLength) (accepted : check (dec
   unfolding checkAnswer
   whole = rw (eq-eqb (length t) tableLength size) accepted
 
-  pub few : {n : ℕ} → n ≡ functionCount t → n ≤ 16
+  pub few : {n : ℕ} → n ≡ functionCount t → n ≤ maxFunctions
   few e = omega (arith, e, accepted-count t whole)
 
   pub clean-each : (i : ℕ) → i < functionCount t → Sized t (functionAt i) × Clean (decodeFunction t (functionAt i))

@@ -17,6 +17,8 @@ use naming::number_blocks;
 use naming::number_registers;
 use page::put_part;
 use row_text::put_blocks;
+use table::MAX_BLOCKS;
+use table::MAX_REGISTERS;
 use table::function_at;
 use table::function_count;
 
@@ -43,8 +45,8 @@ fn put_function(t: &[u8], a: usize, out: &mut [u8], at: usize) -> usize
     requires { ⌜ Sized (now t) a × Clean (decodeFunction (now t) a) ⌝ }
     ensures { λ p. ⌜ page (now (out .exit)) p ≡ puts (page (now (out .entry)) at) (gather lineBytes (functionLines (namedFunction (decodeFunction (now (t .entry)) a)))) ⌝ }
 {
-    let mut registers = [0u16; 256];
-    let mut blocks = [0u16; 64];
+    let mut registers = [0u16; MAX_REGISTERS];
+    let mut blocks = [0u16; MAX_BLOCKS];
     number_registers(t, a, &mut registers);
     number_blocks(t, a, &mut blocks);
     put_lines(t, a, &registers, &blocks, out, at)

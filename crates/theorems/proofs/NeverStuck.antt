@@ -9,7 +9,7 @@ use Rattle.language.specs.Instructions.{void}
 use Rattle.language.specs.Programs.{Row, Func, functionIn}
 use Rattle.language.specs.Checking.{inRange, breaksRow}
 use Rattle.language.specs.Running.{Place, Run, start, startRegisters, after, runOf, firstUnfit, argumentsFit}
-use Rattle.theorems.specs.Clean.{Clean, At}
+use Rattle.theorems.specs.Clean.{Clean, AtPlace}
 use Rattle.theorems.specs.NeverStuck.{AtInstruction, StandsAtInstruction, NeverStuck, OthersStuck}
 use Rattle.theorems.proofs.AcceptanceCheck.{clean-of-check}
 use Rattle.theorems.proofs.AcceptanceRows.{unknown-out}
@@ -17,7 +17,7 @@ use Rattle.theorems.proofs.SimulationRows.{in-range, rowHere-is}
 use Rattle.theorems.proofs.Values.{Stays, run-stays}
 
 module _ (f : Func) (c : Clean f) where
-  at-instruction : (p : Place) → At f p → AtInstruction f p
+  at-instruction : (p : Place) → AtPlace f p → AtInstruction f p
   at-instruction p v =
       let here = rowHere-is f p (v .row) in
       record {

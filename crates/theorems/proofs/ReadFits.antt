@@ -27,7 +27,7 @@ use Rattle.language.proofs.ReadingLaws.{read-by-tokens}
 use Rattle.theorems.specs.Statements.{ReadBack}
 use Rattle.language.proofs.Rooms.{closed, entriesIn, entries-append, open-rows, row-entries}
 use Rattle.language.proofs.SizeFacts.{text-too-long}
-use Rattle.theorems.specs.TableLaw.{numberOf, NameFits, RegisterFits, RowFits, FunctionFits, Fits}
+use Rattle.theorems.specs.TableLaw.{loadedNumber, NameFits, RegisterFits, RowFits, FunctionFits, Fits}
 use Rattle.theorems.proofs.Table.{table}
 use Rattle.theorems.proofs.TableSound.{spelled-fits, width-most}
 use Rattle.theorems.proofs.ReadMoves.{TokenFits, StageFits, ActFits, moves-fit}
@@ -41,7 +41,7 @@ record RowHeld (row : Row) : Type 0 where
   targets : Bytes (targetsOf row)
   sources : Bytes (sourcesOf row)
   entries : Bytes (entriesOf row)
-  number : numberOf row < 2 ^ 64
+  number : loadedNumber row < 2 ^ 64
 
 record PartsFit (x : Parts) : Type 0 where
   op : x .op < 256
@@ -279,7 +279,7 @@ module _ (d : Draft) (h : DraftFits d) where
   fewer : entriesIn (rowsIn d) + length {A = ℕ} [] ≤ maxEntries
   fewer = omega (arith, h .entryCount)
 
-  register-small : (n : List ℕ) → ltb (registerNumber (d .function) n) (length (d .function .registers)) ≡ true → registerNumber (d .function) n < 256
+  register-small : (n : List ℕ) → ltb (registerNumber (d .function) n) (length (d .function .registers)) ≡ true → registerNumber (d .function) n < maxRegisters
   register-small n e = omega (arith, ltb-true (registerNumber (d .function) n) (length (d .function .registers)) e, h .function .registerCount)
 
   after-markSsa : After (markSsa d)

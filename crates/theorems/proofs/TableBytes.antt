@@ -7,7 +7,7 @@ use lib.ListN.{length, getD}
 use Rattle.laws.specs.Lists.{gather}
 use Rattle.laws.specs.Sections.{Bytes, gatherFrom}
 use Rattle.laws.proofs.Sections.{bytes-append, bytes-pad, bytes-gatherFrom, gather-is-from}
-use Rattle.language.specs.Programs.{Row, Register, Block, Func, entriesOf, rowsOf, noRegister, noBlock}
+use Rattle.language.specs.Programs.{Row, Register, Block, Func, entriesOf, rowsOf, noRegister, noBlock, maxEntries}
 use Rattle.language.specs.Table.{twoBytes, nameCells, registerCells, blockCells, rowCells, headCells, registerSection, blockSection, rowLength}
 use Rattle.language.specs.Table.{rowSection, entrySection, functionCells, blocksLength, registersLength, rowsLength}
 use Rattle.language.specs.Instructions.{jumpCondOp, jumpOp, leaveOp, phiOp, returnOp}
@@ -72,7 +72,7 @@ module _ (f : Func) (fits : FunctionFits f) where
   entries-bytes : Bytes (entrySection f)
   unfolding entrySection
   entries-bytes =
-      bytes-pad 1024 (gather entriesOf (rowsOf f))
+      bytes-pad maxEntries (gather entriesOf (rowsOf f))
       (rw (gather-is-from entriesOf 0 (rowsOf f)) (bytes-gatherFrom (λ x. 0) (λ m. entriesOf) Row.nop 0 (rowsOf f) (λ m i b. fits .rows i b .entries)))
 
   pub function-bytes : Bytes (functionCells f)

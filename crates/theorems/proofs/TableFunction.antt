@@ -16,7 +16,7 @@ use Rattle.laws.proofs.Ranges.{map-from, map-from-take, all-from}
 use Rattle.laws.proofs.Gather.{sum-take-le, length-gather}
 use Rattle.laws.proofs.Sections.{at-move, at-self, at-left, at-right, at-cell, at-pad, at-gather, at-stride, gather-is-from}
 use Rattle.laws.proofs.Sections.{length-gatherFrom, length-pad}
-use Rattle.language.specs.Programs.{Row, Block, Func, entriesOf, rowsOf, entryCount, blockAt, noRegister, noBlock}
+use Rattle.language.specs.Programs.{Row, Block, Func, entriesOf, rowsOf, entryCount, blockAt, noRegister, noBlock, maxEntries}
 use Rattle.language.specs.Table.{twoBytes, nameCells, registerCells, blockCells, rowCells, headCells, registerSection, blockSection}
 use Rattle.language.specs.Table.{rowSection, entrySection, functionCells, decodeRegister, decodeRow, decodeBlock, decodeFunction}
 use Rattle.language.specs.Table.{blocksPlaced, phisPlaced, functionName, functionSsa, functionResult, functionParams, functionEntry}
@@ -78,10 +78,10 @@ module _ (f : Func) (fits : FunctionFits f) where
       (rw (length-gatherFrom entries rowCells rowLength Row.nop 0 (rowsOf f) (λ m i b. length-row m (getD (rowsOf f) i Row.nop)))
       (omega (arith, fits .rowCount)))
 
-  pub length-entries : length (entrySection f) ≡ 1024
+  pub length-entries : length (entrySection f) ≡ maxEntries
   unfolding entrySection entryCount
   length-entries =
-      length-pad 1024 (gather entriesOf (rowsOf f)) (rw (length-gather entriesOf (rowsOf f)) (omega (arith, fits .entryCount)))
+      length-pad maxEntries (gather entriesOf (rowsOf f)) (rw (length-gather entriesOf (rowsOf f)) (omega (arith, fits .entryCount)))
 
   pub length-function : length (functionCells f) ≡ functionLength
   unfolding functionCells
@@ -139,15 +139,15 @@ module _ (f : Func) (fits : FunctionFits f) where
 
     pub entries-at : (r : ℕ) → r < length (rowsOf f) → At t (a + entriesOffset + sum (map entries (take r (rowsOf f)))) (entriesOf (getD (rowsOf f) r Row.nop))
     unfolding entrySection
-    entries-at r b = at-gather entriesOf Row.nop (rowsOf f) r b (at-pad 1024 (gather entriesOf (rowsOf f)) from-entries)
+    entries-at r b = at-gather entriesOf Row.nop (rowsOf f) r b (at-pad maxEntries (gather entriesOf (rowsOf f)) from-entries)
 
-    pub entries-fit : (r : ℕ) → r < length (rowsOf f) → sum (map entries (take r (rowsOf f))) + length (entriesOf (getD (rowsOf f) r Row.nop)) ≤ 1024
+    pub entries-fit : (r : ℕ) → r < length (rowsOf f) → sum (map entries (take r (rowsOf f))) + length (entriesOf (getD (rowsOf f) r Row.nop)) ≤ maxEntries
     unfolding entryCount
     entries-fit r b = omega (arith, sum-take-le entries (rowsOf f) r Row.nop b, fits .entryCount)
 
     rows-back : (r : ℕ) → r < length (rowsOf f) → decodeRow t a r ≡ getD (rowsOf f) r Row.nop
     rows-back r b =
-        let c : entryStart f r + length (entriesOf (getD (rowsOf f) r Row.nop)) ≤ 1024 = omega (arith, entries-fit r b) in
+        let c : entryStart f r + length (entriesOf (getD (rowsOf f) r Row.nop)) ≤ maxEntries = omega (arith, entries-fit r b) in
         row-back a (entryStart f r) (getD (rowsOf f) r Row.nop) r (fits .rows r b) (row-at r b) refl (entries-at r b) (omega arith) (omega arith) (omega arith)
 
     -- ---- blocks

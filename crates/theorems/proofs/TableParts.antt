@@ -20,7 +20,7 @@ use Rattle.language.specs.Table.{decodeRegister, decodeRow, decodeAs, decodeBlo
 use Rattle.language.specs.Table.{blockName, rowEntries, rowOp, rowTarget, rowLeft, rowRight, loadNumber, jumpFirst, jumpSecond, phiFirst}
 use Rattle.language.specs.Table.{phiCount, phiEntry, blockLength, blocksOffset, entriesOffset, registerLength, registersOffset, rowLength, rowsOffset}
 use Rattle.language.proofs.TableLaws.{name-back}
-use Rattle.theorems.specs.TableLaw.{RowFits, numberOf}
+use Rattle.theorems.specs.TableLaw.{RowFits, loadedNumber}
 
 -- ---- the cells of a row
 
@@ -136,7 +136,7 @@ module _ {t : List ℕ} (a : ℕ) where
     phi-count-back b = two-back (length es) (at-right (twoBytes n) (twoBytes (length es)) positions) (omega arith) ∙ mod-eq-of-lt b
 
   -- each form reads the cells that it writes
-  as-back : {k l : ℕ} (n : ℕ) (row : Row) (r : ℕ) → At t k (rowCells n row) → k ≡ a + rowsOffset + rowLength * r → numberOf row < 2 ^ 64
+  as-back : {k l : ℕ} (n : ℕ) (row : Row) (r : ℕ) → At t k (rowCells n row) → k ≡ a + rowsOffset + rowLength * r → loadedNumber row < 2 ^ 64
       → At t l (entriesOf row) → l ≡ a + entriesOffset + n → n < 65536 → length (entriesOf row) < 65536 → decodeAs (formIn row) t a r ≡ row
   unfolding pad rowCells decodeAs
   as-back n Row.nop r h e x g d b c = refl

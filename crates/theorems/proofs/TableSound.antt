@@ -4,7 +4,7 @@ use mathlib.Core.Path.{_≡_, refl, sym, _∙_, ap, subst, subst⁻¹}
 use mathlib.Core.Bool.{Bool, true, false, cond}
 use mathlib.Core.List.{List, [], _∷_, _++_, foldl}
 use mathlib.Core.Logic.{inl, inr}
-use Prim.Native.Nat.{ℕ, zero, _+_, _*_, _%_, _^_, _≤_, _<_}
+use Prim.Native.Nat.{ℕ, zero, _*_, _%_, _^_, _≤_, _<_}
 use native.Mathlib.Nat.{lt-of-lt-of-le, mod-lt, zero-lt-suc}
 use native.Mathlib.Omega.{arith}
 use lib.Dec.{T, ltb, leb, ltb→lt, leb→le, eqb→eq, lit<, lit≤}
@@ -18,10 +18,10 @@ use Rattle.laws.proofs.Every.{Every, none, more, every-all, every-at, every-lef
 use Rattle.language.specs.Instructions.{Form, formOf, formNumber, width, loadType, instructionCount}
 use Rattle.language.specs.Names.{Spelling, spell, nextSpelled, whole, spelled}
 use Rattle.language.proofs.SpelledNames.{spoiled}
-use Rattle.language.specs.Programs.{Row, Func, Program, noRegister, noBlock, noFunction, rowsOf, opOf, formIn, targetsOf, sourcesOf, entriesOf}
+use Rattle.language.specs.Programs.{Row, Func, Program, noRegister, noBlock, noFunction, rowsOf, opOf, formIn, targetsOf, sourcesOf, entriesOf, maxFunctions}
 use Rattle.language.specs.Checking.{Verdict, check, judgeFrom, shaped, inRange, numberFits, spelledOrNone}
 use Rattle.theorems.specs.Statements.{AcceptedBack}
-use Rattle.theorems.specs.TableLaw.{NameFits, RowFits, FunctionFits, Fits, Held, numberOf}
+use Rattle.theorems.specs.TableLaw.{NameFits, RowFits, FunctionFits, Fits, Held, loadedNumber}
 use Rattle.theorems.proofs.AcceptanceCheck.{clean-of-check, Sound, sound-parts}
 use Rattle.theorems.proofs.AcceptanceRows.{range-parts}
 use Rattle.theorems.proofs.Table.{table}
@@ -92,7 +92,7 @@ width-most t = by (ltb t 8)
         omega (arith, pow-mono h)
     by false = lit≤ tt
 
-number-fits : (r : Row) → T (numberFits r) → numberOf r < 2 ^ 64
+number-fits : (r : Row) → T (numberFits r) → loadedNumber r < 2 ^ 64
 number-fits Row.nop h = lit< tt
 number-fits (Row.load op t n) h = lt-of-lt-of-le (ltb→lt n (2 ^ width (loadType op)) h) (pow-mono (width-most (loadType op)))
 number-fits (Row.unary op t s) h = lit< tt
@@ -154,12 +154,12 @@ pub accepted-fits : (p : Program) → check p ≡ Verdict.accepted → Fits p
 unfolding check
 accepted-fits p e =
     record {
-      functionCount = count (leb (length p) 16) refl e;
+      functionCount = count (leb (length p) maxFunctions) refl e;
       functions = λ i h. sound-fits (getD p i noFunction) (sound-parts [] (getD p i noFunction) (clean-of-check p i e h .head));
     }
   where
-    count : (b : Bool) → leb (length p) 16 ≡ b → cond b (judgeFrom [] zero p) (Verdict.refused 9 0) ≡ Verdict.accepted → length p ≤ 16
-    count true l e = leb→le (length p) 16 (subst⁻¹ (λ (c : Bool). T c) l tt)
+    count : (b : Bool) → leb (length p) maxFunctions ≡ b → cond b (judgeFrom [] zero p) (Verdict.refused 9 0) ≡ Verdict.accepted → length p ≤ maxFunctions
+    count true l e = leb→le (length p) maxFunctions (subst⁻¹ (λ (c : Bool). T c) l tt)
     count false l e = let z : _≡_ {A = ℕ} 0 1 = cc in absurd (omega arith)
 
 pub accepted-held : (p : Program) → check p ≡ Verdict.accepted → Held p

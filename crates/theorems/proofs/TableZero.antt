@@ -13,7 +13,7 @@ use Rattle.laws.specs.Sections.{At, ZeroOr, gatherFrom}
 use Rattle.laws.proofs.Sections.{at-right, gather-is-from, zero-or-append, zero-or-pad, zero-or-all, zero-or-gather, zero-or-stride}
 use Rattle.laws.proofs.Sections.{zero-or-map}
 use Rattle.language.specs.Instructions.{formOf, jumpCondOp, jumpOp, leaveOp, phiOp, returnOp}
-use Rattle.language.specs.Programs.{Row, Register, Func, entriesOf, formIn, rowsOf, blockAt, noRegister, noBlock}
+use Rattle.language.specs.Programs.{Row, Register, Func, entriesOf, formIn, rowsOf, blockAt, noRegister, noBlock, maxEntries}
 use Rattle.language.specs.Table.{twoBytes, nameCells, registerCells, blockCells, rowCells, headCells, registerSection, blockSection, nameOffset}
 use Rattle.language.specs.Table.{rowSection, entrySection, functionCells, rowOp, registerCount, blockCount, phiFirst, phiCount}
 use Rattle.language.specs.Table.{blockLength, blockNamesOffset, blocksLength, blocksOffset, entriesOffset, registerLength, registerNamesOffset, registersLength, registersOffset, rowLength, rowsLength, rowsOffset}
@@ -124,7 +124,7 @@ module _ (f : Func) (fits : FunctionFits f) {t : List ℕ} (a : ℕ) (h : At t a
     entries-cells-zero : (q : ℕ) → q ≡ a + entriesOffset + sum (map entries (take i (rowsOf f))) → ZeroOr P q (entriesOf row)
     entries-cells-zero q e =
         by-phi
-        (λ x. At t (a + rowsOffset + rowLength * i) (rowCells (entryStart f i) x) → formOf (rowOp t a i) ≡ formIn x → entryStart f i + entries x ≤ 1024 → ZeroOr P q (entriesOf x))
+        (λ x. At t (a + rowsOffset + rowLength * i) (rowCells (entryStart f i) x) → formOf (rowOp t a i) ≡ formIn x → entryStart f i + entries x ≤ maxEntries → ZeroOr P q (entriesOf x))
         (λ u es g d c.
         let first : phiFirst t a i ≡ entryStart f i = phi-first-back a (entryStart f i) u es i g refl (omega arith) in
         let count : phiCount t a i ≡ length es = phi-count-back a (entryStart f i) u es i g refl (omega arith) in
@@ -141,7 +141,7 @@ module _ (f : Func) (fits : FunctionFits f) {t : List ℕ} (a : ℕ) (h : At t a
   entries-zero : ZeroOr P (a + entriesOffset) (entrySection f)
   unfolding entrySection
   entries-zero =
-      zero-or-pad P (a + entriesOffset) 1024 (gather entriesOf (rowsOf f))
+      zero-or-pad P (a + entriesOffset) maxEntries (gather entriesOf (rowsOf f))
       (zero-or-gather P (a + entriesOffset) entriesOf Row.nop (rowsOf f) entries-cells-zero)
 
   pub function-zero : ZeroOr P a (functionCells f)

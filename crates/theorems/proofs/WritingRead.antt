@@ -2,7 +2,7 @@
 use mathlib.Core.Bool.{Bool, true, false, cond}
 use mathlib.Core.List.{List, [], _∷_, _++_, map, foldl, append-assoc, append-nil}
 use mathlib.Core.Path.{_≡_, refl, sym, _∙_, ap, subst}
-use Prim.Native.Nat.{ℕ, _+_, _-_, _≤_, _<_}
+use Prim.Native.Nat.{ℕ, _+_, _≤_, _<_}
 use native.Mathlib.Omega.{arith}
 use lib.Dec.{T, eqb, lit<}
 use lib.IntN.{ℤ, pos, negsuc}
@@ -23,7 +23,7 @@ use Rattle.language.specs.Grammar.{Stage, gram}
 use Rattle.language.specs.Reading.{Reading, performAct, takeToken, parse₀, finish, read}
 use Rattle.language.proofs.ReadingLaws.{read-by-tokens}
 use Rattle.language.specs.Writing.{parted, inParens, registerToken, blockToken, typeToken, resultToken, meantToken, numberToken, targetPart, operandPart, ssaPart, parameterPart, registerLine, rowLine, blockLines, headLine, functionLines, linesOf, tokens, textOf, closing}
-use Rattle.theorems.specs.RoundTrip.{Finds}
+use Rattle.theorems.specs.RoundTrip.{FindsTokens}
 use Rattle.theorems.proofs.WritingTokens.{Spellable, lexes}
 use Rattle.theorems.proofs.WritingStates.{State, At, Takes, nothing, after, passes}
 use Rattle.theorems.proofs.WritingDeclared.{New, Apart}
@@ -263,7 +263,7 @@ program-spelled h = every-gather functionLines (every-imp function-spelled h)
 
 -- ---- the round trip
 
-pub program-found : (p : Program) → ProgramReady p → Finds (tokens p ++ (Token.end ∷ [])) (tokensOf (textOf p))
+pub program-found : (p : Program) → ProgramReady p → FindsTokens (tokens p ++ (Token.end ∷ [])) (tokensOf (textOf p))
 unfolding tokens textOf linesOf
 program-found p k = lexes (gather functionLines p) (program-spelled (k .functions))
 

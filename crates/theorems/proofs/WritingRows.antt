@@ -13,7 +13,7 @@ use Rattle.laws.proofs.Every.{Every, more as every-cons}
 use Rattle.laws.proofs.Appending.{gather-append}
 use Rattle.language.specs.Bytes.{comma, leftParen, rightParen, equals, semicolon}
 use Rattle.language.specs.Words.{isInstruction, firstInstruction, wordCount}
-use Rattle.language.specs.Instructions.{Form, Operand, formOf, hasTarget, sourceCount, operandOf, loadType, width, instructionCount}
+use Rattle.language.specs.Instructions.{Form, Operand, formOf, hasTarget, sourceCount, operandOf, loadType, width, instructionCount, phiOp, jumpOp, jumpCondOp, returnOp, leaveOp}
 use Rattle.language.specs.Programs.{Row, Block, Func, noRegister, blockAt, rowsOf, entryCount, opOf, formIn, targetsOf, sourcesOf, entriesOf, namedBy, isPhi, maxRows, maxEntries}
 use Rattle.language.specs.Checking.{numberFits}
 use Rattle.language.specs.Tokens.{Token, token}
@@ -357,28 +357,28 @@ module _ (fs : List Func) (F : Func) (apart : Apart nameOf [] (F .registers)) wh
     block-read :
         (n : List ℕ)
         → length ns + 1 < maxMentions
-        → Takes (having-read (Stage.operand Operand.block) ns (partsOf 32 0 [] 0 [] [])) (inParens (blockToken n ∷ []))
-        (having-read Stage.instructionEnd (ns ++ (n ∷ [])) (partsOf 32 0 [] 0 [] (length ns ∷ [])))
+        → Takes (having-read (Stage.operand Operand.block) ns (partsOf jumpOp 0 [] 0 [] [])) (inParens (blockToken n ∷ []))
+        (having-read Stage.instructionEnd (ns ++ (n ∷ [])) (partsOf jumpOp 0 [] 0 [] (length ns ∷ [])))
     unfolding gram
     block-read n few =
-        let after-n = having-read Stage.operandEnd (ns ++ (n ∷ [])) (partsOf 32 0 [] 0 [] (length ns ∷ [])) in
-        pass-then (having-read (Stage.operand Operand.block) ns (partsOf 32 0 [] 0 [] [])) (Stage.mention 0) _ _ _ refl
+        let after-n = having-read Stage.operandEnd (ns ++ (n ∷ [])) (partsOf jumpOp 0 [] 0 [] (length ns ∷ [])) in
+        pass-then (having-read (Stage.operand Operand.block) ns (partsOf jumpOp 0 [] 0 [] [])) (Stage.mention 0) _ _ _ refl
         (then _ after-n _ _ _ (mention-read bs nm rows 32 [] [] ns 0 n (omega arith))
         (passes after-n Stage.instructionEnd (Token.mark rightParen) refl))
 
     blocks-read :
         (u : ℕ) (n o : List ℕ)
         → length ns + 1 < maxMentions
-        → Takes (having-read (Stage.operand Operand.blocks) ns (partsOf 33 0 (u ∷ []) 0 [] [])) (inParens (blockToken n ∷ Token.mark comma ∷ blockToken o ∷ []))
-        (having-read Stage.instructionEnd (ns ++ (n ∷ o ∷ [])) (partsOf 33 0 (u ∷ []) 0 [] (length ns ∷ (length ns + 1) ∷ [])))
+        → Takes (having-read (Stage.operand Operand.blocks) ns (partsOf jumpCondOp 0 (u ∷ []) 0 [] [])) (inParens (blockToken n ∷ Token.mark comma ∷ blockToken o ∷ []))
+        (having-read Stage.instructionEnd (ns ++ (n ∷ o ∷ [])) (partsOf jumpCondOp 0 (u ∷ []) 0 [] (length ns ∷ (length ns + 1) ∷ [])))
     unfolding gram
     blocks-read u n o few =
         let count : length (ns ++ (n ∷ [])) ≡ length ns + 1 = length-append ns (n ∷ []) in
         let joined : ns ++ (n ∷ []) ++ (o ∷ []) ≡ ns ++ (n ∷ o ∷ []) = append-assoc ns (n ∷ []) (o ∷ []) in
         let second = mention-read bs nm rows 33 (u ∷ []) (length ns ∷ []) (ns ++ (n ∷ [])) 0 o (rw count few) in
-        let after-n = having-read (Stage.mentionComma 0) (ns ++ (n ∷ [])) (partsOf 33 0 (u ∷ []) 0 [] (length ns ∷ [])) in
-        let after-o = having-read Stage.operandEnd (ns ++ (n ∷ o ∷ [])) (partsOf 33 0 (u ∷ []) 0 [] (length ns ∷ (length ns + 1) ∷ [])) in
-        pass-then (having-read (Stage.operand Operand.blocks) ns (partsOf 33 0 (u ∷ []) 0 [] [])) (Stage.mention 1) _ _ _ refl
+        let after-n = having-read (Stage.mentionComma 0) (ns ++ (n ∷ [])) (partsOf jumpCondOp 0 (u ∷ []) 0 [] (length ns ∷ [])) in
+        let after-o = having-read Stage.operandEnd (ns ++ (n ∷ o ∷ [])) (partsOf jumpCondOp 0 (u ∷ []) 0 [] (length ns ∷ (length ns + 1) ∷ [])) in
+        pass-then (having-read (Stage.operand Operand.blocks) ns (partsOf jumpCondOp 0 (u ∷ []) 0 [] [])) (Stage.mention 1) _ _ _ refl
         (then _ after-n _ _ _ (mention-read bs nm rows 33 (u ∷ []) [] ns 1 n (omega arith))
         (pass-then after-n (Stage.mention 0) _ _ _ refl
         (then _ after-o _ _ _ (rw (count, joined) at second) (passes after-o Stage.instructionEnd (Token.mark rightParen) refl))))
@@ -407,18 +407,18 @@ module _ (fs : List Func) (F : Func) (apart : Apart nameOf [] (F .registers)) wh
         (record { counted = refl; word = refl; whole = refl; operand = no-operand y })
     row-read (Row.phi t es) k fits few =
         let read = entries-read bs nm rows ns 31 t es (k .some tt) fits (k .entries) in
-        target-read bs nm rows ns s starts x room (Row.phi t es) k t (partsOf 31 t [] 0 es []) (first (k .targets)) refl
+        target-read bs nm rows ns s starts x room (Row.phi t es) k t (partsOf phiOp t [] 0 es []) (first (k .targets)) refl
         (record { counted = refl; word = refl; whole = refl; operand = rw append-nil read })
     row-read (Row.jump b) k fits few =
-        plain-read bs nm rows ns s starts x room (Row.jump b) k (partsOf 32 0 [] 0 [] (length ns ∷ [])) refl
+        plain-read bs nm rows ns s starts x room (Row.jump b) k (partsOf jumpOp 0 [] 0 [] (length ns ∷ [])) refl
         (record { counted = refl; word = refl; whole = refl; operand = block-read (blockAt F b .name) few })
     row-read (Row.branch u y z) k fits few =
-        plain-read bs nm rows ns s starts x room (Row.branch u y z) k (partsOf 33 0 (u ∷ []) 0 [] (length ns ∷ (length ns + 1) ∷ [])) refl
+        plain-read bs nm rows ns s starts x room (Row.branch u y z) k (partsOf jumpCondOp 0 (u ∷ []) 0 [] (length ns ∷ (length ns + 1) ∷ [])) refl
         (record { counted = refl; word = refl; whole = refl; operand = blocks-read u (blockAt F y .name) (blockAt F z .name) few })
     row-read (Row.return u) k fits few =
-        let y = partsOf 34 0 (u ∷ []) 0 [] [] in
+        let y = partsOf returnOp 0 (u ∷ []) 0 [] [] in
         plain-read bs nm rows ns s starts x room (Row.return u) k y refl (record { counted = refl; word = refl; whole = refl; operand = no-operand y })
     row-read Row.leave k fits few =
-        let y = partsOf 35 0 [] 0 [] [] in
+        let y = partsOf leaveOp 0 [] 0 [] [] in
         plain-read bs nm rows ns s starts x room Row.leave k y refl (record { counted = refl; word = refl; whole = refl; operand = no-operand y })
     row-read (Row.unknown op) k fits few = absurd (omega (arith, unknown-from op (k .form), k .op))

@@ -9,7 +9,7 @@ use Rattle.language.specs.Programs.{Block, Func}
 use Rattle.language.specs.Tokens.{Token, Found, token}
 use Rattle.language.specs.Grammar.{Stage, Act, Move, to, aType, gram}
 use Rattle.language.specs.Reading.{Parts, Mention, Draft, proceed, Parse, draftOf, performAct, afterAct, takeToken}
-use Rattle.theorems.specs.RoundTrip.{Finds, none, more}
+use Rattle.theorems.specs.RoundTrip.{FindsTokens, none, more}
 
 -- What is read so far, without the places of the blocks mentioned.
 pub record State : Type 0 where
@@ -33,7 +33,7 @@ pub record At (σ : State) (x : Parse) : Type 0 where
 
 -- These tokens lead from one state to the other.
 unfoldable pub Takes : State → List Token → State → Type 0
-Takes σ ts τ = (x : Parse) → At σ x → (fs : List Found) → Finds ts fs → At τ (foldl takeToken x fs)
+Takes σ ts τ = (x : Parse) → At σ x → (fs : List Found) → FindsTokens ts fs → At τ (foldl takeToken x fs)
 
 pub nothing : (σ : State) → Takes σ [] σ
 unfolding Takes
@@ -47,11 +47,11 @@ then σ τ υ t ts f g x k fs (more {fs = gs} p h) = g (takeToken x (token p t))
 record Split (ts us : List Token) (fs : List Found) : Type 0 where
   left : List Found
   right : List Found
-  first : Finds ts left
-  second : Finds us right
+  first : FindsTokens ts left
+  second : FindsTokens us right
   joined : left ++ right ≡ fs
 
-split : (ts us : List Token) (fs : List Found) → Finds (ts ++ us) fs → Split ts us fs
+split : (ts us : List Token) (fs : List Found) → FindsTokens (ts ++ us) fs → Split ts us fs
 split [] us fs h = record { left = []; right = fs; first = none; second = h; joined = refl }
 split (t ∷ ts) us fs (more {fs = gs} p h) =
     let r = split ts us gs h in

@@ -21,10 +21,10 @@ use Rattle.language.specs.Listing.{digits}
 use Rattle.language.specs.Tokens.{Token, Found, token, Mode, Lexer, Lexed, lexer₀, quiet, finds, begun, begunName, longerName, longerNumber, begunNumber, digitMode, begin, beginAs, nameOrWord, ended, endedAs, ends, extends, quotes, closes, endsNumber, decimalDigit, stepAs, lexStep, lexEnd, lexMore, tokensOf}
 use Rattle.language.proofs.Digits.{digits-by}
 use Rattle.language.proofs.SpelledNames.{right, wrong-stays, right-before}
-use Rattle.theorems.specs.RoundTrip.{Finds, none, more}
+use Rattle.theorems.specs.RoundTrip.{FindsTokens, none, more}
 use Rattle.language.specs.Writing.{bytesFor, lineBytes, spaceByte}
 
-pub finds-append : {ts us : List Token} {fs gs : List Found} → Finds ts fs → Finds us gs → Finds (ts ++ us) (fs ++ gs)
+pub finds-append : {ts us : List Token} {fs gs : List Found} → FindsTokens ts fs → FindsTokens us gs → FindsTokens (ts ++ us) (fs ++ gs)
 finds-append none k = k
 finds-append (more p h) k = more p (finds-append h k)
 
@@ -33,20 +33,20 @@ finds-append (more p h) k = more p (finds-append h k)
 -- Nothing is open.
 record Between (us : List Token) (x : Lexed) : Type 0 where
   mode : x .lexer .mode ≡ Mode.between
-  found : Finds us (x .found)
+  found : FindsTokens us (x .found)
 
 -- A name so far.
 record Naming (m : Mode) (n : List ℕ) (us : List Token) (x : Lexed) : Type 0 where
   mode : x .lexer .mode ≡ m
   bytes : x .lexer .bytes ≡ n
-  found : Finds us (x .found)
+  found : FindsTokens us (x .found)
 
 -- A number so far.
 record Counting (s : Bool) (v : ℕ) (us : List Token) (x : Lexed) : Type 0 where
   mode : (x .lexer .mode ≡ Mode.leadingZero) ⊎ (x .lexer .mode ≡ Mode.decimal)
   negative : x .lexer .negative ≡ s
   value : x .lexer .value ≡ v
-  found : Finds us (x .found)
+  found : FindsTokens us (x .found)
 
 abbrev also : Lexed → Lexed → Lexed
 also x y = record { lexer = y .lexer; found = x .found ++ y .found }
@@ -55,7 +55,7 @@ more-is : (x : Lexed) (b : ℕ) (m : Mode) → x .lexer .mode ≡ m → lexMore 
 unfolding lexMore lexStep
 more-is x b m e = ap (λ (k : Mode). also x (stepAs k (x .lexer) b)) e
 
-still : {us : List Token} (fs : List Found) → Finds us fs → Finds us (fs ++ [])
+still : {us : List Token} (fs : List Found) → FindsTokens us fs → FindsTokens us (fs ++ [])
 still fs h = rw append-nil h
 
 -- ---- a space
@@ -76,7 +76,7 @@ module _ (c : ℕ) (space : classOf c ≡ Class.space) where
   space-on {us} x k =
       let e : lexMore x c ≡ also x (quiet (begun Mode.between (x .lexer .next))) =
       more-is x c Mode.between (k .mode) ∙ ap (also x) (begin-space (x .lexer .next)) in
-      record { mode = ap (λ (y : Lexed). y .lexer .mode) e; found = subst⁻¹ (λ (y : Lexed). Finds us (y .found)) e (still (x .found) (k .found)) }
+      record { mode = ap (λ (y : Lexed). y .lexer .mode) e; found = subst⁻¹ (λ (y : Lexed). FindsTokens us (y .found)) e (still (x .found) (k .found)) }
 
   -- what is open ends
   ends-is : (l : Lexer) (m : Mode) → l .mode ≡ m → ends l c ≡ record { lexer = begun Mode.between (l .next); found = endedAs m l ++ [] }
@@ -85,12 +85,12 @@ module _ (c : ℕ) (space : classOf c ≡ Class.space) where
 
   ended-on :
       {us : List Token} (t : Token) (x : Lexed) (p : ℕ)
-      → Finds us (x .found)
+      → FindsTokens us (x .found)
       → (y : Lexed)
       → y ≡ also x (record { lexer = begun Mode.between (x .lexer .next); found = token p t ∷ [] ++ [] })
       → Between (us ++ (t ∷ [])) y
   ended-on {us} t x p h y e =
-      record { mode = ap (λ (z : Lexed). z .lexer .mode) e; found = subst⁻¹ (λ (z : Lexed). Finds (us ++ (t ∷ [])) (z .found)) e (finds-append h (more p none)) }
+      record { mode = ap (λ (z : Lexed). z .lexer .mode) e; found = subst⁻¹ (λ (z : Lexed). FindsTokens (us ++ (t ∷ [])) (z .found)) e (finds-append h (more p none)) }
 
   name-ends : {n : List ℕ} {us : List Token} (x : Lexed) → Naming Mode.plain n us x → Between (us ++ (nameOrWord n ∷ [])) (lexMore x c)
   name-ends {n} {us} x k =
@@ -157,7 +157,7 @@ module _ (n : List ℕ) (b : ℕ) (us : List Token) (x : Lexed) (f : length n < 
       record {
         mode = ap (λ (y : Lexed). y .lexer .mode) d;
         bytes = ap (λ (y : Lexed). y .lexer .bytes) d ∙ ap (λ (n : List ℕ). n ++ (b ∷ [])) (k .bytes);
-        found = subst⁻¹ (λ (y : Lexed). Finds us (y .found)) d (still (x .found) (k .found));
+        found = subst⁻¹ (λ (y : Lexed). FindsTokens us (y .found)) d (still (x .found) (k .found));
       }
 
   plain-on :
@@ -206,7 +206,7 @@ module _ (n : List ℕ) (b : ℕ) (us : List Token) (x : Lexed) (f : length n < 
       record {
         mode = ap (λ (y : Lexed). y .lexer .mode) d;
         found =
-            subst⁻¹ (λ (y : Lexed). Finds (us ++ (Token.name (n ++ (b ∷ [])) ∷ [])) (y .found)) d
+            subst⁻¹ (λ (y : Lexed). FindsTokens (us ++ (Token.name (n ++ (b ∷ [])) ∷ [])) (y .found)) d
             (rw (k .bytes) (finds-append (k .found) (more (l .start) none)));
       }
 
@@ -270,7 +270,7 @@ first-on b us x k r = by (classOf b) refl r
         record {
           mode = ap (λ (y : Lexed). y .lexer .mode) e;
           bytes = ap (λ (y : Lexed). y .lexer .bytes) e;
-          found = subst⁻¹ (λ (y : Lexed). Finds us (y .found)) e (still (x .found) (k .found));
+          found = subst⁻¹ (λ (y : Lexed). FindsTokens us (y .found)) e (still (x .found) (k .found));
         }
 
     by : (c : Class) → classOf b ≡ c → T (right (firstSpelled c)) → Stands (firstSpelled c) (b ∷ []) us (lexMore x b)
@@ -398,7 +398,7 @@ module _ (c : ℕ) (space : classOf c ≡ Class.space) (us : List Token) (x : Le
       space-on c space (lexMore x b)
       (record {
         mode = ap (λ (y : Lexed). y .lexer .mode) e;
-        found = subst⁻¹ (λ (y : Lexed). Finds (us ++ (Token.mark b ∷ [])) (y .found)) e (finds-append (k .found) (more (x .lexer .next) none));
+        found = subst⁻¹ (λ (y : Lexed). FindsTokens (us ++ (Token.mark b ∷ [])) (y .found)) e (finds-append (k .found) (more (x .lexer .next) none));
       })
 
 -- ---- numbers
@@ -427,11 +427,11 @@ module _ (s : Bool) (us : List Token) where
     mode : x .lexer .mode ≡ Mode.sign
     negative : x .lexer .negative ≡ s
     value : x .lexer .value ≡ 0
-    found : Finds us (x .found)
+    found : FindsTokens us (x .found)
 
   counts :
       (x y : Lexed) (m : Mode) (v : ℕ)
-      → Finds us (x .found)
+      → FindsTokens us (x .found)
       → x .lexer .negative ≡ s
       → (m ≡ Mode.leadingZero) ⊎ (m ≡ Mode.decimal)
       → y ≡ also x (quiet (longerNumber m (x .lexer) v))
@@ -441,7 +441,7 @@ module _ (s : Bool) (us : List Token) where
         mode = ⊎-elim (λ d. inl (ap (λ (y : Lexed). y .lexer .mode) e ∙ d)) (λ d. inr (ap (λ (y : Lexed). y .lexer .mode) e ∙ d)) h;
         negative = ap (λ (y : Lexed). y .lexer .negative) e ∙ g;
         value = ap (λ (y : Lexed). y .lexer .value) e;
-        found = subst⁻¹ (λ (y : Lexed). Finds us (y .found)) e (still (x .found) f);
+        found = subst⁻¹ (λ (y : Lexed). FindsTokens us (y .found)) e (still (x .found) f);
       }
 
   -- one digit more
@@ -506,7 +506,7 @@ first-digit us d h x k =
       mode = ⊎-elim (λ d. inl (ap (λ (y : Lexed). y .lexer .mode) e ∙ d)) (λ d. inr (ap (λ (y : Lexed). y .lexer .mode) e ∙ d)) (digit-modes (eqb b digitZero));
       negative = ap (λ (y : Lexed). y .lexer .negative) e;
       value = ap (λ (y : Lexed). y .lexer .value) e;
-      found = subst⁻¹ (λ (y : Lexed). Finds us (y .found)) e (still (x .found) (k .found));
+      found = subst⁻¹ (λ (y : Lexed). FindsTokens us (y .found)) e (still (x .found) (k .found));
     }
 
 minus-class : classOf minus ≡ Class.sign
@@ -520,7 +520,7 @@ minus-on us x k =
       mode = ap (λ (y : Lexed). y .lexer .mode) e;
       negative = ap (λ (y : Lexed). y .lexer .negative) e;
       value = ap (λ (y : Lexed). y .lexer .value) e;
-      found = subst⁻¹ (λ (y : Lexed). Finds us (y .found)) e (still (x .found) (k .found));
+      found = subst⁻¹ (λ (y : Lexed). FindsTokens us (y .found)) e (still (x .found) (k .found));
     }
 
 module _ (c : ℕ) (space : classOf c ≡ Class.space) (us : List Token) (x : Lexed) (k : Between us x) where
@@ -571,7 +571,7 @@ lines-on (l ∷ ls) us x (every-cons p h) k =
     (rw append-assoc at (lines-on ls (us ++ l) (foldl lexMore x (lineBytes l)) h (line-on l us x p k)))
 
 -- the tokens of a text of lines, whatever their places, and the end
-pub lexes : (ls : List (List Token)) → Every (Every Spellable) ls → Finds (gather (λ l. l) ls ++ (Token.end ∷ [])) (tokensOf (gather lineBytes ls))
+pub lexes : (ls : List (List Token)) → Every (Every Spellable) ls → FindsTokens (gather (λ l. l) ls ++ (Token.end ∷ [])) (tokensOf (gather lineBytes ls))
 unfolding tokensOf lexEnd ended
 lexes ls h =
     let x = foldl lexMore (quiet lexer₀) (gather lineBytes ls) in

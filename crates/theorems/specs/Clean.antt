@@ -19,7 +19,7 @@ pub record Clean (f : Func) : Type 0 where
   pub paths : (b j : ℕ) → j < length (rowsAt f b) → breaks17 f (spotAt f b j) ≡ false
 
 -- A run can be at p: at a row of a block, which the block before goes to unless it is entry, where a run starts from no block.
-pub record At (f : Func) (p : Place) : Type 0 where
+pub record AtPlace (f : Func) (p : Place) : Type 0 where
   pub block : p .block < length (f .blocks)
   pub row : p .row < length (rowsAt f (p .block))
   pub came : (p .block ≡ f .entry → ⊥) → goesTo f (p .before) (p .block) ≡ true

@@ -47,13 +47,13 @@ ShortestNumbers = (n : ℕ) → Shortest n (digits n)
 -- ---- the text of an accepted program
 
 -- These tokens are found, wherever they stand, and nothing else.
-pub data Finds : List Token → List Found → Type 0 where
-  none : Finds [] []
-  more : {t : Token} {ts : List Token} {fs : List Found} (place : ℕ) → Finds ts fs → Finds (t ∷ ts) (token place t ∷ fs)
+pub data FindsTokens : List Token → List Found → Type 0 where
+  none : FindsTokens [] []
+  more : {t : Token} {ts : List Token} {fs : List Found} (place : ℕ) → FindsTokens ts fs → FindsTokens (t ∷ ts) (token place t ∷ fs)
 
 -- The lexer finds the tokens of its lines, and the end.
 abbrev pub TokensFound : Type 0
-TokensFound = (p : Program) → check p ≡ Verdict.accepted → Finds (tokens (named p) ++ (Token.end ∷ [])) (tokensOf (written p))
+TokensFound = (p : Program) → check p ≡ Verdict.accepted → FindsTokens (tokens (named p) ++ (Token.end ∷ [])) (tokensOf (written p))
 
 -- "Read back, the text gives" the program "with the made names filled in".
 abbrev pub ReadsBack : Type 0

@@ -13,17 +13,17 @@ use Rattle.language.specs.Programs.{maxName}
 use Rattle.language.specs.Table.{tableLength, cells, decode}
 
 -- The number a row loads.
-abbrev pub numberOf : Row → ℕ
-numberOf Row.nop = 0
-numberOf (Row.load op t n) = n
-numberOf (Row.unary op t s) = 0
-numberOf (Row.binary op t l r) = 0
-numberOf (Row.phi t es) = 0
-numberOf (Row.jump b) = 0
-numberOf (Row.branch s x y) = 0
-numberOf (Row.return s) = 0
-numberOf Row.leave = 0
-numberOf (Row.unknown op) = 0
+abbrev pub loadedNumber : Row → ℕ
+loadedNumber Row.nop = 0
+loadedNumber (Row.load op t n) = n
+loadedNumber (Row.unary op t s) = 0
+loadedNumber (Row.binary op t l r) = 0
+loadedNumber (Row.phi t es) = 0
+loadedNumber (Row.jump b) = 0
+loadedNumber (Row.branch s x y) = 0
+loadedNumber (Row.return s) = 0
+loadedNumber Row.leave = 0
+loadedNumber (Row.unknown op) = 0
 
 -- What fits the cells it is given. A row is written in the form of its instruction.
 pub record NameFits (name : List ℕ) : Type 0 where
@@ -41,7 +41,7 @@ pub record RowFits (row : Row) : Type 0 where
   pub sources : Bytes (sourcesOf row)
   pub entries : Bytes (entriesOf row)
   pub blocks : Bytes (namedBy row)
-  pub number : numberOf row < 2 ^ 64
+  pub number : loadedNumber row < 2 ^ 64
 
 pub record FunctionFits (f : Func) : Type 0 where
   pub name : NameFits (f .name)

@@ -4,14 +4,14 @@ ghost use mathlib.Core.Path.{_≡_};
 ghost use Prim.Native.Nat.{_<_, _≤_};
 ghost use lib.ListN.{length};
 ghost use Rattle.language.specs.MadeNames.{madeName, namedFunction};
-ghost use Rattle.language.specs.Programs.{blockAt};
+ghost use Rattle.language.specs.Programs.{blockAt, maxBlocks, maxRegisters};
 ghost use Rattle.language.specs.Table.{registerCount, blockCount, decodeFunction, InTable};
 ghost use Rattle.language.specs.Tokens.{Token};
 ghost use Rattle.language.specs.Writing.{registerToken, blockToken};
 ghost use Rattle.naming.specs.Numbered.{RegistersNumbered, BlocksNumbered};
 ghost use Rattle.page.specs.Page.{page, puts};
 ghost use Rattle.token_text.specs.Spaced.{spaced};
-use crate::numbers::put_spaced_digits;
+use crate::digits::put_spaced_digits;
 use page::put_part;
 use table::block_name;
 use table::function_entry;
@@ -35,7 +35,7 @@ fn put_made(prefix: &[u8], number: u16, out: &mut [u8], at: usize) -> usize
 
 // Register r by its name, given or made, and a space.
 pub fn put_register(t: &[u8], a: usize, made: &[u16], r: usize, out: &mut [u8], at: usize) -> usize
-    requires { ⌜ (InTable (now t) a) × (registerCount (now t) a ≤ 256) × (256 ≤ length (now made)) ⌝ }
+    requires { ⌜ (InTable (now t) a) × (registerCount (now t) a ≤ maxRegisters) × (maxRegisters ≤ length (now made)) ⌝ }
     requires { ⌜ RegistersNumbered (decodeFunction (now t) a) (now made) × (r < registerCount (now t) a) ⌝ }
     ensures { λ e. ⌜ page (now (out .exit)) e ≡ puts (page (now (out .entry)) at) (spaced (registerToken (namedFunction (decodeFunction (now (t .entry)) a)) r ∷ [])) ⌝ }
 {
@@ -48,7 +48,7 @@ pub fn put_register(t: &[u8], a: usize, made: &[u16], r: usize, out: &mut [u8], 
 
 // Block b by its name, given or made, or the word `entry`; and a space.
 pub fn put_block(t: &[u8], a: usize, made: &[u16], b: usize, out: &mut [u8], at: usize) -> usize
-    requires { ⌜ (InTable (now t) a) × (blockCount (now t) a ≤ 64) × (64 ≤ length (now made)) ⌝ }
+    requires { ⌜ (InTable (now t) a) × (blockCount (now t) a ≤ maxBlocks) × (maxBlocks ≤ length (now made)) ⌝ }
     requires { ⌜ BlocksNumbered (decodeFunction (now t) a) (now made) × (b < blockCount (now t) a) ⌝ }
     ensures { λ e. ⌜ page (now (out .exit)) e ≡ puts (page (now (out .entry)) at) (spaced (blockToken (blockAt (namedFunction (decodeFunction (now (t .entry)) a)) b .name) ∷ [])) ⌝ }
 {

@@ -3,14 +3,14 @@
 use mathlib.Core.Path.{_≡_, refl, sym, ap, _∙_}
 use mathlib.Core.Bool.{Bool, true, false, cond}
 use mathlib.Core.List.{List, [], _∷_, _++_}
-use Prim.Native.Nat.{ℕ, suc, _+_, _-_, _*_, _≤_, _<_}
+use Prim.Native.Nat.{ℕ, suc, _+_, _*_, _≤_, _<_}
 use native.Mathlib.Nat.{not-suc-le-zero}
 use native.Mathlib.Numerals.{add-one}
 use native.Mathlib.Omega.{arith}
 use lib.ListN.{length, getD, replicate}
 use lib.Seq.{sets}
 use Rattle.laws.specs.Sections.{pad}
-use Rattle.language.specs.Programs.{Row, Func, blockAt, rowsAt, rowsOf, firstRow, hasPhi}
+use Rattle.language.specs.Programs.{Row, Func, blockAt, rowsAt, rowsOf, firstRow, hasPhi, maxRows, maxEntries, maxBlocks}
 use Rattle.language.specs.Checking.{predecessors}
 use Rattle.language.specs.Table.{twoBytes, eightBytes, blockCount, blockFirst, rowTarget, phiFirst, phiEntry, blockCells, rowCells, cells, decodeFunction, nameLength}
 use Rattle.language.specs.Table.{blockLength, blocksOffset, functionAt, rowLength, rowsOffset, tableLength}
@@ -43,11 +43,11 @@ pair-parts f y j h = case (hasPhi f y) refl h
 
 -- What is looked at and written for the i-th of p phi, whose rows begin at first, is within its limits.
 pub record Bounds (t : List ℕ) (a j n k p first i : ℕ) : Type 0 where
-  pub row : first + i < 1024
-  pub entry : phiFirst t a (first + i) + j < 1024
+  pub row : first + i < maxRows
+  pub entry : phiFirst t a (first + i) + j < maxEntries
   pub new : n + i < 256
-  pub into : k + i < 1024
-  pub onto : k + p + i < 1024
+  pub into : k + i < maxRows
+  pub onto : k + p + i < maxRows
 
 module _ (t : List ℕ) (a : ℕ) (h : TranslatableAt t a) (m : List ℕ) (p : Prepared (decodeFunction t a) m) where
   abbrev f : Func
@@ -93,7 +93,7 @@ module _ (t : List ℕ) (a : ℕ) (h : TranslatableAt t a) (m : List ℕ) (p : P
     pub edge-within : (i : ℕ) → i < 2 * phisIn m y + 1 → k + i < length (rowsOf g)
     edge-within i l = rw (s .place) (row-below g b i (rw edge-count l))
 
-    pub edge-short : (i : ℕ) → i < 2 * phisIn m y + 1 → k + i < 1024
+    pub edge-short : (i : ℕ) → i < 2 * phisIn m y + 1 → k + i < maxRows
     edge-short i l = omega (arith, edge-within i l, target-fits t a h .rowCount)
 
     -- ---- its rows
@@ -102,10 +102,10 @@ module _ (t : List ℕ) (a : ℕ) (h : TranslatableAt t a) (m : List ℕ) (p : P
       among : i < length (phisAt f y)
       among = omega (arith, phis)
 
-      pub phi-short : blockFirst t a y + i < 1024
+      pub phi-short : blockFirst t a y + i < maxRows
       phi-short = omega (arith, phi-within t a (h .sized) (h .clean) y i (s .block) among, h .sized .rows)
 
-      pub entry-short : phiFirst t a (blockFirst t a y + i) + j < 1024
+      pub entry-short : phiFirst t a (blockFirst t a y + i) + j < maxEntries
       entry-short = entry-within t a (h .sized) (h .clean) y i (s .block) among j (parts .1)
 
       pub new-short : n + i < 256
@@ -167,13 +167,13 @@ module _ (t : List ℕ) (a : ℕ) (h : TranslatableAt t a) (m : List ℕ) (p : P
 
     -- the same by the numbers of the code
     module _ (d q : ℕ) (eb : d ≡ b) (eq : q ≡ phisIn m y) where
-      pub edge-few : d < 64
+      pub edge-few : d < maxBlocks
       edge-few = omega (arith, edge-known, target-fits t a h .blockCount)
 
       pub edge-long : (out : List ℕ) → out ≡ built t a d k → length out ≡ tableLength
       edge-long out o = edge-length out (o ∙ ap (λ v. built t a v k) eb)
 
-      pub edge-last : k + 2 * q < 1024
+      pub edge-last : k + 2 * q < maxRows
       edge-last = rw eq (edge-short (2 * phisIn m y) (omega arith))
 
       pub placed : (out next : List ℕ) → out ≡ built t a d k → next ≡ sets out (functionAt 0 + blocksOffset + blockLength * d) (twoBytes k ++ twoBytes (2 * q + 1)) → next ≡ built t a (b + 1) k

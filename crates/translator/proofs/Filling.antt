@@ -13,7 +13,7 @@ use Rattle.laws.proofs.Appending.{gatherFrom-append}
 use Rattle.laws.proofs.Sections.{length-pad, length-gatherFrom, gather-is-from}
 use Rattle.laws.proofs.Storing.{Stored, pad-is, pad-zeros, pad-stored, stored-left, stored-right, stored-pad}
 use Rattle.language.specs.Answers.{zeros}
-use Rattle.language.specs.Programs.{Row, Block, Func, noRegister, noBlock, blockAt, entriesOf, rowsOf, firstRow}
+use Rattle.language.specs.Programs.{Row, Block, Func, noRegister, noBlock, blockAt, entriesOf, rowsOf, firstRow, maxEntries}
 use Rattle.language.specs.Table.{headCells, registerCells, blockCells, rowCells, entrySection, functionCells, registerSection, blockSection, rowSection, cells}
 use Rattle.language.specs.Table.{blockLength, blocksLength, blocksOffset, functionAt, functionLength, functionsLength, registersLength, rowLength, rowsLength, rowsOffset, tableLength}
 use Rattle.language.specs.Table.{registerLength, registersOffset}
@@ -57,7 +57,7 @@ record Lengths (h r b w e : List ℕ) : Type 0 where
   pub registers : length r ≡ registersLength
   pub blocks : length b ≡ blocksLength
   pub rows : length w ≡ rowsLength
-  pub entries : length e ≡ 1024
+  pub entries : length e ≡ maxEntries
 
 module _ {h r b w e : List ℕ} (l : Lengths h r b w e) where
   length-table : length (tableOf h r b w e) ≡ tableLength
@@ -187,7 +187,7 @@ module _ (g : Func) (fits : FunctionFits g) (none : gather entriesOf (rowsOf g) 
   filled-head =
       let short : length (headCells g) ≤ functionsLength = omega (arith, length-head g fits) in
       rw none
-      (ap (λ (r : List ℕ). 1 ∷ r) (no-sections functionsLength (headCells g) registersLength blocksLength rowsLength 1024 (omega (arith, length-head g fits)))
+      (ap (λ (r : List ℕ). 1 ∷ r) (no-sections functionsLength (headCells g) registersLength blocksLength rowsLength maxEntries (omega (arith, length-head g fits)))
       ∙ sym (pad-cons functionsLength 1 (headCells g) short))
 
   -- the head goes to a table that is all zero

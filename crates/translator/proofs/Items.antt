@@ -16,7 +16,7 @@ use Rattle.laws.proofs.Indexing.{getD-map, length-together-from}
 use Rattle.laws.proofs.Ranges.{length-map-from, getD-map-from}
 use Rattle.laws.proofs.Sums.{sum-below-le}
 use Rattle.language.specs.Instructions.{Form, formOf}
-use Rattle.language.specs.Programs.{Row, Block, Func, noRegister, noBlock, blockAt, rowsAt, typeAt, rowsOf, isPhi, entriesOf}
+use Rattle.language.specs.Programs.{Row, Block, Func, noRegister, noBlock, blockAt, rowsAt, typeAt, rowsOf, isPhi, entriesOf, maxEntries}
 use Rattle.language.specs.Checking.{predecessors}
 use Rattle.language.specs.Running.{phisOf, phiTarget, entryAt}
 use Rattle.language.specs.Table.{registerCount, registerType, blockCount, blockFirst, blockRows, blockName, rowCount, rowOp, rowTarget, phiFirst, phiCount, phiEntry, rowEntries}
@@ -132,7 +132,7 @@ module _ (t : List ℕ) (a : ℕ) (s : Sized t a) where
         pub entry-is : entryAt j (phiOf f y i) ≡ phiEntry t a (phiFirst t a r + j)
         entry-is = ap (entryAt j) phi-parts ∙ getD-map-from (phiEntry t a) 0 (phiFirst t a r) (phiCount t a r) j (rw entries-count m)
 
-        pub entry-within : phiFirst t a r + j < 1024
+        pub entry-within : phiFirst t a r + j < maxEntries
         entry-within =
             let own : rowEntries t a r ≡ phiCount t a r = ap (λ n. cond (eqb n 31) (phiCount t a r) 0) (op-of-phi t a r phi-here) in
             omega (arith, own, entries-count, phi-first-is t a (s .placed) r phi-within (op-of-phi t a r phi-here), sum-below-le (rowEntries t a) r (rowCount t a) phi-within, s .entries)

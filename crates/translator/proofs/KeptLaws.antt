@@ -13,7 +13,7 @@ use Rattle.laws.specs.Lists.{sum}
 use Rattle.laws.proofs.Cells.{sets-then}
 use Rattle.laws.proofs.Every.{every-at}
 use Rattle.language.specs.Instructions.{Form, formOf}
-use Rattle.language.specs.Programs.{Row, Func, blockAt, rowsAt, rowsOf, firstRow, isPhi, entriesOf}
+use Rattle.language.specs.Programs.{Row, Func, blockAt, rowsAt, rowsOf, firstRow, isPhi, entriesOf, maxRows, maxBlocks}
 use Rattle.language.specs.Table.{twoBytes, blockCount, blockRows, blockFirst, blockName, rowOp, rowCount, rowCells, blockCells, decodeAs, decodeRow, decodeFunction}
 use Rattle.language.specs.Table.{blockLength, blockNamesOffset, blocksOffset, functionAt, rowLength, rowsOffset, tableLength}
 use Rattle.instructions.specs.Shapes.{shapeOf}
@@ -89,7 +89,7 @@ module _ (t : List ℕ) (a : ℕ) (h : TranslatableAt t a) where
 
   -- ---- kept blocks
 
-  few-blocks : blockCount t a ≤ 64
+  few-blocks : blockCount t a ≤ maxBlocks
   few-blocks = h .sized .blocks
 
   pub block-within : (x : ℕ) → x < blockCount t a → x < length (g .blocks)
@@ -147,13 +147,13 @@ module _ (t : List ℕ) (a : ℕ) (h : TranslatableAt t a) where
       there : r + i ≡ blockFirst t a x + (length (phisAt f x) + i)
       there = omega (arith, s .first, phis-here t a m p (h .clean) x (s .block))
 
-      pub keeps-row : r + i < 1024
+      pub keeps-row : r + i < maxRows
       keeps-row = omega (arith, there, row-within t a (h .sized) x (length (phisAt f x) + i) (s .block) (in-block x i (s .block) here), h .sized .rows)
 
       within : k + i < length (rowsOf g)
       within = rw (s .place) (row-below g x i here)
 
-      pub keeps-place : k + i < 1024
+      pub keeps-place : k + i < maxRows
       keeps-place = omega (arith, within, target-fits t a h .rowCount)
 
       pub keeps-naming : Naming t a (r + i) (shapeOf (rowOp t a (r + i)) .operand)
@@ -180,7 +180,7 @@ module _ (t : List ℕ) (a : ℕ) (h : TranslatableAt t a) where
       pub kept-next : k + n ≡ firstRow g (x + 1)
       kept-next = rw (add-one x) (omega (arith, first-next g x (block-within x l), kept-count))
 
-      pub kept-most : k + n ≤ 1024
+      pub kept-most : k + n ≤ maxRows
       kept-most = omega (arith, kept-count, first-within g x (block-within x l), target-fits t a h .rowCount)
 
       pub keeps-block : (out first next name : List ℕ) → out ≡ built t a x k → first ≡ sets out (functionAt 0 + blocksOffset + blockLength * x) (twoBytes k ++ twoBytes n) → name ≡ blockName t a x

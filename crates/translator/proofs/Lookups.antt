@@ -12,9 +12,11 @@ use borrow.Author.Tests.{ne-eqb}
 use Rattle.laws.proofs.Branches.{by-eq, by-ne}
 use Rattle.language.specs.Table.{eightBytes, rowOp, rowTarget, rowLeft, rowRight, loadNumber, jumpFirst, jumpSecond}
 use Rattle.flow.specs.Layout.{incomingIn, phisIn, rankIn}
-use Rattle.instructions.specs.Shapes.{shapeOf}
+use Rattle.instructions.specs.Shapes.{shapeOf, operandNumber}
 use Rattle.instructions.specs.declared.Shape.{Shape}
-use Rattle.translator.specs.Source.{pairsIn, renamedAs, operandAs, keptCells}
+use Rattle.translator.specs.Source.{pairsIn, renamedAs, keptOperand, keptCells}
+use Rattle.language.specs.Programs.{maxBlocks}
+use Rattle.language.specs.Instructions.{Operand}
 
 module _ (m : List ℕ) (b n : ℕ) (e : n ≡ phisIn m b) where
   pub pairs-none : n ≡ 0 → (0 ≡ pairsIn m b) × (0 < 65536)
@@ -24,7 +26,7 @@ module _ (m : List ℕ) (b n : ℕ) (e : n ≡ phisIn m b) where
   pairs-some z {r} p l = (by-ne r 0 (incomingIn m b) (phisIn m b) 0 (λ q. z (e ∙ q)) p, l)
 
 module _ (m plan : List ℕ) (x k y n : ℕ) (e : n ≡ phisIn m y) where
-  pub renamed-not : n ≡ 0 → y < 64 → (y ≡ renamedAs m plan x k y) × (y < 131072)
+  pub renamed-not : n ≡ 0 → y < maxBlocks → (y ≡ renamedAs m plan x k y) × (y < 131072)
   unfolding renamedAs
   renamed-not z l = (by-eq y y (getD plan y 0 + rankIn m x k) (phisIn m y) 0 (sym e ∙ z) refl, omega arith)
 
@@ -37,28 +39,28 @@ module _ (m plan : List ℕ) (x k y n : ℕ) (e : n ≡ phisIn m y) where
 -- ---- an operand by its kind
 
 module _ (t : List ℕ) (a : ℕ) (m plan : List ℕ) (x r kind : ℕ) where
-  pub of-load : kind ≡ 1 → {n : ℕ} → n ≡ loadNumber t a r → n ≡ operandAs t a m plan x r kind
-  unfolding operandAs
+  pub of-load : kind ≡ 1 → {n : ℕ} → n ≡ loadNumber t a r → n ≡ keptOperand t a m plan x r kind
+  unfolding keptOperand
   of-load z e = rw z e
 
-  pub of-block : kind ≡ 3 → {y n : ℕ} → y ≡ jumpFirst t a r → n ≡ renamedAs m plan x 0 y → n ≡ operandAs t a m plan x r kind
-  unfolding operandAs
+  pub of-block : kind ≡ 3 → {y n : ℕ} → y ≡ jumpFirst t a r → n ≡ renamedAs m plan x 0 y → n ≡ keptOperand t a m plan x r kind
+  unfolding keptOperand
   of-block z d e = rw (z, ← d) e
 
   pub of-blocks : kind ≡ 4 → {y u w v : ℕ} → y ≡ jumpFirst t a r → u ≡ renamedAs m plan x 0 y → w ≡ jumpSecond t a r → v ≡ renamedAs m plan x 1 w
-      → u + 256 * v ≡ operandAs t a m plan x r kind
-  unfolding operandAs
+      → u + 256 * v ≡ keptOperand t a m plan x r kind
+  unfolding keptOperand
   of-blocks z d e d′ e′ = rw (z, ← d, ← d′, ← e, ← e′)
 
-  pub of-none : (kind ≡ 1 → ⊥) → (kind ≡ 3 → ⊥) → (kind ≡ 4 → ⊥) → 0 ≡ operandAs t a m plan x r kind
-  unfolding operandAs
-  of-none a b c = rw (ne-eqb kind 1 a, ne-eqb kind 3 b, ne-eqb kind 4 c)
+  pub of-none : (kind ≡ 1 → ⊥) → (kind ≡ 3 → ⊥) → (kind ≡ 4 → ⊥) → 0 ≡ keptOperand t a m plan x r kind
+  unfolding keptOperand
+  of-none a b c = rw (ne-eqb kind (operandNumber Operand.number) a, ne-eqb kind (operandNumber Operand.block) b, ne-eqb kind (operandNumber Operand.blocks) c)
 
 -- the cells of a kept row, from what the calls gave
 module _ (t : List ℕ) (a : ℕ) (m plan : List ℕ) (x r : ℕ) where
   pub row-kept : {op target left right last u v w : ℕ} {s : Shape} (out next : List ℕ) (k : ℕ) → op ≡ rowOp t a r → s ≡ shapeOf op
       → u ≡ rowTarget t a r → target ≡ cond (s .target) u 0 → v ≡ rowLeft t a r → left ≡ cond (ltb 0 (s .sources)) v 0
-      → w ≡ rowRight t a r → right ≡ cond (ltb 1 (s .sources)) w 0 → last ≡ operandAs t a m plan x r (s .operand)
+      → w ≡ rowRight t a r → right ≡ cond (ltb 1 (s .sources)) w 0 → last ≡ keptOperand t a m plan x r (s .operand)
       → next ≡ sets out k (op ∷ target ∷ left ∷ right ∷ eightBytes last) → next ≡ sets out k (keptCells t a m plan x r)
   unfolding keptCells
   row-kept out next k eo es eu et ev el ew er e n =

@@ -12,7 +12,7 @@ use Rattle.laws.specs.Lists.{position}
 use Rattle.laws.specs.Sections.{pad}
 use Rattle.laws.proofs.Indexing.{any-at, all-at}
 use Rattle.language.specs.Instructions.{Form, formOf}
-use Rattle.language.specs.Programs.{Row, Func, rowsAt, isPhi, isTerminator, namedBy, opOf}
+use Rattle.language.specs.Programs.{Row, Func, rowsAt, isPhi, isTerminator, namedBy, opOf, maxBlocks}
 use Rattle.language.specs.Checking.{goesTo, predecessors}
 use Rattle.language.specs.Table.{eightBytes, rowCells, rowOp, jumpFirst, jumpSecond, decodeAs}
 use Rattle.language.specs.Translating.{edgeOf, retargeted, retarget, translation}
@@ -23,7 +23,7 @@ use Rattle.theorems.proofs.AcceptanceNumbers.{retargeted-lt}
 use Rattle.flow.specs.Layout.{phisIn, rankIn}
 use Rattle.flow.specs.Predecessors.{rankOf, targetsFrom}
 use Rattle.flow.specs.Prepared.{Prepared}
-use Rattle.translator.specs.Source.{Planned, renamedAs, operandAs, keptCells}
+use Rattle.translator.specs.Source.{Planned, renamedAs, keptOperand, keptCells}
 use Rattle.translator.proofs.Counting.{leading-phis, by-count, rank-is}
 
 -- ---- a small number in eight cells
@@ -48,7 +48,7 @@ eight-of-one u h =
 -- The k-th block that block x names, y, goes by the plan to the block that the definition names.
 module _ (f : Func) (m plan : List ℕ) where
   pub record Renamed (x k y : ℕ) : Type 0 where
-    pub below : y < 64
+    pub below : y < maxBlocks
     pub is : renamedAs m plan x k y ≡ retargeted f x y
     pub byte : retargeted f x y < 256
 
@@ -84,7 +84,7 @@ module _ (f : Func) (c : Clean f) (m plan : List ℕ) (p : Prepared f m) (q : Pl
     renamed-lt : retargeted f x y < 256
     renamed-lt = omega (arith, retargeted-lt f x y lx ly goes)
 
-  module _ (x j : ℕ) (lx : x < length (f .blocks)) (h : j < length (rowsAt f x)) (few : length (f .blocks) ≤ 64) where
+  module _ (x j : ℕ) (lx : x < length (f .blocks)) (h : j < length (rowsAt f x)) (few : length (f .blocks) ≤ maxBlocks) where
     -- only a terminator names blocks, and it is the last row
     renamed-at : (row : Row) → rowOf f x j ≡ row → isTerminator row ≡ true → (k : ℕ) → k < length (namedBy row) → Renamed f m plan x k (getD (namedBy row) k 0)
     renamed-at row e t k l =
@@ -112,7 +112,7 @@ module _ (f : Func) (c : Clean f) (m plan : List ℕ) (p : Prepared f m) (q : Pl
 module _ (f : Func) (m plan t : List ℕ) (a x r : ℕ) where
   pub cells-as : (g : Form) → formOf (rowOp t a r) ≡ g → opOf (decodeAs g t a r) ≡ rowOp t a r → isPhi (decodeAs g t a r) ≡ false → Renames f m plan x (decodeAs g t a r)
       → rowCells 0 (retarget f x (decodeAs g t a r)) ≡ keptCells t a m plan x r
-  unfolding pad rowCells retarget decodeAs keptCells operandAs shapeOf
+  unfolding pad rowCells retarget decodeAs keptCells keptOperand shapeOf
   cells-as Form.nop e o n k = rw (e, ← o)
   cells-as Form.load e o n k = rw e
   cells-as Form.unary e o n k = rw e

@@ -12,7 +12,7 @@ use lib.ListN.{length, getD, set, length-set}
 use lib.Seq.{getD-set-same, getD-set-other}
 use borrow.Author.Count.{below-more}
 use borrow.Author.Tests.{le-leb, lt-leb}
-use Rattle.language.specs.Programs.{Func, rowsAt, rowsOf, firstRow, hasPhi}
+use Rattle.language.specs.Programs.{Func, rowsAt, rowsOf, firstRow, hasPhi, maxRows, maxBlocks, maxRegisters}
 use Rattle.language.specs.Table.{registerCount, blockCount, blockRows, decodeFunction}
 use Rattle.language.specs.Translating.{phisBefore, pairsBefore, phiTotal, pairCount, sizeOfEdges, translatedRegisters, translatedBlocks, translatedRows, translationFits}
 use Rattle.theorems.specs.Clean.{Clean}
@@ -117,21 +117,21 @@ module _ (t : List ℕ) (a n new edges rows b : ℕ) (z : n ≡ blockCount t a) 
 module _ (f : Func) (s : Sizes) (e : s ≡ sizesOf f) where
   pub over-registers : 256 < s .registers → false ≡ translationFits f
   unfolding translationFits sizesOf
-  over-registers h = let k : 256 < translatedRegisters f = rw e at h in rw (lt-leb (translatedRegisters f) 256 k)
+  over-registers h = let k : 256 < translatedRegisters f = rw e at h in rw (lt-leb (translatedRegisters f) maxRegisters k)
 
-  pub over-blocks : s .registers ≤ 256 → 64 < s .blocks → false ≡ translationFits f
+  pub over-blocks : s .registers ≤ maxRegisters → maxBlocks < s .blocks → false ≡ translationFits f
   unfolding translationFits sizesOf
   over-blocks g h =
       let j : translatedRegisters f ≤ 256 = rw e at g in
       let k : 64 < translatedBlocks f = rw e at h in
-      rw (le-leb (translatedRegisters f) 256 j, lt-leb (translatedBlocks f) 64 k)
+      rw (le-leb (translatedRegisters f) maxRegisters j, lt-leb (translatedBlocks f) maxBlocks k)
 
-  pub by-rows : s .registers ≤ 256 → s .blocks ≤ 64 → leb (s .rows) 1024 ≡ translationFits f
+  pub by-rows : s .registers ≤ maxRegisters → s .blocks ≤ maxBlocks → leb (s .rows) maxRows ≡ translationFits f
   unfolding translationFits sizesOf
   by-rows g h =
       let j : translatedRegisters f ≤ 256 = rw e at g in
       let k : translatedBlocks f ≤ 64 = rw e at h in
-      rw (le-leb (translatedRegisters f) 256 j, le-leb (translatedBlocks f) 64 k) (ap (λ x. leb (x .rows) 1024) e)
+      rw (le-leb (translatedRegisters f) maxRegisters j, le-leb (translatedBlocks f) maxBlocks k) (ap (λ x. leb (x .rows) maxRows) e)
 
   pub registers-are : s .registers ≡ translatedRegisters f
   unfolding sizesOf
@@ -149,16 +149,16 @@ module _ (f : Func) (s : Sizes) (e : s ≡ sizesOf f) where
 
 -- The first y blocks are planned, and next is the number of the next edge block.
 pub record Planning (f : Func) (plan : List ℕ) (next y : ℕ) : Type 0 where
-  pub count : length plan ≡ 64
+  pub count : length plan ≡ maxBlocks
   pub within : y ≤ length (f .blocks)
   pub edge : next ≡ length (f .blocks) + pairsBefore f y
   pub first : (x : ℕ) → x < y → getD plan x 0 ≡ length (f .blocks) + pairsBefore f x
 
-pub planning-none : (f : Func) (plan : List ℕ) (n : ℕ) → length plan ≡ 64 → n ≡ length (f .blocks) → Planning f plan n 0
+pub planning-none : (f : Func) (plan : List ℕ) (n : ℕ) → length plan ≡ maxBlocks → n ≡ length (f .blocks) → Planning f plan n 0
 unfolding pairsBefore
 planning-none f plan n l e = record { count = l; within = omega arith; edge = omega arith; first = λ x h. absurd (omega arith) }
 
-pub planning-next : (f : Func) (plan : List ℕ) (next y e : ℕ) → Planning f plan next y → y < length (f .blocks) → length (f .blocks) ≤ 64 → e ≡ pairsAt f y
+pub planning-next : (f : Func) (plan : List ℕ) (next y e : ℕ) → Planning f plan next y → y < length (f .blocks) → length (f .blocks) ≤ maxBlocks → e ≡ pairsAt f y
     → Planning f (set plan y next) (next + e) (y + 1)
 planning-next f plan next y e h l few z =
     let here : getD (set plan y next) y 0 ≡ length (f .blocks) + pairsBefore f y = getD-set-same plan y next 0 (omega (arith, h .count)) ∙ h .edge in

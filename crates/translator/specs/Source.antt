@@ -6,15 +6,16 @@ use mathlib.Core.List.{List, _∷_, _++_}
 use Prim.Native.Nat.{ℕ, _+_, _*_, _≤_, _<_}
 use lib.Dec.{T, eqb, ltb}
 use lib.ListN.{length, getD}
-use Rattle.language.specs.Programs.{Func, isSsa, firstRow}
+use Rattle.language.specs.Programs.{Func, isSsa, firstRow, maxBlocks}
 use Rattle.language.specs.Table.{rowOp, rowTarget, rowLeft, rowRight, loadNumber, jumpFirst, jumpSecond, twoBytes, eightBytes}
 use Rattle.language.specs.Table.{functionResult, functionParams, functionEntry, functionName, blockCount, blockFirst, blockRows, decodeFunction}
 use Rattle.language.specs.Translating.{pairsBefore, newRegister, translation, translationFits}
-use Rattle.instructions.specs.Shapes.{shapeOf}
+use Rattle.instructions.specs.Shapes.{shapeOf, operandNumber}
 use Rattle.theorems.specs.Clean.{Clean}
 use Rattle.flow.specs.Layout.{incomingIn, phisIn, rankIn}
 use Rattle.flow.specs.Sized.{Sized}
 use Rattle.translator.specs.Filling.{filled}
+use Rattle.language.specs.Instructions.{Operand}
 
 -- The function at cell a of t is accepted as ssa, and its translation is within the sizes.
 pub record TranslatableAt (t : List ℕ) (a : ℕ) : Type 0 where
@@ -35,7 +36,7 @@ pairsIn m b = cond (eqb (phisIn m b) 0) 0 (incomingIn m b)
 -- ---- the plan: the number of each block's first edge block, were it to have phi
 
 pub record Planned (f : Func) (plan : List ℕ) : Type 0 where
-  pub count : length plan ≡ 64
+  pub count : length plan ≡ maxBlocks
   pub first : (y : ℕ) → y < length (f .blocks) → getD plan y 0 ≡ length (f .blocks) + pairsBefore f y
 
 -- The block that block x names in place of y, its k-th target.
@@ -53,16 +54,16 @@ headOf t a registers blocks =
     ∷ (twoBytes (functionParams t a) ++ (twoBytes registers ++ (blocks ∷ functionEntry t a ∷ length (functionName t a) ∷ functionName t a)))
 
 -- The operand of row r of block x by its kind, 0 where a kept row has none: a load's number, the one block of a jump, the two of a jump.cond.
-unfoldable pub operandAs : (t : List ℕ) (a : ℕ) (m plan : List ℕ) → (x r kind : ℕ) → ℕ
-operandAs t a m plan x r kind =
-    cond (eqb kind 1) (loadNumber t a r)
-    (cond (eqb kind 3) (renamedAs m plan x 0 (jumpFirst t a r))
-    (cond (eqb kind 4) (renamedAs m plan x 0 (jumpFirst t a r) + 256 * renamedAs m plan x 1 (jumpSecond t a r)) 0))
+unfoldable pub keptOperand : (t : List ℕ) (a : ℕ) (m plan : List ℕ) → (x r kind : ℕ) → ℕ
+keptOperand t a m plan x r kind =
+    cond (eqb kind (operandNumber Operand.number)) (loadNumber t a r)
+    (cond (eqb kind (operandNumber Operand.block)) (renamedAs m plan x 0 (jumpFirst t a r))
+    (cond (eqb kind (operandNumber Operand.blocks)) (renamedAs m plan x 0 (jumpFirst t a r) + 256 * renamedAs m plan x 1 (jumpSecond t a r)) 0))
 
 -- The blocks that row r names by the kind of its operand are within the limit.
 pub record Naming (t : List ℕ) (a r kind : ℕ) : Type 0 where
-  pub first : 3 ≤ kind → jumpFirst t a r < 64
-  pub second : 4 ≤ kind → jumpSecond t a r < 64
+  pub first : operandNumber Operand.block ≤ kind → jumpFirst t a r < maxBlocks
+  pub second : operandNumber Operand.blocks ≤ kind → jumpSecond t a r < maxBlocks
 
 -- Row r of block x as it is kept: the cells that its form needs, every other 0.
 unfoldable pub keptCells : (t : List ℕ) (a : ℕ) (m plan : List ℕ) → (x r : ℕ) → List ℕ
@@ -72,7 +73,7 @@ keptCells t a m plan x r =
     ∷ cond (s .target) (rowTarget t a r) 0
     ∷ cond (ltb 0 (s .sources)) (rowLeft t a r) 0
     ∷ cond (ltb 1 (s .sources)) (rowRight t a r) 0
-    ∷ eightBytes (operandAs t a m plan x r (s .operand))
+    ∷ eightBytes (keptOperand t a m plan x r (s .operand))
 
 -- ---- how far the translation has been put down: i registers; or all registers, j blocks and k rows
 

@@ -1,20 +1,21 @@
 // The blocks that are kept: their rows but the phi, with the blocks that a terminator names renamed.
 ghost use mathlib.Core.Path.{_≡_};
-ghost use mathlib.Core.Bool.{cond};
 ghost use mathlib.Core.List.{_++_};
-ghost use Prim.Native.Nat.{_+_, _*_, _≤_, _<_};
+ghost use Prim.Native.Nat.{_+_, _*_, _<_};
 ghost use lib.ListN.{length};
 ghost use lib.Seq.{sets};
-ghost use Rattle.language.specs.Programs.{firstRow};
+ghost use Rattle.language.specs.Programs.{firstRow, maxRows, maxBlocks};
 ghost use Rattle.language.specs.Table.{twoBytes, blockCount, rowOp, decodeFunction, InTable, blockLength, blocksOffset, functionAt, rowLength, rowsOffset, tableLength};
 ghost use Rattle.instructions.specs.Shapes.{shapeOf};
 ghost use Rattle.flow.specs.Layout.{flowLength};
 ghost use Rattle.flow.specs.Prepared.{Prepared};
-ghost use Rattle.translator.specs.Source.{TranslatableAt, Planned, translated, built, Naming, operandAs, keptCells, KeptRows};
+ghost use Rattle.translator.specs.Source.{TranslatableAt, Planned, translated, built, Naming, keptOperand, keptCells, KeptRows};
 use crate::prepared::renamed;
 use flow::phis;
 use instructions::operands;
 use instructions::shape_of;
+use numbers::if_so;
+use numbers::put_two;
 use table::BLOCK_LENGTH;
 use table::BLOCK_NAMES_OFFSET;
 use table::BLOCK_ROWS_OFFSET;
@@ -29,7 +30,6 @@ use table::jump_second;
 use table::load_number;
 use table::put_name;
 use table::put_row;
-use table::put_two;
 use table::row_left;
 use table::row_op;
 use table::row_right;
@@ -42,21 +42,11 @@ const HEIGHTS: usize = FIRST_FUNCTION + BLOCK_ROWS_OFFSET;
 
 const NAMES: usize = FIRST_FUNCTION + BLOCK_NAMES_OFFSET;
 
-// n where the test holds, else 0.
-fn if_so(test: bool, n: usize) -> usize
-    ensures { λ r. ⌜ (r ≡ cond test n 0) × (r ≤ n) ⌝ }
-{
-    if test {
-        return n;
-    }
-    0
-}
-
 // The operand of row r of block x, by its kind: a load's number, or the blocks that are named, renamed.
 fn operand(t: &[u8], a: usize, m: &[u16], plan: &[u16], x: usize, r: usize, kind: u8) -> u64
-    requires { ⌜ (InTable (now t) a) × (length (now m) ≡ flowLength) × (length (now plan) ≡ 64) × (x < 64) × (r < 1024) ⌝ }
+    requires { ⌜ (InTable (now t) a) × (length (now m) ≡ flowLength) × (length (now plan) ≡ maxBlocks) × (x < maxBlocks) × (r < maxRows) ⌝ }
     requires { ⌜ Naming (now t) a r kind ⌝ }
-    ensures { λ n. ⌜ n ≡ operandAs (now (t .entry)) a (now (m .entry)) (now (plan .entry)) x r kind ⌝ }
+    ensures { λ n. ⌜ n ≡ keptOperand (now (t .entry)) a (now (m .entry)) (now (plan .entry)) x r kind ⌝ }
 {
     match kind {
         operands::NUMBER => load_number(t, a, r),
@@ -81,9 +71,9 @@ fn keep_row(
     out: &mut [u8],
     k: usize,
 )
-    requires { ⌜ (InTable (now t) a) × (length (now m) ≡ flowLength) × (length (now plan) ≡ 64) × (x < 64) × (r < 1024) ⌝ }
+    requires { ⌜ (InTable (now t) a) × (length (now m) ≡ flowLength) × (length (now plan) ≡ maxBlocks) × (x < maxBlocks) × (r < maxRows) ⌝ }
     requires { ⌜ Naming (now t) a r (shapeOf (rowOp (now t) a r) .operand) ⌝ }
-    requires { ⌜ (length (now out) ≡ tableLength) × (k < 1024) ⌝ }
+    requires { ⌜ (length (now out) ≡ tableLength) × (k < maxRows) ⌝ }
     ensures { λ _. ⌜ now (out .exit) ≡ sets (now (out .entry)) (functionAt 0 + rowsOffset + rowLength * k) (keptCells (now (t .entry)) a (now (m .entry)) (now (plan .entry)) x r) ⌝ }
 {
     let op = row_op(t, a, r);
@@ -124,7 +114,7 @@ fn keep_rows(
 
 // Where the rows of block b of the translation begin, and how many there are.
 pub fn put_place(out: &mut [u8], b: usize, first: usize, rows: usize)
-    requires { ⌜ (length (now out) ≡ tableLength) × (b < 64) ⌝ }
+    requires { ⌜ (length (now out) ≡ tableLength) × (b < maxBlocks) ⌝ }
     ensures { λ _. ⌜ now (out .exit) ≡ sets (now (out .entry)) (functionAt 0 + blocksOffset + blockLength * b) (twoBytes first ++ twoBytes rows) ⌝ }
 {
     put_two(out, PLACES + BLOCK_LENGTH * b, first);

@@ -8,6 +8,7 @@ ghost use Rattle.flow.specs.Sized.{Sized};
 ghost use Rattle.flow.specs.Prepared.{Prepared};
 ghost use Rattle.translator.specs.Sizes.{sizesOf};
 ghost use Rattle.translator.specs.Source.{TranslatableAt, Planned};
+ghost use Rattle.language.specs.Programs.{maxBlocks};
 use crate::prepared::pairs;
 use flow::phis;
 use table::MAX_BLOCKS;
@@ -72,7 +73,7 @@ pub fn fits(t: &[u8], a: usize, m: &[u16]) -> bool
 pub fn plan_edges(t: &[u8], a: usize, m: &[u16], plan: &mut [u16])
     requires { ⌜ TranslatableAt (now t) a ⌝ }
     requires { ⌜ Prepared (decodeFunction (now t) a) (now m) ⌝ }
-    requires { ⌜ length (now plan) ≡ 64 ⌝ }
+    requires { ⌜ length (now plan) ≡ maxBlocks ⌝ }
     ensures { λ _. ⌜ Planned (decodeFunction (now (t .entry)) a) (now (plan .exit)) ⌝ }
 {
     let n = block_count(t, a);

@@ -15,8 +15,9 @@ use Rattle.checker.proofs.Parts.{Right, right-parts, sized-right, prepa
 use Rattle.checker.proofs.SoundLaws.{is-sound, not-sound}
 use Rattle.checker.proofs.check_function.Statement.{statement}
 use Rattle.checker.proofs.check_function.Tie as tie
+use Rattle.language.specs.Programs.{maxRows}
 
-module _ (t : List ℕ) (i : ℕ) {rows : ℕ} (e : rows ≡ soundRows t i (functionAt i)) (h : rows ≤ 1024) where
+module _ (t : List ℕ) (i : ℕ) {rows : ℕ} (e : rows ≡ soundRows t i (functionAt i)) (h : rows ≤ maxRows) where
   sounds : (soundAt t i (functionAt i) ≡ true) × (rows ≡ rowCount t (functionAt i))
   sounds = let s = is-sound t i (functionAt i) (omega arith) in (s .0, e ∙ s .1)
 

@@ -5,12 +5,12 @@ use lib.Dec.{eqb}
 use borrow.Author.Needs.{needs}
 use Rattle.language.specs.Grammar.{Move as Moveᴸ, Act as Actᴸ, Stage as Stageᴸ, to, gram}
 use Rattle.lexer.specs.declared.Token.{Token}
-use Rattle.grammar.specs.Meaning.{Spot, tokenOf, moveOf, isMark}
+use Rattle.grammar.specs.Meaning.{TokenSpot, tokenOf, moveOf, isMark}
 use Rattle.grammar.proofs.Taken.{is-move, by-is-mark, by-is-no-mark}
 use Rattle.grammar.proofs.next_instruction.Statement.{statement}
 use Rattle.grammar.proofs.next_instruction.Tie as tie
 
-module _ (s : Spot) (x : Moveᴸ) (t : Token) (r : Bool) where
+module _ (s : TokenSpot) (x : Moveᴸ) (t : Token) (r : Bool) where
   ends : (b : Bool) → r ≡ cond b (isMark 125 t) false → r ≡ true → x ≡ to Stageᴸ.blocks Actᴸ.endBlock
       → x ≡ gram (cond b Stageᴸ.nextInstruction Stageᴸ.firstInstruction) (tokenOf s t)
   unfolding gram

@@ -9,9 +9,10 @@ use Rattle.language.proofs.TableLaws.{zeros-made}
 use Rattle.joining.proofs.Ends.{kept-not, kept-all}
 use Rattle.joining.proofs.join.Statement.{statement}
 use Rattle.joining.proofs.join.Tie as tie
+use Rattle.records.specs.Stores.{storeLength}
 
 join-into-requires : tie.Need-join-into-requires
-join-into-requires c κs = let start = c .before .before .before .before in (start .pre .0, start .pre .1, zeros-made 40968)
+join-into-requires c κs = let start = c .before .before .before .before in (start .pre .0, start .pre .1, zeros-made storeLength)
 
 returns : tie.Need-returns
 returns c =
@@ -23,7 +24,7 @@ returns-2 c =
     let at = c .before .before .before .before .before .before .before in
     let start = at .before .before .before .before .before in
     let s = start .args .s .now in
-    let whole = at .join-into .kept .1 .1 .0 ∙ length-replicate {A = ℕ} 40968 0 ∙ sym (start .pre .0) in
+    let whole = at .join-into .kept .1 .1 .0 ∙ length-replicate {A = ℕ} storeLength 0 ∙ sym (start .pre .0) in
     kept-all s (start .args .u .now) (at .join-into .ensures) (not-false _ (c .before .before .before .before .before .if1 .left)) (c .before .before .put-bytes .ensures ∙ sets-all s _ whole)
 
 pub join-spec : {M : Type 1} → statement M

@@ -5,12 +5,13 @@ use Rattle.joining.specs.Joints.{Joining}
 use Rattle.joining.proofs.Steps.{joining-none, joining-length, joining-kept, joining-more, stepped-counts}
 use Rattle.joining.proofs.walk.Statement.{statement}
 use Rattle.joining.proofs.walk.Tie as tie
+use Rattle.records.specs.Stores.{capacity}
 
 abbrev Inv-loop : tie.InvT-loop
 Inv-loop s u n k out₀ i₀ j₀ w₀ out i j w = Joining s u n k i j w out
 
 abbrev μ-loop : tie.MeasureT-loop
-μ-loop s u n k out₀ i₀ j₀ w₀ out i j w = 1024 - w
+μ-loop s u n k out₀ i₀ j₀ w₀ out i j w = capacity - w
 
 loop-holds : tie.Need-loop-holds Inv-loop μ-loop
 loop-holds c =

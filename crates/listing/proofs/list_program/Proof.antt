@@ -1,4 +1,4 @@
--- The loop's invariant: the lines of the functions passed are written, and each has at most 149 bytes.
+-- The loop's invariant: the lines of the functions passed are written, and each has its room.
 use Prim.Native.Nat.{ℕ, _-_, _*_, _≤_}
 use mathlib.Core.Path.{_≡_, sym, _∙_, subst}
 use mathlib.Core.List.{List}
@@ -13,9 +13,11 @@ use Rattle.decimal.proofs.Writings.{written-then, written-none, written-length}
 use Rattle.listing.proofs.Lines.{linesOf, lines-more, function-fits}
 use Rattle.listing.proofs.list_program.Statement.{statement}
 use Rattle.listing.proofs.list_program.Tie as tie
+use Rattle.language.specs.Programs.{maxFunctions}
+use Rattle.listing.specs.Lines.{lineMost}
 
 abbrev Inv-loop : tie.InvT-loop
-Inv-loop t out₀ n at₀ i₀ out at i = (i ≤ n) × (at ≤ 149 * i) × Written out₀ 0 (linesOf t i) out at
+Inv-loop t out₀ n at₀ i₀ out at i = (i ≤ n) × (at ≤ lineMost * i) × Written out₀ 0 (linesOf t i) out at
 
 abbrev μ-loop : tie.MeasureT-loop
 μ-loop t out₀ n at₀ i₀ out at i = n - i
@@ -24,7 +26,7 @@ loop-holds : tie.Need-loop-holds Inv-loop μ-loop
 unfolding linesOf listingOf
 loop-holds c = (omega arith, omega arith, written-none (c .before .before .before .args .out .now) 0)
 
-few : (t : List ℕ) {n : ℕ} → n ≡ functionCount t → check (decode t) ≡ Verdict.accepted → n ≤ 16
+few : (t : List ℕ) {n : ℕ} → n ≡ functionCount t → check (decode t) ≡ Verdict.accepted → n ≤ maxFunctions
 few t e h = omega (arith, e, function-count t, accepted-fits (decode t) h .functionCount)
 
 function-at-requires : tie.Need-function-at-requires Inv-loop μ-loop

@@ -6,7 +6,7 @@ use lib.ListN.{length-set}
 use Rattle.language.specs.Bytes.{lineFeed}
 use Rattle.decimal.proofs.Writings.{written-then, written-one, written-length}
 use Rattle.language.proofs.TableView.{register-count, block-count}
-use Rattle.listing.specs.Lines.{sizesOf}
+use Rattle.listing.specs.Lines.{sizesWritten}
 use Rattle.listing.proofs.Lines.{number-is}
 use Rattle.listing.proofs.put_sizes.Statement.{statement}
 use Rattle.listing.proofs.put_sizes.Tie as tie
@@ -19,7 +19,7 @@ same-length c =
     (written-length (c .before .before .put-field3 .ensures .0) ∙ written-length (second .put-field2 .ensures .0) ∙ written-length (first .put-field .ensures .0))
 
 returns : tie.Need-returns
-unfolding sizesOf
+unfolding sizesWritten
 returns c =
     let second = c .before .before .before .before .before .before .before in
     let first = second .before .before .before .before .before in

@@ -4,7 +4,7 @@ use native.Mathlib.Omega.{arith}
 use borrow.Author.Needs.{needs}
 use borrow.Author.Tests.{not-true, not-false}
 use Rattle.laws.proofs.OneMore.{range-more}
-use Rattle.stored.specs.Known.{Follows, AllFollow}
+use Rattle.stored.specs.Known.{RecordFollows, AllFollow}
 use Rattle.stored.proofs.LibLaws.{told, told-not}
 use Rattle.stored.proofs.all_follow.Statement.{statement}
 use Rattle.stored.proofs.all_follow.Tie as tie
@@ -25,7 +25,7 @@ loop-again : tie.Need-loop-again Inv-loop μ-loop
 loop-again c =
     let at = c .before .before .before in
     let s = at .before .before .args .s .now in
-    (omega arith, λ k l. range-more (Follows s) 0 (at .loop .i) (λ j z. at .loop .inv .1 j) (c .before .follows .ensures .yes (not-false _ (c .if1 .left))) k zero-le l)
+    (omega arith, λ k l. range-more (RecordFollows s) 0 (at .loop .i) (λ j z. at .loop .inv .1 j) (c .before .follows .ensures .yes (not-false _ (c .if1 .left))) k zero-le l)
 
 returns-2 : tie.Need-returns-2 Inv-loop μ-loop
 returns-2 c = told (λ k l. c .before .loop .inv .1 k (omega arith))

@@ -9,6 +9,7 @@ use Rattle.stored.specs.Known.{AllFollow}
 use Rattle.stored.proofs.LibLaws.{told-not, holds-follow, again-is, known}
 use Rattle.stored.proofs.is_store.Statement.{statement}
 use Rattle.stored.proofs.is_store.Tie as tie
+use Rattle.records.specs.Stores.{storeLength}
 
 returns : tie.Need-returns
 returns c = told-not (λ k. c .if1 .taken (held-length (k .1)))
@@ -25,7 +26,7 @@ returns-3 c =
     let n = f .before in
     let s = n .before .before .before .args .s .now in
     known s (n .count .ensures .0) (n .count .ensures .1) (not-false _ (j .before .before .if2 .left)) (f .all-follow .ensures)
-    (again-is s _ _ (j .join .result) (zeros-made 40968 ∙ empty-zeros) (omega (arith, n .count .ensures .0, n .count .ensures .1)) (j .join .ensures)) (c .same .ensures)
+    (again-is s _ _ (j .join .result) (zeros-made storeLength ∙ empty-zeros) (omega (arith, n .count .ensures .0, n .count .ensures .1)) (j .join .ensures)) (c .same .ensures)
 
 pub is-store-spec : {M : Type 1} → statement M
 is-store-spec =

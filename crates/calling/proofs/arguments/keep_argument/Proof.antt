@@ -9,12 +9,13 @@ use borrow.Author.Needs.{needs}
 use Rattle.calling.specs.Words.{signIn, magnitudeIn}
 use Rattle.calling.proofs.arguments.keep_argument.Statement.{statement}
 use Rattle.calling.proofs.arguments.keep_argument.Tie as tie
+use Rattle.language.specs.Programs.{maxRegisters}
 
 returns : tie.Need-returns
 returns c =
     let s = c .before .before .before .before .before .before in
     let sign = c .before .sign-of .ensures ∙ ap signIn (c .before .before .read-decimal .ensures) in
-    let far : 256 ≤ s .args .i = c .if1 .taken in (
+    let far : maxRegisters ≤ s .args .i = c .if1 .taken in (
       ap (λ (k : ℕ). ltb k 3) sign,
       (sym (set-out (s .args .signs .now) (s .args .i) _ (omega (arith, s .pre .0))), sym (set-out (s .args .magnitudes .now) (s .args .i) _ (omega (arith, s .pre .1)))),
     )

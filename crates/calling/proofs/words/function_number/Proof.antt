@@ -1,11 +1,11 @@
 -- `function_number`: the word's number, or the function that it names.
 use borrow.Author.Needs.{needs}
-use Rattle.calling.specs.Words.{functionNumber}
+use Rattle.calling.specs.Words.{functionByWord}
 use Rattle.calling.proofs.words.function_number.Statement.{statement}
 use Rattle.calling.proofs.words.function_number.Tie as tie
 
 returns : tie.Need-returns
-unfolding functionNumber
+unfolding functionByWord
 returns c = rw (c .number-or .ensures, c .before .before .read-decimal .ensures, c .before .function-named .ensures)
 
 pub function-number-spec : {M : Type 1} → statement M

@@ -9,9 +9,10 @@ use Rattle.checker.specs.Notes.{noted}
 use Rattle.checker.proofs.FormsLaws.{notedUpto, upto-none, upto-quiet, upto-noted, in-none, in-all, noted-row, here}
 use Rattle.checker.proofs.forms.note_block.Statement.{statement}
 use Rattle.checker.proofs.forms.note_block.Tie as tie
+use Rattle.language.specs.Programs.{maxRows}
 
 abbrev Inv-loop : tie.InvT-loop
-Inv-loop t a m b first rows x₀ j₀ x j = (j ≤ rows) × (x ≡ notedUpto (decodeFunction t a) b x₀ j) × (x .row ≤ 1024)
+Inv-loop t a m b first rows x₀ j₀ x j = (j ≤ rows) × (x ≡ notedUpto (decodeFunction t a) b x₀ j) × (x .row ≤ maxRows)
 
 abbrev μ-loop : tie.MeasureT-loop
 μ-loop t a m b first rows x₀ j₀ x j = rows - j
@@ -23,7 +24,7 @@ returns c =
     let low = s .args .low in
     let n = c .noted .ensures in (
       in-none (decodeFunction (s .args .t .now) (s .args .a)) (s .args .b) low (sym (at .count) ∙ c .before .if1 .taken) (at .place) n,
-      subst (λ (x : Lowest). x .row ≤ 1024) (sym n) (noted-row low 10 (c .before .before .before .block-first .result) 1024 (s .pre .1 .1) (omega arith)),
+      subst (λ (x : Lowest). x .row ≤ maxRows) (sym n) (noted-row low 10 (c .before .before .before .block-first .result) maxRows (s .pre .1 .1) (omega arith)),
     )
 
 loop-holds : tie.Need-loop-holds Inv-loop μ-loop
@@ -74,7 +75,7 @@ loop-again-2 c =
       upto-noted (decodeFunction (s .args .t .now) (s .args .a)) (s .args .b) (s .args .low) (omega arith) (loop .inv .1) (k .ensures)
           (ap (λ n. n + loop .j) (at .place))
           (c .noted2 .ensures),
-      subst (λ (x : Lowest). x .row ≤ 1024) (sym (c .noted2 .ensures)) (noted-row (loop .x) (k .result) (first + loop .j) 1024 (loop .inv .2) (omega arith)),
+      subst (λ (x : Lowest). x .row ≤ maxRows) (sym (c .noted2 .ensures)) (noted-row (loop .x) (k .result) (first + loop .j) maxRows (loop .inv .2) (omega arith)),
     )
 
 returns-2 : tie.Need-returns-2 Inv-loop μ-loop

@@ -7,9 +7,10 @@ use Rattle.language.proofs.TableView.{block-count}
 use Rattle.checker.proofs.FormsLaws.{notedBlocks, blocks-none, blocks-more, blocks-all}
 use Rattle.checker.proofs.forms.note_blocks.Statement.{statement}
 use Rattle.checker.proofs.forms.note_blocks.Tie as tie
+use Rattle.language.specs.Programs.{maxRows}
 
 abbrev Inv-loop : tie.InvT-loop
-Inv-loop t a m blocks x₀ b₀ x b = (b ≤ blocks) × (x ≡ notedBlocks (decodeFunction t a) b) × (x .row ≤ 1024)
+Inv-loop t a m blocks x₀ b₀ x b = (b ≤ blocks) × (x ≡ notedBlocks (decodeFunction t a) b) × (x .row ≤ maxRows)
 
 abbrev μ-loop : tie.MeasureT-loop
 μ-loop t a m blocks x₀ b₀ x b = blocks - b

@@ -8,13 +8,13 @@ use borrow.Author.Tests.{not-true, not-false}
 use lib.ListN.{length, take}
 use Rattle.laws.specs.Lists.{all}
 use Rattle.laws.proofs.Tests.{of-true}
-use Rattle.decimal.specs.Numbers.{isDigit, valueOf, amountOf}
+use Rattle.decimal.specs.Numbers.{isDigit, valueOf, amountKept}
 use Rattle.decimal.proofs.WordsLaws.{kept-exact, value-more, digits-on, digits-off, says-none, says-all}
 use Rattle.decimal.proofs.words.read_digits.Statement.{statement}
 use Rattle.decimal.proofs.words.read_digits.Tie as tie
 
 abbrev Inv-loop : tie.InvT-loop
-Inv-loop negative digits a₀ i₀ a i = (i ≤ length digits) × (all isDigit (take i digits) ≡ true) × (a ≡ amountOf (valueOf (take i digits)))
+Inv-loop negative digits a₀ i₀ a i = (i ≤ length digits) × (all isDigit (take i digits) ≡ true) × (a ≡ amountKept (valueOf (take i digits)))
 
 abbrev μ-loop : tie.MeasureT-loop
 μ-loop negative digits a₀ i₀ a i = length digits - i
@@ -42,8 +42,8 @@ loop-again c =
       omega arith,
       digits-on ds (at .loop .i) within (at .loop .inv .1) (c .before .before .before .is-digit .ensures) (not-false _ (c .before .before .if2 .left)),
       c .grown .ensures _ (at .loop .inv .2)
-          ∙ ap (λ (d : ℕ). amountOf (10 * valueOf (take (at .loop .i) ds) + d)) (c .before .wide .ensures .0)
-          ∙ ap amountOf (sym (value-more ds (at .loop .i) within)),
+          ∙ ap (λ (d : ℕ). amountKept (10 * valueOf (take (at .loop .i) ds) + d)) (c .before .wide .ensures .0)
+          ∙ ap amountKept (sym (value-more ds (at .loop .i) within)),
     )
 
 returns-3 : tie.Need-returns-3 Inv-loop μ-loop

@@ -7,7 +7,7 @@ use lib.ListN.{length}
 use borrow.Author.Needs.{needs}
 use borrow.Author.Tests.{not-true, not-false}
 use Rattle.laws.proofs.Cells.{sets-all}
-use Rattle.records.specs.Stores.{Holds}
+use Rattle.records.specs.Stores.{StoreHolds}
 use Rattle.merge.specs.Tries.{Tried}
 use Rattle.merge.proofs.ManyLaws.{all, kept-whole, kept-unchanged}
 use Rattle.merge.proofs.many.merge_all.Statement.{statement}
@@ -30,7 +30,7 @@ returns-2 c =
     let yes = subst (λ (b : Bool). Tried (s .args .store .now) g b (f .last .1 .0)) (not-false (f .result) (p .before .before .before .if1 .left)) (f .ensures) in
     let copied = p .put-bytes .ensures ∙ sets-all (s .args .store .now) (f .last .1 .0) (yes .size) in
     kept-whole (s .args .store .now) (p .put-bytes .last .0) g (c .done2 .result) (c .done2 .ensures) (ap length copied ∙ yes .size)
-    (λ es h. subst⁻¹ (λ (x : List ℕ). Holds x (g es)) copied (yes .held es h))
+    (λ es h. subst⁻¹ (λ (x : List ℕ). StoreHolds x (g es)) copied (yes .held es h))
 
 pub merge-all-spec : {M : Type 1} → statement M
 merge-all-spec =

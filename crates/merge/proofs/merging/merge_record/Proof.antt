@@ -4,8 +4,8 @@ use borrow.Author.Needs.{needs}
 use lib.Dec.{eqb}
 use lib.ListN.{length}
 use Rattle.records.specs.Stores.{insert, storeLength}
-use Rattle.records.specs.Limits.{judged}
-use Rattle.records.specs.Answers.{Kept, Lent}
+use Rattle.records.specs.Limits.{judgedTest}
+use Rattle.records.specs.Answers.{Kept, IfLent}
 use Rattle.merge.specs.Calls.{test}
 use Rattle.merge.specs.Rulings.{Ruled}
 use Rattle.merge.proofs.Told.{record-ruled, limit-told}
@@ -24,7 +24,7 @@ returns-2 : tie.Need-returns-2
 returns-2 c =
     let j = c .before .before .before in
     let s = j .before .before .before in
-    let P = Lent (eqb (length (s .args .store .now)) storeLength) (s .args .store .now) (Kept (s .args .store .now) (insert (judged (s .args .table .now) (s .args .function) (s .args .budget) (test (s .args .appliance) (s .args .time) (s .args .tablet) (s .args .reading))))) in
+    let P = IfLent (eqb (length (s .args .store .now)) storeLength) (s .args .store .now) (Kept (s .args .store .now) (insert (judgedTest (s .args .table .now) (s .args .function) (s .args .budget) (test (s .args .appliance) (s .args .time) (s .args .tablet) (s .args .reading))))) in
     limit-told (s .args .table .now) (s .args .function) _ _ (s .args .store .now) P
     (subst (Ruled (s .args .table .now) (s .args .function) (s .args .budget) (s .args .reading)) (c .before .n .given .1) (j .judge .ensures))
 

@@ -1,6 +1,6 @@
 -- `row_text::operands::put_operand`: by the kind's number.
 use mathlib.Core.Path.{_≡_, sym, ap, _∙_}
-use Prim.Native.Nat.{ℕ, _-_, _≤_}
+use Prim.Native.Nat.{ℕ, _≤_}
 use native.Mathlib.Omega.{arith}
 use borrow.Author.Needs.{needs}
 use Rattle.laws.proofs.Matches.{past}
@@ -9,7 +9,7 @@ use Rattle.instructions.specs.Shapes.{shapeOf}
 use Rattle.page.specs.Page.{puts}
 use Rattle.token_text.specs.Spaced.{spaced}
 use Rattle.token_text.proofs.Spelled.{puts-none}
-use Rattle.row_text.specs.Ready.{operandAs}
+use Rattle.row_text.specs.Ready.{operandTokens}
 use Rattle.row_text.proofs.Shapes.{few}
 use Rattle.row_text.proofs.operands.put_operand.Statement.{statement}
 use Rattle.row_text.proofs.operands.put_operand.Tie as tie
@@ -17,22 +17,22 @@ use Rattle.row_text.proofs.operands.put_operand.Tie as tie
 none : tie.Need-returns
 none c =
     let x = c .before .before .before .before .before .args in
-    puts-none _ ∙ ap (puts _) (ap (λ (k : ℕ). spaced (operandAs (x .t .now) (x .a) (x .r) k)) (sym (c .match .keys1)))
+    puts-none _ ∙ ap (puts _) (ap (λ (k : ℕ). spaced (operandTokens (x .t .now) (x .a) (x .r) k)) (sym (c .match .keys1)))
 
 number : tie.Need-returns-2
 number c =
     let x = c .before .before .before .before .before .before .before .before .before .args in
-    c .before .before .put-load .ensures ∙ ap (puts _) (ap (λ (k : ℕ). spaced (operandAs (x .t .now) (x .a) (x .r) k)) (sym (c .before .before .before .before .match .keys2)))
+    c .before .before .put-load .ensures ∙ ap (puts _) (ap (λ (k : ℕ). spaced (operandTokens (x .t .now) (x .a) (x .r) k)) (sym (c .before .before .before .before .match .keys2)))
 
 registers : tie.Need-returns-3
 registers c =
     let x = c .before .before .before .before .before .before .before .before .before .args in
-    c .before .before .put-phi .ensures ∙ ap (puts _) (ap (λ (k : ℕ). spaced (operandAs (x .t .now) (x .a) (x .r) k)) (sym (c .before .before .before .before .match .keys3)))
+    c .before .before .put-phi .ensures ∙ ap (puts _) (ap (λ (k : ℕ). spaced (operandTokens (x .t .now) (x .a) (x .r) k)) (sym (c .before .before .before .before .match .keys3)))
 
 block : tie.Need-returns-4
 block c =
     let x = c .before .before .before .before .before .before .before .before .before .args in
-    c .before .before .put-jump .ensures ∙ ap (puts _) (ap (λ (k : ℕ). spaced (operandAs (x .t .now) (x .a) (x .r) k)) (sym (c .before .before .before .before .match .keys4)))
+    c .before .before .put-jump .ensures ∙ ap (puts _) (ap (λ (k : ℕ). spaced (operandTokens (x .t .now) (x .a) (x .r) k)) (sym (c .before .before .before .before .match .keys4)))
 
 -- the kind that is none of the smaller ones
 last : (n k : ℕ) → k ≡ shapeOf n .operand → 4 ≤ k → 4 ≡ k
@@ -49,7 +49,7 @@ blocks c =
     let s = c .before .before .before .before .before .before .before .before .before in
     let x = s .args in
     c .before .before .put-branch .ensures
-    ∙ ap (puts _) (ap (λ (k : ℕ). spaced (operandAs (x .t .now) (x .a) (x .r) k)) (last (rowOp (x .t .now) (x .a) (x .r)) (x .kind) (s .pre .2) (past 4 (x .kind) (c .before .before .before .before .match .rest))))
+    ∙ ap (puts _) (ap (λ (k : ℕ). spaced (operandTokens (x .t .now) (x .a) (x .r) k)) (last (rowOp (x .t .now) (x .a) (x .r)) (x .kind) (s .pre .2) (past 4 (x .kind) (c .before .before .before .before .match .rest))))
 
 pub put-operand-spec : {M : Type 1} → statement M
 put-operand-spec =

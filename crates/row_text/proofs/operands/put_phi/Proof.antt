@@ -1,7 +1,7 @@
 -- `row_text::operands::put_phi`: the entries in parentheses.
 use mathlib.Core.List.{List, [], _∷_, _++_, map}
 use mathlib.Core.Path.{ap, _∙_}
-use Prim.Native.Nat.{ℕ, _+_, _-_}
+use Prim.Native.Nat.{ℕ}
 use borrow.Author.Needs.{needs}
 use Rattle.laws.specs.Lists.{from}
 use Rattle.language.specs.Bytes.{leftParen, rightParen}

@@ -1,7 +1,6 @@
 -- `row_text::rows::put_row`: the parts one after the other, and the line's end.
 use mathlib.Core.List.{List, [], _∷_, _++_}
 use mathlib.Core.Path.{ap, _∙_}
-use Prim.Native.Nat.{_+_, _-_}
 use native.Mathlib.Omega.{arith}
 use borrow.Author.Needs.{needs}
 use Rattle.language.specs.Programs.{targetsOf, sourcesOf}
@@ -13,7 +12,7 @@ use Rattle.instructions.specs.Shapes.{shapeOf}
 use Rattle.page.specs.Page.{puts}
 use Rattle.token_text.specs.Spaced.{spaced}
 use Rattle.token_text.proofs.Spelled.{puts-then, spaced-then}
-use Rattle.row_text.specs.Ready.{titled, operandAs}
+use Rattle.row_text.specs.Ready.{titled, operandTokens}
 use Rattle.row_text.proofs.Asked.{row-asked}
 use Rattle.row_text.proofs.Parts.{row-line}
 use Rattle.row_text.proofs.rows.put_row.Statement.{statement}
@@ -48,8 +47,8 @@ returns c =
     let kind = c .before .before .before .before .before .before .before .before .before .before .before .before .before .before .before .before .before .before .before .before .before .shape-of .result .operand in
     let ts : List Token = targetPart g (targetsOf row) in
     let ss : List Token = registersPart g (sourcesOf row) in
-    puts-then _ (spaced (((ts ++ (opToken (op .result) ∷ [])) ++ ss) ++ operandAs (x .t .now) (x .a) (x .r) kind)) (59 ∷ 10 ∷ [])
-    (spaced-then _ ((ts ++ (opToken (op .result) ∷ [])) ++ ss) (operandAs (x .t .now) (x .a) (x .r) kind)
+    puts-then _ (spaced (((ts ++ (opToken (op .result) ∷ [])) ++ ss) ++ operandTokens (x .t .now) (x .a) (x .r) kind)) (59 ∷ 10 ∷ [])
+    (spaced-then _ ((ts ++ (opToken (op .result) ∷ [])) ++ ss) (operandTokens (x .t .now) (x .a) (x .r) kind)
     (spaced-then _ (ts ++ (opToken (op .result) ∷ [])) ss
     (spaced-then _ ts (opToken (op .result) ∷ []) (c .before .before .before .before .before .before .before .before .before .before .before .before .before .before .before .before .before .before .before .put-target .ensures) (c .before .before .before .before .before .before .before .before .before .before .before .before .before .before .before .put-word .ensures))
     (c .before .before .before .before .before .before .before .before .before .before .before .put-sources .ensures))

@@ -19,7 +19,7 @@ met-requires : tie.Need-met-requires
 met-requires c κs =
     let at = c .before .before .before .before .before .before .before in
     let start = at .before .before in
-    let low : c .before .wide .result ≤ start .args .i = rw (c .before .wide .ensures .0) (start .pre .2 .within (c .before .before .before .hash .result)) in (
+    let low : c .before .wide-two .result ≤ start .args .i = rw (c .before .wide-two .ensures .0) (start .pre .2 .within (c .before .before .before .hash .result)) in (
       omega (arith, mul-le-mul-left (start .args .stride) low),
       omega (arith, start .pre .2 .befores),
       start .pre .2 .falling,
@@ -31,7 +31,7 @@ returns-2 c =
     let start = at .before .before .before .before in
     let args = start .args in
     added-met (args .t .now) (args .at) (args .stride) (args .i) (start .pre .2) (at .name-at .ensures) (c .before .before .before .before .before .before .if1 .left)
-    (c .before .before .before .before .before .hash .ensures .0) (c .before .before .before .wide .ensures .0) (c .before .met .ensures) (c .if2 .taken)
+    (c .before .before .before .before .before .hash .ensures .0) (c .before .before .before .wide-two .ensures .0) (c .before .met .ensures) (c .if2 .taken)
 
 returns-3 : tie.Need-returns-3
 returns-3 c =
@@ -39,7 +39,7 @@ returns-3 c =
     let start = at .before .before .before .before in
     let args = start .args in
     added-new (args .t .now) (args .at) (args .stride) (args .i) (start .pre .2) (at .name-at .ensures) (c .before .before .before .before .before .before .if1 .left)
-    (c .before .before .before .before .before .hash .ensures .0) (c .before .before .before .wide .ensures .0) (c .before .met .ensures)
+    (c .before .before .before .before .before .hash .ensures .0) (c .before .before .before .wide-two .ensures .0) (c .before .met .ensures)
     (start .pre .1) (c .before .before .before .before .before .hash .ensures .1) (c .if2 .left)
 
 pub clashes-spec : {M : Type 1} → statement M

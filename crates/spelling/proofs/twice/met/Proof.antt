@@ -53,13 +53,13 @@ returns c =
       unmet = λ e. absurd (true≢false e);
     }
 
-shared-slice-read-wide : tie.Need-shared-slice-read-wide Inv-loop μ-loop
-shared-slice-read-wide c = omega arith
+shared-slice-read-wide-two : tie.Need-shared-slice-read-wide-two Inv-loop μ-loop
+shared-slice-read-wide-two c = omega arith
 
 loop-less : tie.Need-loop-less Inv-loop μ-loop
 loop-less c =
     let at = c .before .before .before .before .before .before in
-    omega (arith, c .wide .ensures .0, at .before .before .before .before .pre .2 .falls (at .loop .y - 1))
+    omega (arith, c .wide-two .ensures .0, at .before .before .before .before .pre .2 .falls (at .loop .y - 1))
 
 loop-again : tie.Need-loop-again Inv-loop μ-loop
 loop-again c =
@@ -68,9 +68,9 @@ loop-again c =
     let y = at .loop .y in
     let differs : same (nameOf (args .t .now) (args .at) (args .stride) (y - 1)) (args .name .now) ≡ false =
     ap (λ (l : List ℕ). same l (args .name .now)) (sym (c .before .before .before .before .name-at .ensures)) ∙ sym (c .before .before .before .same .ensures) ∙ c .before .before .if1 .left in (
-      omega (arith, c .wide .ensures .0, at .before .before .before .before .pre .2 .falls (y - 1)),
+      omega (arith, c .wide-two .ensures .0, at .before .before .before .before .pre .2 .falls (y - 1)),
       λ j h e.
-          chain-next (at .loop .inv .1 j h e) (c .wide .ensures .0)
+          chain-next (at .loop .inv .1 j h e) (c .wide-two .ensures .0)
           (λ p. true≢false (sym e ∙ ap (λ (k : ℕ). same (nameOf (args .t .now) (args .at) (args .stride) k) (args .name .now)) p ∙ differs)),
     )
 
@@ -97,7 +97,7 @@ met-spec =
     (λ c κs. search needs)
     returns
     (λ c. omega arith)
-    shared-slice-read-wide
+    shared-slice-read-wide-two
     (λ c κs. search needs)
     loop-less
     loop-again

@@ -1,9 +1,9 @@
 -- `store::put_record` meets its contract: five stores, each where the one before ends. Assumes nothing.
-use Prim.Native.Nat.{_+_, _*_}
 use borrow.Author.Needs.{needs}
 use Rattle.store.proofs.CellsLaws.{put-five}
 use Rattle.store.proofs.cells.put_record.Statement.{statement}
 use Rattle.store.proofs.cells.put_record.Tie as tie
+use Rattle.records.specs.Stores.{recordOffset}
 
 returns : tie.Need-returns
 returns c =
@@ -14,7 +14,7 @@ returns c =
     let p1 = p2 .before .before .before .before in
     let args = p1 .before .before .before .args in
     let r = args .r in
-    put-five (args .s .now) (8 + 40 * args .i) r (p1 .put-eight .ensures) (p2 .put-eight2 .ensures) (p3 .put-eight3 .ensures) (p4 .put-eight4 .ensures)
+    put-five (args .s .now) (recordOffset (args .i)) r (p1 .put-eight .ensures) (p2 .put-eight2 .ensures) (p3 .put-eight3 .ensures) (p4 .put-eight4 .ensures)
     (p5 .put-eight5 .ensures)
 
 pub put-record-spec : {M : Type 1} → statement M

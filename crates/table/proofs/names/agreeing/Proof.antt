@@ -4,14 +4,14 @@ use mathlib.Core.Path.{_≡_, sym, _∙_}
 use native.Mathlib.Omega.{arith}
 use borrow.Author.Count.{below-none}
 use lib.ListN.{length}
-use Rattle.table.specs.Named.{Agree}
+use Rattle.table.specs.Named.{CellsAgree}
 use Rattle.language.specs.Table.{eight}
 use Rattle.table.proofs.Digits.{agree-more, eight-like}
 use Rattle.table.proofs.names.agreeing.Statement.{statement}
 use Rattle.table.proofs.names.agreeing.Tie as tie
 
 abbrev Inv-loop : tie.InvT-loop
-Inv-loop a b i₀ i = Agree a b i
+Inv-loop a b i₀ i = CellsAgree a b i
 
 abbrev μ-loop : tie.MeasureT-loop
 μ-loop a b i₀ i = length a - i

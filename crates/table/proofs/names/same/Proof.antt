@@ -7,12 +7,12 @@ use borrow.Author.Count.{below-more}
 use lib.ListN.{length, getD}
 use lib.Seq.{ext-getD}
 use Rattle.laws.proofs.Positions.{same-is, same-not}
-use Rattle.table.specs.Named.{Agree}
+use Rattle.table.specs.Named.{CellsAgree}
 use Rattle.table.proofs.names.same.Statement.{statement}
 use Rattle.table.proofs.names.same.Tie as tie
 
 abbrev Inv-loop : tie.InvT-loop
-Inv-loop a b last i₀ i = Agree a b i
+Inv-loop a b last i₀ i = CellsAgree a b i
 
 abbrev μ-loop : tie.MeasureT-loop
 μ-loop a b last i₀ i = length a - i

@@ -23,4 +23,4 @@ renamed-spec =
     let s = p .before .before .before in
     let args = s .before .before .before .args in
     renamed-so (args .m .now) (args .plan .now) (args .x) (args .k) (args .y) (s .phis .result) (s .phis .ensures .0) (p .before .before .if1 .left)
-    (p .number .result) (c .rank .result) (p .number .ensures .0) (p .number .ensures .1) (c .rank .ensures .0) (c .rank .ensures .1)))
+    (p .wide-two .result) (c .rank .result) (p .wide-two .ensures .0) (p .wide-two .ensures .1) (c .rank .ensures .0) (c .rank .ensures .1)))

@@ -1,4 +1,4 @@
--- `token_text::numbers::put_long`: what stands in front of the scratch is the digits and the space.
+-- `token_text::digits::put_long`: what stands in front of the scratch is the digits and the space.
 use mathlib.Core.Path.{refl, ap, _∙_}
 use Prim.Native.Nat.{ℕ}
 use native.Mathlib.Omega.{arith}
@@ -7,8 +7,8 @@ use lib.ListN.{length-set, length-take, length-replicate}
 use Rattle.decimal.proofs.Writings.{written-then, written-one, written-length}
 use Rattle.page.specs.Page.{puts}
 use Rattle.token_text.proofs.Spelled.{written-front}
-use Rattle.token_text.proofs.numbers.put_long.Statement.{statement}
-use Rattle.token_text.proofs.numbers.put_long.Tie as tie
+use Rattle.token_text.proofs.digits.put_long.Statement.{statement}
+use Rattle.token_text.proofs.digits.put_long.Tie as tie
 
 share-prefix : tie.Need-array-share-prefix-s
 share-prefix c =

@@ -5,8 +5,8 @@ use native.Mathlib.Numerals.{add-one, add-two, add-three}
 use native.Mathlib.Omega.{arith}
 use lib.ListN.{length-set}
 use Rattle.language.specs.Answers.{numberCells}
-use Rattle.answers.proofs.numbers.put_numbers.Statement.{statement}
-use Rattle.answers.proofs.numbers.put_numbers.Tie as tie
+use Rattle.answers.proofs.figures.put_numbers.Statement.{statement}
+use Rattle.answers.proofs.figures.put_numbers.Tie as tie
 
 returns : tie.Need-returns
 unfolding numberCells

@@ -1,11 +1,11 @@
--- `lexer::numbers::grown`: the quotient's test says whether the sum fits.
+-- `lexer::values::grown`: the quotient's test says whether the sum fits.
 use borrow.Author.Needs.{needs}
 use native.Mathlib.Omega.{arith}
 use Rattle.laws.proofs.Branches.{branches}
 use Rattle.lexer.specs.Numbers.{grownAt}
 use Rattle.lexer.proofs.Amounts.{sum-fits}
-use Rattle.lexer.proofs.numbers.grown.Statement.{statement}
-use Rattle.lexer.proofs.numbers.grown.Tie as tie
+use Rattle.lexer.proofs.values.grown.Statement.{statement}
+use Rattle.lexer.proofs.values.grown.Tie as tie
 
 pub grown-spec : {M : Type 1} → statement M
 unfolding grownAt

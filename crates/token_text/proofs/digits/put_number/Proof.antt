@@ -1,10 +1,10 @@
--- `token_text::numbers::put_number`: the sign and the magnitude that the number means.
+-- `token_text::digits::put_number`: the sign and the magnitude that the number means.
 use mathlib.Core.Path.{ap, _∙_}
 use borrow.Author.Needs.{needs}
 use Rattle.page.specs.Page.{puts}
 use Rattle.token_text.proofs.Spelled.{puts-then, negative-spaced, positive-spaced}
-use Rattle.token_text.proofs.numbers.put_number.Statement.{statement}
-use Rattle.token_text.proofs.numbers.put_number.Tie as tie
+use Rattle.token_text.proofs.digits.put_number.Statement.{statement}
+use Rattle.token_text.proofs.digits.put_number.Tie as tie
 
 returns : tie.Need-returns
 returns c =

@@ -4,8 +4,8 @@ use mathlib.Core.Path.{sym, ap}
 use Rattle.language.specs.Answers.{ranNumbers}
 use Rattle.answers.specs.Cases.{ranOf}
 use Rattle.answers.specs.declared.Ran.{Ran}
-use Rattle.answers.proofs.numbers.run_numbers.Statement.{statement}
-use Rattle.answers.proofs.numbers.run_numbers.Tie as tie
+use Rattle.answers.proofs.figures.run_numbers.Statement.{statement}
+use Rattle.answers.proofs.figures.run_numbers.Tie as tie
 
 returns : tie.Need-returns
 unfolding ranNumbers

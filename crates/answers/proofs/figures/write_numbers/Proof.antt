@@ -4,8 +4,8 @@ use mathlib.Core.Path.{sym, ap}
 use Rattle.language.specs.Answers.{wroteNumbers}
 use Rattle.answers.specs.Cases.{wroteOf}
 use Rattle.answers.specs.declared.Wrote.{Wrote}
-use Rattle.answers.proofs.numbers.write_numbers.Statement.{statement}
-use Rattle.answers.proofs.numbers.write_numbers.Tie as tie
+use Rattle.answers.proofs.figures.write_numbers.Statement.{statement}
+use Rattle.answers.proofs.figures.write_numbers.Tie as tie
 
 returns : tie.Need-returns
 unfolding wroteNumbers

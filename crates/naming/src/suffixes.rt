@@ -2,7 +2,7 @@
 ghost use mathlib.Core.Path.{_≡_};
 ghost use Prim.Native.Nat.{_≤_};
 ghost use Rattle.naming.specs.Numbers.{digitFrom, bounded as boundedOf, prefixOf, Numbers};
-use table::wide;
+use numbers::wide;
 
 // With 256 names at most, no made number reaches 512: it stands for every name that is no made one with a smaller number.
 const OTHER: usize = 512;

@@ -4,8 +4,8 @@ use mathlib.Core.Path.{sym, ap}
 use Rattle.language.specs.Answers.{verdictNumbers}
 use Rattle.answers.specs.Cases.{verdictOf}
 use Rattle.answers.specs.declared.Verdict.{Verdict}
-use Rattle.answers.proofs.numbers.verdict_numbers.Statement.{statement}
-use Rattle.answers.proofs.numbers.verdict_numbers.Tie as tie
+use Rattle.answers.proofs.figures.verdict_numbers.Statement.{statement}
+use Rattle.answers.proofs.figures.verdict_numbers.Tie as tie
 
 enum-told : tie.Need-enum-told
 enum-told c = search needs

@@ -1,27 +1,18 @@
 // Numbers as text: "shortest decimal numbers", a load's by its meaning.
 ghost use mathlib.Core.List.{[], _∷_, _++_};
 ghost use mathlib.Core.Path.{_≡_};
-ghost use Prim.Native.Nat.{_+_, _^_, _<_};
-ghost use Rattle.language.specs.Bytes.{digitZero};
+ghost use Prim.Native.Nat.{_^_, _<_};
 ghost use Rattle.language.specs.Instructions.{width};
 ghost use Rattle.language.specs.Listing.{digits};
 ghost use Rattle.language.specs.Writing.{numberToken, spaceByte};
 ghost use Rattle.page.specs.Page.{page, puts};
 ghost use Rattle.token_text.specs.Spaced.{spaced};
+use decimal::digit;
 use decimal::of_bits;
 use decimal::put_digits;
 use page::put_part;
 
 const SPACE: u8 = 32;
-
-const ZERO: u8 = 48;
-
-fn digit(n: u64) -> u8
-    requires { ⌜ n < 10 ⌝ }
-    ensures { λ r. ⌜ r ≡ digitZero + n ⌝ }
-{
-    ZERO + n as u8
-}
 
 // A number of one or two digits and a space.
 fn put_short(n: u64, out: &mut [u8], at: usize) -> usize

@@ -1,11 +1,11 @@
--- `naming::numbers::digit`: the three cases of its definition.
+-- `naming::suffixes::digit`: the three cases of its definition.
 use mathlib.Core.Path.{refl}
 use native.Mathlib.Omega.{arith}
 use borrow.Author.Needs.{needs}
 use Rattle.laws.proofs.Branches.{by-lt, by-not-lt}
 use Rattle.naming.specs.Numbers.{digitFrom}
-use Rattle.naming.proofs.numbers.digit.Statement.{statement}
-use Rattle.naming.proofs.numbers.digit.Tie as tie
+use Rattle.naming.proofs.suffixes.digit.Statement.{statement}
+use Rattle.naming.proofs.suffixes.digit.Tie as tie
 
 returns : tie.Need-returns
 unfolding digitFrom

@@ -1,10 +1,10 @@
--- `naming::numbers::number`: a name of another form is no made one, and one of the form is told by its digits.
+-- `naming::suffixes::number`: a name of another form is no made one, and one of the form is told by its digits.
 use mathlib.Core.Path.{refl}
 use native.Mathlib.Omega.{arith}
 use borrow.Author.Needs.{needs}
 use Rattle.naming.proofs.NumbersLaws.{too-short, too-long, other-first, no-dot, of-one, of-two, of-three}
-use Rattle.naming.proofs.numbers.number.Statement.{statement}
-use Rattle.naming.proofs.numbers.number.Tie as tie
+use Rattle.naming.proofs.suffixes.number.Statement.{statement}
+use Rattle.naming.proofs.suffixes.number.Tie as tie
 
 returns : tie.Need-returns
 returns c =

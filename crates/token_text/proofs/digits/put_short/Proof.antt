@@ -1,4 +1,4 @@
--- `token_text::numbers::put_short`: below 10 the number is its digit, below 100 a tenth of it stands before the last.
+-- `token_text::digits::put_short`: below 10 the number is its digit, below 100 a tenth of it stands before the last.
 use mathlib.Core.Path.{ap, sym, _∙_}
 use mathlib.Core.List.{List, [], _∷_, _++_}
 use Prim.Native.Nat.{ℕ, _+_, _/_, _%_, _<_, _≤_}
@@ -7,8 +7,8 @@ use borrow.Author.Needs.{needs}
 use Rattle.language.specs.Writing.{spaceByte}
 use Rattle.decimal.proofs.DigitsLaws.{digits-one, digits-more}
 use Rattle.page.specs.Page.{puts}
-use Rattle.token_text.proofs.numbers.put_short.Statement.{statement}
-use Rattle.token_text.proofs.numbers.put_short.Tie as tie
+use Rattle.token_text.proofs.digits.put_short.Statement.{statement}
+use Rattle.token_text.proofs.digits.put_short.Tie as tie
 
 returns : tie.Need-returns
 returns c =

@@ -1,7 +1,7 @@
--- `naming::numbers::bounded`: the two cases of its definition.
+-- `naming::suffixes::bounded`: the two cases of its definition.
 use Rattle.naming.specs.Numbers.{bounded}
-use Rattle.naming.proofs.numbers.bounded.Statement.{statement}
-use Rattle.naming.proofs.numbers.bounded.Tie as tie
+use Rattle.naming.proofs.suffixes.bounded.Statement.{statement}
+use Rattle.naming.proofs.suffixes.bounded.Tie as tie
 use mathlib.Core.Path.{refl}
 use Rattle.laws.proofs.Branches.{by-lt, by-not-lt}
 
