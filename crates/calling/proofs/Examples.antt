@@ -4,6 +4,7 @@ use mathlib.Core.Path.{_≡_, refl, ap, _∙_}
 use mathlib.Core.List.{List, [], _∷_}
 use Prim.Native.Nat.{ℕ}
 use Rattle.language.specs.Bytes.{bytesOf}
+use Rattle.language.specs.Instructions.{int8, uint8}
 use Rattle.language.specs.Reading.{numberInRange, bitsOf}
 use Rattle.language.specs.Programs.{maxText}
 use Rattle.language.specs.Answers.{Ran, zeros, placeOf, refusedRun, runFunction, show}
@@ -37,7 +38,7 @@ unfolding calling
 budgets-said = refl
 
 -- P4: int8 100 + 100 = -56
-least-values : valueWritten 0 200 ∷ valueWritten 0 128 ∷ valueWritten 4 200 ∷ [] ≡ bytesOf "-56" ∷ bytesOf "-128" ∷ bytesOf "200" ∷ []
+least-values : valueWritten int8 200 ∷ valueWritten int8 128 ∷ valueWritten uint8 200 ∷ [] ≡ bytesOf "-56" ∷ bytesOf "-128" ∷ bytesOf "200" ∷ []
 unfolding calling
 least-values = refl
 

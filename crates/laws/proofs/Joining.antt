@@ -3,7 +3,6 @@
 use mathlib.Core.Bool.{Bool, true, false, _&&_, _||_, and-assoc, or-assoc}
 use mathlib.Core.List.{List, [], _∷_, _++_}
 use mathlib.Core.Path.{_≡_, refl, sym, ap, _∙_}
-use Prim.Native.Nat.{_+_}
 use Rattle.laws.specs.Lists.{any, all}
 
 module _ {A : Type 0} (p : A → Bool) where
