@@ -17,9 +17,10 @@ use Rattle.flow.proofs.Accepted.{accepted-sized, accepted-params}
 use Rattle.answers.specs.declared.Ran.{Ran}
 use Rattle.answers.specs.Cases.{ranOf}
 use Rattle.answers.specs.Lent.{finishedOf}
-use Rattle.calling.specs.Words.{functionByWord}
-use Rattle.calling.specs.Lines.{ranLine}
-use Rattle.calling.specs.Calls.{Given, firstOutside, argumentsOf, callFunction, runLine}
+use Rattle.call_words.specs.Words.{functionByWord}
+use Rattle.answer_lines.specs.Lines.{ranLine}
+use Rattle.call_words.specs.Arguments.{Given, firstOutside, argumentsOf}
+use Rattle.calling.specs.Calls.{callFunction, runLine}
 
 -- ---- the return type
 

@@ -14,10 +14,11 @@ use Rattle.language.proofs.ReadingFacts.{turnText, turn, turn-reads}
 use Rattle.theorems.proofs.TurnWritten.{turnedText, turned-written}
 use Rattle.decimal.specs.Meanings.{bitsIn}
 use Rattle.decimal.specs.Numbers.{isDigit, decimalFrom, unsigned, numberOf}
-use Rattle.calling.specs.declared.words.Budget.the-variants as budgets
-use Rattle.calling.specs.Words.{functionNamed, functionByWord, budgetOf, keptBits}
-use Rattle.calling.specs.Lines.{valueWritten}
-use Rattle.calling.specs.Calls.{Given, givenOf, firstOutside, argumentsOf, callFunction, runLine, translatedLine, translateLine, shownLine, textLine, readLine, runPrinted, translatePrinted}
+use Rattle.call_words.specs.declared.words.Budget.the-variants as budgets
+use Rattle.call_words.specs.Words.{functionNamed, functionByWord, budgetOf, keptBits}
+use Rattle.answer_lines.specs.Lines.{valueWritten}
+use Rattle.call_words.specs.Arguments.{Given, givenOf, firstOutside, argumentsOf}
+use Rattle.calling.specs.Calls.{callFunction, runLine, translatedLine, translateLine, shownLine, textLine, readLine, runPrinted, translatePrinted}
 
 unfoldable calling : Unit {0}
 unfolding computing numberInRange bitsOf placeOf refusedRun runFunction digits line refusedLine bitsIn isDigit decimalFrom unsigned numberOf functionNamed functionByWord budgetOf keptBits valueWritten firstOutside argumentsOf callFunction runLine translatedLine translateLine

@@ -1,7 +1,4 @@
 pub mod AcceptingLaws
-pub mod WordLaws
-pub mod ArgumentLaws
-pub mod LinesLaws
 pub mod CallLaws
 pub mod TranslationLaws
 pub mod WrittenLaws

@@ -23,8 +23,9 @@ use Rattle.language.proofs.Widths.{powers}
 use Rattle.theorems.proofs.AcceptanceCheck.{sound-parts, clean-of-check}
 use Rattle.decimal.specs.Meanings.{bitsIn}
 use Rattle.decimal.specs.declared.ranges.Bits.the-variants as bits
-use Rattle.calling.specs.Words.{keptBits}
-use Rattle.calling.specs.Calls.{Given, bitsHeld, argumentBits, firstOutside, argumentsOf, callFunction}
+use Rattle.call_words.specs.Words.{keptBits}
+use Rattle.call_words.specs.Arguments.{Given, bitsHeld, argumentBits, firstOutside, argumentsOf}
+use Rattle.calling.specs.Calls.{callFunction}
 use Rattle.calling.specs.Statements.{CallRuns}
 
 -- ---- one argument

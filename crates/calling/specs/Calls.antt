@@ -1,51 +1,25 @@
 -- What is printed of a call: of a run on arguments by meaning, of a translation, and of a file's own text. Assumes nothing.
-use mathlib.Core.Bool.{Bool, true, false, cond}
-use mathlib.Core.List.{List, [], _∷_, map}
+use mathlib.Core.Bool.{cond}
+use mathlib.Core.List.{List, [], _∷_}
 use mathlib.Core.Path.{_≡_}
 use Prim.Native.Nat.{ℕ}
 use lib.Dec.{eqb, ltb}
 use lib.ListN.{length, getD, take}
-use Rattle.laws.specs.Lists.{position, below}
-use Rattle.language.specs.Programs.{Func, Program, noFunction, maxText, maxRegisters, isSsa, typeAt}
+use Rattle.language.specs.Programs.{Program, noFunction, maxText, maxRegisters, isSsa}
 use Rattle.language.specs.Reading.{Reading, read}
 use Rattle.language.specs.Checking.{check}
 use Rattle.language.specs.Translating.{translation, translationFits}
-use Rattle.language.specs.Answers.{Ran, Wrote, ifAccepted, runFunction, show}
+use Rattle.language.specs.Answers.{Ran, Wrote, ifAccepted, checkAnswer, runFunction, show}
+use Rattle.language.specs.Table.{decode}
 use Rattle.language.specs.Listing.{refusedLine}
 use Rattle.language.specs.MadeNames.{written}
-use Rattle.decimal.specs.declared.ranges.Bits.{Bits}
-use Rattle.decimal.specs.declared.ranges.Bits.the-variants as bits
-use Rattle.calling.specs.Words.{functionByWord, keptBits}
-use Rattle.calling.specs.Lines.{ranLine}
+use Rattle.call_words.specs.Words.{functionByWord}
+use Rattle.call_words.specs.Arguments.{Given, firstOutside, argumentsOf}
+use Rattle.answer_lines.specs.Lines.{ranLine}
 
-abbrev pub isOutside : Bits → Bool
-isOutside (bits.Fits x) = false
-isOutside bits.Outside = true
-
-abbrev pub bitsHeld : Bits → ℕ
-bitsHeld (bits.Fits x) = x
-bitsHeld bits.Outside = 0
-
--- The words after the budget: how many were given, and the signs and magnitudes of the first 256. No function has more parameters.
-pub record Given : Type 0 where
-  pub count : ℕ
-  pub signs : List ℕ
-  pub magnitudes : List ℕ
-
-abbrev pub givenOf : ℕ → List ℕ → List ℕ → Given
-givenOf n ss ms = record { count = n; signs = ss; magnitudes = ms }
-
--- Argument k as a register of its parameter's type holds it.
-abbrev pub argumentBits : Func → Given → ℕ → Bits
-argumentBits f g k = keptBits (typeAt f k) (getD (g .signs) k 0) (getD (g .magnitudes) k 0)
-
--- The first argument outside its parameter's range by meaning, or their number.
-unfoldable pub firstOutside : Func → Given → ℕ
-firstOutside f g = position (λ k. isOutside (argumentBits f g k)) (below (g .count))
-
--- The arguments as the registers hold them.
-unfoldable pub argumentsOf : Func → Given → List ℕ
-argumentsOf f g = map (λ k. bitsHeld (argumentBits f g k)) (below (g .count))
+-- The function that a word means in a table: one that the check refuses has none, and 0 stands for it.
+unfoldable pub functionMeant : (t word : List ℕ) → ℕ
+functionMeant t word = ifAccepted (checkAnswer t) (λ n p. 0) (functionByWord (decode t) word)
 
 -- Function i of an accepted program, called by meaning: 21; 20 with the count given, or with the number of an argument outside its parameter's
 -- range by meaning; then the run on the numbers that the registers hold, of which there are never more than 256.

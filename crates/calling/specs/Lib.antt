@@ -1,5 +1,3 @@
-pub mod Words
-pub mod Lines
 pub mod Accepting
 pub mod Calls
 pub mod Statements

@@ -6,7 +6,8 @@ use Rattle.language.specs.Programs.{Program, noFunction}
 use Rattle.language.specs.Checking.{Verdict, check}
 use Rattle.language.specs.Running.{runOf}
 use Rattle.language.specs.Answers.{ranAs}
-use Rattle.calling.specs.Calls.{Given, firstOutside, argumentsOf, callFunction}
+use Rattle.call_words.specs.Arguments.{Given, firstOutside, argumentsOf}
+use Rattle.calling.specs.Calls.{callFunction}
 
 -- Once the count is right and every argument lies in its parameter's range, nothing is left to refuse: the answer is the run's.
 abbrev pub CallRuns : Type 0

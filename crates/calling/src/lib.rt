@@ -1,20 +1,15 @@
 // What the tool prints: the listing of a text, its functions or a translation as text, and a call in words (a function, a budget and arguments)
 // with the line of its answer.
 mod accepting;
-mod arguments;
-mod lines;
 mod listings;
 mod runs;
 mod texts;
 mod translations;
 mod words;
 
-pub use arguments::keep_argument;
 pub use listing::LISTING_MOST;
 pub use listings::list_text;
 pub use runs::run_text;
 pub use texts::write_text;
 pub use translations::translate_text;
-pub use words::Budget;
 pub use words::function_in;
-pub use words::read_budget;

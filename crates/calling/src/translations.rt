@@ -8,7 +8,7 @@ ghost use Rattle.calling.specs.Calls.{translatedLine, translatePrinted, 
 ghost use Rattle.language.specs.Programs.{maxText};
 use crate::accepting::accept;
 use crate::texts::write_lines;
-use crate::words::function_number;
+use call_words::function_number;
 use ial::Verdict;
 use ial::translate;
 use listing::list_refusal;

@@ -6,11 +6,11 @@ ghost use Rattle.language.specs.Programs.{maxRegisters};
 
 mod files;
 
-use calling::Budget;
+use call_words::Budget;
+use call_words::keep_argument;
+use call_words::read_budget;
 use calling::LISTING_MOST;
-use calling::keep_argument;
 use calling::list_text;
-use calling::read_budget;
 use calling::run_text;
 use calling::translate_text;
 use calling::write_text;

@@ -7,7 +7,7 @@ use lib.Seq.{length-take-le}
 use borrow.Author.Needs.{needs}
 use Rattle.language.specs.Table.{functionAt, functionCount, functionParams}
 use Rattle.flow.proofs.Accepted.{accepted-length, accepted-within}
-use Rattle.calling.specs.Calls.{givenOf}
+use Rattle.call_words.specs.Arguments.{givenOf}
 use Rattle.calling.proofs.CallLaws.{few-arguments, most-arguments, call-missing, call-count, call-outside, call-run}
 use Rattle.calling.proofs.runs.call.Statement.{statement}
 use Rattle.calling.proofs.runs.call.Tie as tie

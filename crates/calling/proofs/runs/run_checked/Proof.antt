@@ -1,7 +1,7 @@
 -- `run_checked`: the line of the call of the function that the word means.
 use borrow.Author.Needs.{needs}
 use Rattle.language.specs.Table.{decode}
-use Rattle.calling.specs.Calls.{givenOf}
+use Rattle.call_words.specs.Arguments.{givenOf}
 use Rattle.calling.proofs.CallLaws.{run-line}
 use Rattle.calling.proofs.runs.run_checked.Statement.{statement}
 use Rattle.calling.proofs.runs.run_checked.Tie as tie

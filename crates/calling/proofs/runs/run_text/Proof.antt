@@ -6,7 +6,8 @@ use lib.ListN.{length-replicate}
 use borrow.Author.Needs.{needs}
 use Rattle.language.specs.Programs.{Program}
 use Rattle.language.specs.Table.{tableLength}
-use Rattle.calling.specs.Calls.{givenOf, runLine, runPrinted}
+use Rattle.call_words.specs.Arguments.{givenOf}
+use Rattle.calling.specs.Calls.{runLine, runPrinted}
 use Rattle.calling.proofs.AcceptingLaws.{printed-refused, printed-accepted}
 use Rattle.calling.proofs.runs.run_text.Statement.{statement}
 use Rattle.calling.proofs.runs.run_text.Tie as tie

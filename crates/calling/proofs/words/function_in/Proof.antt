@@ -2,7 +2,7 @@
 use mathlib.Core.Path.{refl, sym, ap, _∙_}
 use borrow.Author.Needs.{needs}
 use Rattle.answers.specs.Cases.{verdictOf}
-use Rattle.calling.specs.Words.{functionMeant}
+use Rattle.calling.specs.Calls.{functionMeant}
 use Rattle.calling.proofs.AcceptingLaws.{accepted-table}
 use Rattle.calling.proofs.words.function_in.Statement.{statement}
 use Rattle.calling.proofs.words.function_in.Tie as tie
