@@ -1,5 +1,6 @@
 //! Answers 9 to 17.
 
+use crate::flow::{members, Flow};
 use crate::lexer::is_name;
 use crate::names::Names;
 use crate::table::{place, Function, Row, Table, BLOCKS, ENTRIES, FUNCTIONS, REGISTERS, ROWS};
@@ -24,7 +25,11 @@ pub(crate) fn checked(table: &[u8]) -> Result<&Table, Refusal> {
         if !fits(&function, &mut names) || (0..i).any(|j| Function::of(table, j).name() == function.name()) {
             return Err((9, i as u64));
         }
-        check_function(&function).map_err(|(number, row)| (number, place(i, row)))?;
+        let flow = Flow::of(&function);
+        if !flow.is_stored(&function) {
+            return Err((9, i as u64));
+        }
+        check_function(&function, &flow).map_err(|(number, row)| (number, place(i, row)))?;
     }
     Ok(table)
 }
@@ -47,7 +52,7 @@ impl Lowest {
     }
 }
 
-/// 9, but for a function declared twice.
+/// 9, but for a function declared twice and for the predecessors.
 fn fits<'a>(f: &Function<'a>, names: &mut Names<'a>) -> bool {
     f.ssa() <= 1
         && f.result() <= VOID
@@ -114,12 +119,11 @@ fn row_fits(f: &Function, row: &Row, entries: &mut usize) -> bool {
 }
 
 /// 10 to 17 of a function that passes 9.
-fn check_function(f: &Function) -> Result<(), Fault> {
+fn check_function(f: &Function, flow: &Flow) -> Result<(), Fault> {
     terminators(f)?;
-    let flow = Flow::of(f);
-    let assigned = forms(f, &flow)?;
+    let assigned = forms(f, flow)?;
     if f.ssa() == 1 {
-        uses(f, &flow, &assigned)?;
+        uses(f, flow, &assigned)?;
     }
     Ok(())
 }
@@ -141,75 +145,6 @@ fn terminators(f: &Function) -> Result<(), Fault> {
         }
     }
     Ok(())
-}
-
-/// Which blocks follow which, as sets of blocks.
-pub(crate) struct Flow {
-    pub successors: [u64; BLOCKS],
-    pub predecessors: [u64; BLOCKS],
-}
-
-impl Flow {
-    /// Of a function whose blocks all end with a terminator.
-    pub fn of(f: &Function) -> Flow {
-        let mut flow = Flow { successors: [0; BLOCKS], predecessors: [0; BLOCKS] };
-        for b in 0..f.blocks() {
-            let last = f.row(f.block_first(b) + f.block_rows(b) - 1);
-            flow.successors[b] = match last.instruction() {
-                JUMP => 1 << last.block(),
-                JUMP_COND => 1 << last.block() | 1 << last.other_block(),
-                _ => 0,
-            };
-            for s in members(flow.successors[b]) {
-                flow.predecessors[s] |= 1 << b;
-            }
-        }
-        flow
-    }
-
-    /// The blocks that a path from `entry` reaches, in the order they are found.
-    fn reached(&self, entry: usize) -> Vec<usize> {
-        let mut order = Vec::with_capacity(BLOCKS);
-        order.push(entry);
-        let mut seen = 1 << entry;
-        let mut next = 0;
-        while next < order.len() {
-            let new = self.successors[order[next]] & !seen;
-            seen |= new;
-            order.extend(members(new));
-            next += 1;
-        }
-        order
-    }
-
-    /// For each reached block those that are on every path to it, itself among them; all for the others.
-    fn dominators(&self, reached: &[usize]) -> [u64; BLOCKS] {
-        let entry = reached[0];
-        let mut dominators = [u64::MAX; BLOCKS];
-        dominators[entry] = 1 << entry;
-        let mut changed = true;
-        while changed {
-            changed = false;
-            for &b in &reached[1..] {
-                let common = members(self.predecessors[b]).fold(u64::MAX, |common, p| common & dominators[p]);
-                let new = common | 1 << b;
-                changed |= new != dominators[b];
-                dominators[b] = new;
-            }
-        }
-        dominators
-    }
-}
-
-/// The members of a set of blocks, in order.
-fn members(mut set: u64) -> impl Iterator<Item = usize> {
-    std::iter::from_fn(move || {
-        let lowest = set.trailing_zeros() as usize;
-        (set != 0).then(|| {
-            set &= set - 1;
-            lowest
-        })
-    })
 }
 
 /// Where a register is assigned.

@@ -5,6 +5,7 @@
 #![forbid(unsafe_code)]
 
 mod checker;
+mod flow;
 mod lexer;
 mod listing;
 mod machine;

@@ -1,5 +1,6 @@
 //! Tokens to a table: answers 1 to 8, then 22.
 
+use crate::flow::Flow;
 use crate::lexer::{Kind, Lexer, Token};
 use crate::names::Names;
 use crate::table::{FunctionMut, Row, Table, BLOCKS, ENTRIES, FUNCTIONS, REGISTERS, ROWS, TABLE};
@@ -351,7 +352,7 @@ impl<'a> Reader<'a> {
         self.advance()
     }
 
-    /// Resolves the block names at the closing brace: 8, then 7.
+    /// Resolves the block names at the closing brace: 8, then 7. Then the predecessors are known.
     fn close(&mut self, cells: &mut FunctionMut) -> Result<(), Refusal> {
         let Some(entry) = self.entry else {
             return self.refuse(8);
@@ -364,6 +365,7 @@ impl<'a> Reader<'a> {
             };
             cells.set_named_block(mention.row, mention.which, block);
         }
+        Flow::of(&cells.function()).store(cells);
         Ok(())
     }
 }

@@ -15,17 +15,19 @@ pub const ENTRIES: usize = 1024;
 pub const NAME: usize = 64;
 
 pub const REGISTER_SIZE: usize = 2 + NAME;
-pub const BLOCK_SIZE: usize = 5 + NAME;
+pub const BLOCK_SIZE: usize = BLOCK_PREDECESSORS + 1 + BLOCKS;
 pub const ROW_SIZE: usize = 12;
 /// The cells of a function.
 pub const FUNCTION: usize = FIRST_ENTRY + ENTRIES;
 const FUNCTION_NAME: usize = 9;
 pub const FIRST_REGISTER: usize = FUNCTION_NAME + NAME;
+/// In a block: the count of its predecessors, which follow.
+pub const BLOCK_PREDECESSORS: usize = 5 + NAME;
 const FIRST_BLOCK: usize = FIRST_REGISTER + REGISTERS * REGISTER_SIZE;
 const FIRST_ROW: usize = FIRST_BLOCK + BLOCKS * BLOCK_SIZE;
 const FIRST_ENTRY: usize = FIRST_ROW + ROWS * ROW_SIZE;
 
-/// The cell where function i begins; the next four are those of a function that begins at this cell.
+/// The cell where function i begins; the next five are those of a function that begins at this cell.
 pub const fn function_at(i: usize) -> usize {
     1 + FUNCTION * i
 }
@@ -34,6 +36,9 @@ pub const fn register_at(function: usize, r: usize) -> usize {
 }
 pub const fn block_at(function: usize, b: usize) -> usize {
     function + FIRST_BLOCK + BLOCK_SIZE * b
+}
+pub const fn predecessors_at(function: usize, b: usize) -> usize {
+    block_at(function, b) + BLOCK_PREDECESSORS
 }
 pub const fn row_at(function: usize, k: usize) -> usize {
     function + FIRST_ROW + ROW_SIZE * k
@@ -149,6 +154,16 @@ impl<'a> Function<'a> {
         let at = FIRST_BLOCK + BLOCK_SIZE * b;
         self.slice(at + 5, self.0[at + 4])
     }
+    /// The predecessors put down of block b.
+    pub fn predecessors(&self, b: usize) -> &'a [u8] {
+        let at = predecessors_at(0, b);
+        self.slice(at + 1, self.0[at])
+    }
+    /// The last row of block b, if it has one.
+    pub fn last_row(&self, b: usize) -> Option<Row> {
+        let rows = self.block_rows(b);
+        (rows > 0).then(|| self.row(self.block_first(b) + rows - 1))
+    }
     /// How many rows at the beginning of block b are phi.
     pub fn phis(&self, b: usize) -> usize {
         let rows = &self.row_cells()[self.block_first(b)..][..self.block_rows(b)];
@@ -185,6 +200,10 @@ impl<'a> FunctionMut<'a> {
         FunctionMut(&mut functions[i])
     }
 
+    pub fn function(&self) -> Function<'_> {
+        Function(self.0)
+    }
+
     fn set_pair(&mut self, at: usize, value: usize) {
         self.0[at..at + 2].copy_from_slice(&(value as u16).to_le_bytes());
     }
@@ -219,6 +238,15 @@ impl<'a> FunctionMut<'a> {
         self.set_pair(at, first);
         self.set_pair(at + 2, rows);
         self.set_bytes(at + 4, name);
+    }
+    pub fn set_predecessors(&mut self, b: usize, blocks: impl Iterator<Item = usize>) {
+        let at = predecessors_at(0, b);
+        let mut count = 0;
+        for (cell, block) in self.0[at + 1..].iter_mut().zip(blocks) {
+            *cell = block as u8;
+            count += 1;
+        }
+        self.0[at] = count;
     }
     pub fn set_row(&mut self, k: usize, row: Row) {
         let (rows, _) = self.0[FIRST_ROW..FIRST_ENTRY].as_chunks_mut();

@@ -1,6 +1,7 @@
 //! The translation out of ssa.
 
-use crate::checker::{checked, Flow};
+use crate::checker::checked;
+use crate::flow::Flow;
 use crate::table::{Function, FunctionMut, Row, Table, BLOCKS, REGISTERS, ROWS};
 use crate::words::*;
 use crate::Refusal;
@@ -113,6 +114,7 @@ fn write(f: &Function, plan: &Plan, cells: FunctionMut) {
         write_edges(f, plan, b, fresh, &mut out);
         fresh += plan.phis[b];
     }
+    Flow::of(&out.cells.function()).store(&mut out.cells);
 }
 
 /// The registers from `fresh` on and the edge blocks of one block with phi.

@@ -1,6 +1,6 @@
 //! Cases of document 01 and of its edges.
 
-use ial_baseline::table::{block_at, function_at, register_at, row_at};
+use ial_baseline::table::{block_at, function_at, predecessors_at, register_at, row_at};
 use ial_baseline::{check, listing, read, run, translate, Answer, Ran, TABLE};
 
 const TURN: &str = include_str!("../../examples/turn.ial");
@@ -234,6 +234,7 @@ fn tables_refused_by_number_and_place() {
     let register = |r: usize| register_at(first, r);
     let block = |b: usize| block_at(first, b);
     let row = |k: usize| row_at(first, k);
+    let list = |b: usize| predecessors_at(first, b);
     let cases: Vec<(Vec<(usize, u8)>, Result<(), (u64, u64)>)> = vec![
         (vec![], Ok(())),
         (vec![(0, 17)], Err((9, 0))),
@@ -267,7 +268,7 @@ fn tables_refused_by_number_and_place() {
         (vec![(row_at(second, 10), 36)], Err((9, 1))),
         (vec![(block(3) + 2, 0)], Err((10, 10))),
         (vec![(row(0), 35)], Err((10, 0))),
-        (vec![(row(2), 0)], Err((10, 2))),
+        (vec![(row(2), 0), (list(1), 1), (list(1) + 1, 2)], Err((10, 2))),
         (vec![(row_at(second, 10), 35)], Err((11, 2048 + 10))),
         (vec![(row(1) + 1, 6)], Err((12, 1))),
         (vec![(row(0), 30), (row(0) + 2, 2)], Err((13, 0))),
@@ -276,7 +277,8 @@ fn tables_refused_by_number_and_place() {
         (vec![(row(5) + 6, 0)], Err((15, 5))),
         (vec![(row(0), 0)], Err((16, 8))),
         (vec![(row(10) + 2, 4)], Ok(())),
-        (vec![(row(7) + 4, 2), (row(10) + 2, 3)], Ok(())),
+        // A `jump.cond` that names one block twice.
+        (vec![(row(7) + 4, 2), (list(3), 0)], Ok(())),
     ];
     for (edits, expected) in cases {
         let mut edited = source.clone();
@@ -292,6 +294,29 @@ impl Random {
     fn below(&mut self, limit: usize) -> usize {
         self.0 = self.0.wrapping_mul(6_364_136_223_846_793_005).wrapping_add(1_442_695_040_888_963_407);
         (self.0 >> 33) as usize % limit
+    }
+}
+
+/// Puts down the predecessors that the first function's rows give; it has the blocks of `turn`.
+fn relist(table: &mut [u8]) {
+    let at = function_at(0);
+    let last = |table: &[u8], b: usize| {
+        let block = block_at(at, b);
+        row_at(at, usize::from(table[block] + table[block + 2] - 1))
+    };
+    for b in 0..4 {
+        let names = |p: &u8| {
+            let row = last(table, usize::from(*p));
+            let count = match table[row] {
+                32 => 1,
+                33 => 2,
+                _ => 0,
+            };
+            table[row + 4..][..count].contains(&(b as u8))
+        };
+        let list: Vec<u8> = (0..4).filter(names).collect();
+        table[predecessors_at(at, b)] = list.len() as u8;
+        table[predecessors_at(at, b) + 1..][..list.len()].copy_from_slice(&list);
     }
 }
 
@@ -354,6 +379,8 @@ fn random_rows_are_answered() {
             (1..4).for_each(|cell| table[row + cell] = random.below(10) as u8);
             (4..6).for_each(|cell| table[row + cell] = random.below(4) as u8);
         }
+        try_table(&table);
+        relist(&mut table);
         try_table(&table);
     }
 }

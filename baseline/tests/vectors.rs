@@ -2,7 +2,7 @@
 
 mod outside;
 
-use ial_baseline::table::{block_at, entry_at, function_at, register_at, row_at};
+use ial_baseline::table::{block_at, entry_at, function_at, predecessors_at, register_at, row_at};
 use ial_baseline::{check, listing, read, run, translate, Ran, TABLE};
 use outside::{all, Expected};
 use std::fmt::Write;
@@ -83,6 +83,25 @@ fn dump_function(cells: &mut Cells, i: usize, text: &mut String) {
         let line = dump_row(cells, at, row_at(at, k));
         writeln!(text, "row\t{k}\t{line}").unwrap();
     }
+    for b in 0..blocks {
+        let list = predecessors_at(at, b);
+        let count = cells.count(list, 1);
+        let listed = cells.bytes(list + 1, count);
+        let named: Vec<u8> = (0..blocks).filter(|&p| names(cells, at, p, b)).map(|p| p as u8).collect();
+        assert_eq!(listed, named, "the predecessors of block {b} of function {i}");
+    }
+}
+
+/// Whether the last row of block p is a `jump` or `jump.cond` that names block b.
+fn names(cells: &mut Cells, function: usize, p: usize, b: usize) -> bool {
+    let block = block_at(function, p);
+    let row = row_at(function, cells.count(block, 2) + cells.count(block + 2, 2) - 1);
+    let named = match cells.count(row, 1) {
+        32 => cells.bytes(row + 4, 1),
+        33 => cells.bytes(row + 4, 2),
+        _ => &[],
+    };
+    named.contains(&(b as u8))
 }
 
 fn dump_row(cells: &mut Cells, function: usize, row: usize) -> String {

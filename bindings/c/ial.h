@@ -8,7 +8,8 @@
  *     0         done
  *     1         refused: the text is too long; place 0
  *     2 to 8    refused: the text; a byte of it
- *     9         refused: a table's length, counts, numbers or names; a function's number, 0 for the function count or the length
+ *     9         refused: a table's length, counts, numbers, names or lists of predecessors; a function's number, 0 for the function
+ *               count or the length
  *     10 to 17  refused: the check; 2048 times the function's number plus the row
  *     20        refused: arguments; how many were given, or the first that does not fit, counted from 0
  *     21        refused: no such function; 0
@@ -32,7 +33,7 @@ extern "C" {
 #endif
 
 /* The bytes of a table, the most registers a function has, and the most bytes of a text. */
-#define IAL_TABLE 555153
+#define IAL_TABLE 621713
 #define IAL_REGISTERS 256
 #define IAL_TEXT 65536
 
@@ -40,7 +41,7 @@ extern "C" {
  * at the end of the stack. The numbers are those of the compiled library, for all inputs, with at least 8 KiB to
  * spare, in whole 16 KiB; a thread needs some KiB more for itself. */
 #define IAL_READ_STACK (160 * 1024)
-#define IAL_READ_SHORT_STACK (704 * 1024) /* ial_read with an output of less than IAL_TABLE bytes */
+#define IAL_READ_SHORT_STACK (768 * 1024) /* ial_read with an output of less than IAL_TABLE bytes */
 #define IAL_CHECK_STACK (16 * 1024)
 #define IAL_SIGNATURE_STACK (16 * 1024)
 #define IAL_RUN_STACK (32 * 1024)

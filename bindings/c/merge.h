@@ -16,7 +16,8 @@
  *
  * Numbers of an answer (documents 01 and 02), with the place of each:
  *     0         done
- *     9         refused: the table's length, counts, numbers or names; a function's number, 0 for the function count or the length
+ *     9         refused: the table's length, counts, numbers, names or lists of predecessors; a function's number, 0 for the function
+ *               count or the length
  *     10 to 17  refused: the check of the table; 2048 times the function's number plus the row
  *     61        refused: no such function, or one with other parameters or another result; 0
  *     22        refused: a store of another length than MERGE_STORE, or numbers of records that are no multiple of four; 0
@@ -42,7 +43,7 @@ extern "C" {
  * at the end of the stack. The numbers are those of the compiled library, for all inputs, with at least 8 KiB to
  * spare, in whole 16 KiB; a thread needs some KiB more for itself. */
 #define MERGE_RECORD_STACK (32 * 1024)
-#define MERGE_RECORDS_STACK (64 * 1024)
+#define MERGE_RECORDS_STACK (80 * 1024)
 #define MERGE_STORE_STACK (64 * 1024)
 #define MERGE_LOOK_STACK (16 * 1024)     /* merge_empty, merge_look and merge_nth */
 

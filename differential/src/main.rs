@@ -4,20 +4,25 @@
 
 mod histories;
 mod library;
+mod lists;
 mod rng;
 mod stores;
 mod texts;
 mod writings;
 
-use ial_baseline::table::{block_at, entry_at, function_at, register_at, row_at, Function, BLOCK_SIZE, FIRST_REGISTER, FUNCTIONS, REGISTER_SIZE, ROW_SIZE};
+use ial_baseline::table::{
+    block_at, entry_at, function_at, predecessors_at, register_at, row_at, Function, BLOCK_PREDECESSORS, FIRST_REGISTER, FUNCTIONS, REGISTER_SIZE, ROW_SIZE,
+};
 use ial_baseline::{Answer, TABLE};
+use lists::Wrong;
 use rng::Rng;
 
-/// Two tables that hold the same rubbish, and how often each number was answered.
+/// Two tables that hold the same rubbish, how often each number was answered, and how often a list was made wrong in each way.
 struct Bench {
     one: Vec<u8>,
     two: Vec<u8>,
     seen: [u64; 64],
+    lists: [u64; Wrong::ALL.len()],
 }
 
 impl Bench {
@@ -67,8 +72,34 @@ impl Bench {
             if self.count(a).number == 0 {
                 self.runs(&one, 0, rng)?;
                 self.writes(&one, rng)?;
+                self.wrong_list(&one, rng)?;
             }
             (self.one, self.two) = (one, two);
+        }
+        Ok(())
+    }
+
+    /// What both make of a table that was read or translated with one list of predecessors wrong: 9 at that function, or what was wrong before it. Cells past
+    /// the count change nothing.
+    fn wrong_list(&mut self, table: &[u8], rng: &mut Rng) -> Result<(), String> {
+        let right = library::check(table)?;
+        let mut other = table.to_vec();
+        let Some((function, wrong)) = lists::make_wrong(&mut other, rng) else { return Ok(()) };
+        self.lists[wrong as usize] += 1;
+        let before = right.number != 0 && right.place / 2_048 < function;
+        let expected = if wrong == Wrong::Nothing || before { right } else { Answer { number: 9, place: function, ..right } };
+        let a = library::check(&other)?;
+        if self.count(a) != expected {
+            return Err(format!("lists: {wrong:?} in function {function}: {a:?}, and {right:?} before"));
+        }
+        if wrong == Wrong::Nothing || rng.once_in(8) {
+            self.runs(&other, function, rng)?;
+            self.lend(rng);
+            let (mut one, mut two) = (std::mem::take(&mut self.one), std::mem::take(&mut self.two));
+            let a = library::translate(&other, function, &mut one, &mut two)?;
+            (self.one, self.two) = (one, two);
+            self.count(a);
+            self.writes(&other, rng)?;
         }
         Ok(())
     }
@@ -88,12 +119,19 @@ impl Bench {
         if a.number == 0 {
             let mut table = one.clone();
             self.table(&table, rng)?;
+            for _ in 0..3 {
+                self.wrong_list(&table, rng)?;
+            }
             let mut renamed = table.clone();
             writings::rename(&mut renamed, rng);
             self.table(&renamed, rng)?;
             for _ in 0..3 {
                 disturb(&mut table, rng);
                 self.table(&table, rng)?;
+                if rng.once_in(2) {
+                    lists::put_right(&mut table);
+                    self.table(&table, rng)?;
+                }
             }
         }
         (self.one, self.two) = (one, two);
@@ -160,13 +198,14 @@ fn disturb(table: &mut Vec<u8>, rng: &mut Rng) {
     }
     for _ in 0..1 + rng.below(3) {
         let f = function_at(rng.below(3));
-        let at = match rng.below(8) {
+        let at = match rng.below(9) {
             0 => rng.below(table.len()),
             1 => rng.below(2),
             2 => f + rng.below(FIRST_REGISTER),
             3 => register_at(f, 0) + rng.below(REGISTER_SIZE * 24),
-            4 => block_at(f, 0) + rng.below(BLOCK_SIZE * 8),
+            4 => block_at(f, rng.below(8)) + rng.below(BLOCK_PREDECESSORS),
             5 => entry_at(f, rng.below(24)),
+            6 => predecessors_at(f, rng.below(8)) + rng.below(4),
             _ => row_at(f, 0) + rng.below(ROW_SIZE * 48),
         };
         let at = at.min(table.len() - 1);
@@ -174,16 +213,16 @@ fn disturb(table: &mut Vec<u8>, rng: &mut Rng) {
     }
 }
 
-/// These rounds; how often each number was answered. A difference ends the program.
-fn rounds(numbers: impl Iterator<Item = u64>) -> [u64; 64] {
-    let mut bench = Bench { one: vec![], two: vec![], seen: [0; 64] };
+/// These rounds, and what was counted. A difference ends the program.
+fn rounds(numbers: impl Iterator<Item = u64>) -> Bench {
+    let mut bench = Bench { one: vec![], two: vec![], seen: [0; 64], lists: [0; Wrong::ALL.len()] };
     for round in numbers {
         if let Err(what) = bench.round(&mut Rng::new(round + 1)) {
             println!("round {round}: {what}");
             std::process::exit(1);
         }
     }
-    bench.seen
+    bench
 }
 
 fn main() {
@@ -192,14 +231,17 @@ fn main() {
     let first = words.next().unwrap_or(0);
     let threads = std::thread::available_parallelism().map_or(1, usize::from);
     let mut seen = [0; 64];
+    let mut lists = [0; Wrong::ALL.len()];
     std::thread::scope(|scope| {
         let part = |t: usize| scope.spawn(move || rounds((first..first + count).skip(t).step_by(threads)));
         let parts: Vec<_> = (0..threads).map(part).collect();
         for part in parts {
             let more = part.join().expect("no call panics");
-            (0..64).for_each(|n| seen[n] += more[n]);
+            (0..64).for_each(|n| seen[n] += more.seen[n]);
+            (0..lists.len()).for_each(|n| lists[n] += more.lists[n]);
         }
     });
     let seen: Vec<String> = (0..64).filter(|&n| seen[n] > 0).map(|n| format!("{n}: {}", seen[n])).collect();
-    println!("{count} rounds agree; answers by number: {}", seen.join(", "));
+    let lists: Vec<String> = Wrong::ALL.iter().zip(lists).map(|(wrong, n)| format!("{wrong:?}: {n}")).collect();
+    println!("{count} rounds agree; answers by number: {}; lists of predecessors by what was wrong: {}", seen.join(", "), lists.join(", "));
 }

@@ -78,12 +78,16 @@ fn row(f: &mut Function, known: &mut Vec<usize>, rng: &mut Rng) -> String {
     format!("r{t} = {word};")
 }
 
-/// The blocks that each block goes to: every one but `entry` (number 0) may be gone to.
+/// The blocks that each block goes to: seldom `entry` (number 0), which has no phi; now and then most or all go to one.
 fn edges(count: usize, rng: &mut Rng) -> Vec<Vec<usize>> {
+    let hub = rng.below(count);
+    let share = if rng.once_in(12) { 1 + rng.below(4) } else { 0 };
+    let to = |rng: &mut Rng| if rng.once_in(16) { 0 } else { 1 + rng.below(count - 1) };
     (0..count)
         .map(|b| match rng.below(5) {
-            0 | 1 if count > 1 => vec![1 + rng.below(count - 1)],
-            2 | 3 if count > 1 => vec![1 + rng.below(count - 1), if b + 1 < count { b + 1 } else { 1 + rng.below(count - 1) }],
+            _ if rng.below(4) < share => vec![hub],
+            0 | 1 if count > 1 => vec![to(rng)],
+            2 | 3 if count > 1 => vec![to(rng), if b + 1 < count { b + 1 } else { to(rng) }],
             _ => vec![],
         })
         .collect()

@@ -109,6 +109,7 @@ fn name_function(f: &Function, mut out: FunctionMut) {
     let given: Vec<&[u8]> = (0..f.blocks()).map(|b| f.block_name(b)).collect();
     for (b, name) in names("e.", &given, Some(f.entry())).iter().enumerate() {
         out.set_block(b, f.block_first(b), f.block_rows(b), name);
+        out.set_predecessors(b, f.predecessors(b).iter().map(|&p| usize::from(p)));
     }
     for k in 0..f.rows() {
         let row = f.row(k);

@@ -38,7 +38,7 @@ pub const APPLIANCES: usize = 1_024;
 pub const RECORD_STACK: usize = 32 * 1024;
 
 /// The same for [`Store::records`].
-pub const RECORDS_STACK: usize = 64 * 1024;
+pub const RECORDS_STACK: usize = 80 * 1024;
 
 /// The same for [`Store::join`].
 pub const JOIN_STACK: usize = 64 * 1024;

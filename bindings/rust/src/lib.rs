@@ -21,7 +21,7 @@ pub use refused::Refused;
 use raw::*;
 
 /// The bytes of a table.
-pub const TABLE: usize = 555_153;
+pub const TABLE: usize = 621_713;
 
 /// The most registers a function has.
 pub const REGISTERS: usize = 256;

@@ -24,7 +24,7 @@ impl Refused {
             6 => "function, register or block declared twice",
             7 => "name not declared",
             8 => "no entry block",
-            9 => "not a table: a number, size, position or name that no text gives",
+            9 => "not a table: a number, size, position, name or list of predecessors that no text gives",
             10 => "block without terminator at its end, or one earlier",
             11 => "types wrong, or leave outside a void function",
             12 => "ssa: register assigned twice, or parameter assigned",

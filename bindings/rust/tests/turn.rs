@@ -96,6 +96,22 @@ fn cells_go_out_and_come_back() {
     assert_eq!(Table::from_cells(table.cells()), Ok(table));
 }
 
+/// The list of block `head`'s predecessors, at the offsets of docs/TABLE.md.
+#[test]
+fn another_list_of_predecessors_is_refused() {
+    let head = 1 + 16_969 + 134 + 69;
+    let mut cells = turn().cells().to_vec();
+    assert_eq!(cells[head..][..65], [&[2, 0, 2][..], &[0; 62]].concat());
+    cells[head + 3..][..62].fill(1);
+    assert_eq!(Table::from_cells(&cells).unwrap().check(), Ok(()));
+    cells.swap(head + 1, head + 2);
+    let table = Table::from_cells(&cells).unwrap();
+    let refused = Refused { number: 9, place: 0 };
+    assert_eq!(table.check(), Err(refused));
+    assert_eq!(table.run(0, &[7, 9, 2], 1_000), Err(refused));
+    assert_eq!(table.translate(0), Err(refused));
+}
+
 #[test]
 fn refusals_say_what_was_wrong() {
     let refused = Table::read(b"function ssa x").unwrap_err();

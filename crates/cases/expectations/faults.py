@@ -1,9 +1,10 @@
 """Tables made from `turn`'s: each clause of 9 broken by a cell or two, and lengths one off."""
 from .layout import TABLE, block_at, entry_at, function_at, register_at, row_at
 from .papers import TURN
+from .predecessors import of_lists
 from .programs import Function, dump
 from .runs import NONE, read
-from .script import Script
+from .script import Script, with_cells
 from .tables import needed
 
 FIRST = function_at(0)
@@ -27,12 +28,6 @@ NAMES = [('function without a name', {9: 0}), ('name of 65 bytes', {9: 65}), ('n
          ('name that is a word', {9: 3, 10: ord('s'), 11: ord('s'), 12: ord('a')}), ('quoted name not closed', {10: ord("'")}),
          ('quoted name closed before its end', {10: ord("'"), 12: ord("'")}), ('register named twice', {REGISTER + 2: ord('b')}),
          ('entry block with a name', {8: 1}), ('block named twice', {BLOCK[2] + 4: 1, BLOCK[3] + 4: 1, BLOCK[3] + 5: ord('b')})]
-
-
-def with_cells(script, table, label, changed, refused):
-    script.put(changed.items())
-    script.check(f' {label} ', refused)
-    script.put([(k, table.get(k, 0)) for k in changed])
 
 
 def of_turn(script):
@@ -63,4 +58,5 @@ def faults():
     script = Script()
     of_turn(script)
     of_others(script)
+    of_lists(script)
     return script

@@ -1,7 +1,8 @@
 """Where a table's cells are, by docs/TABLE.md. Offsets are those from where a function begins."""
 
 FUNCTIONS, REGISTERS, BLOCKS, ROWS, ENTRIES, NAME = 16, 256, 64, 1024, 1024, 64
-REGISTER_LENGTH, BLOCK_LENGTH, ROW_LENGTH = 2 + NAME, 5 + NAME, 12
+PREDECESSORS_OFFSET = 5 + NAME  # in a block, the count of its predecessors
+REGISTER_LENGTH, BLOCK_LENGTH, ROW_LENGTH = 2 + NAME, PREDECESSORS_OFFSET + 1 + BLOCKS, 12
 NAME_OFFSET = 8  # the length cell of the function's name
 REGISTERS_OFFSET = NAME_OFFSET + 1 + NAME
 BLOCKS_OFFSET = REGISTERS_OFFSET + REGISTERS * REGISTER_LENGTH
@@ -21,6 +22,10 @@ def register_at(function, r):
 
 def block_at(function, b):
     return function + BLOCKS_OFFSET + BLOCK_LENGTH * b
+
+
+def predecessors_at(function, b):
+    return block_at(function, b) + PREDECESSORS_OFFSET
 
 
 def row_at(function, k):

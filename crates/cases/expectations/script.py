@@ -78,3 +78,10 @@ class Script:
         out += self.blob
         assert len(out) <= 262144, len(out)
         return out
+
+
+def with_cells(script, table, label, changed, refused):
+    """The table checked with some cells changed, which are put back then."""
+    script.put(changed.items())
+    script.check(f' {label} ', refused)
+    script.put([(k, table.get(k, 0)) for k in changed])

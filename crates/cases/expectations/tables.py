@@ -1,5 +1,5 @@
 """The cells of a table from the lines of a dump as the outside vectors have them."""
-from .layout import NAME_OFFSET, TABLE, block_at, entry_at, function_at, register_at, row_at
+from .layout import NAME_OFFSET, TABLE, block_at, entry_at, function_at, predecessors_at, register_at, row_at
 
 TYPES = 'int8 int16 int32 int64 uint8 uint16 uint32 uint64 int uint void'.split()
 INSTRUCTIONS = ('nop load.i8 load.ui8 load.i16 load.ui16 load.i32 load.ui32 load.i64 load.ui64 ari.add ari.sub ari.mul ari.div ari.rem '
@@ -26,7 +26,7 @@ def needed(lines):
     for line in lines:
         p = line.split('\t')
         if p[0] == 'function':
-            a, entries = function_at(functions), 0
+            a, entries, ends = function_at(functions), 0, {}
             functions += 1
             n = {k: int(v) for k, v in (x.split('=') for x in p[5:])}
             put(a, int(p[3] == 'ssa'), TYPES.index(p[4]), *two(n['params']), *two(n['registers']), n['blocks'], n['entry'])
@@ -39,10 +39,23 @@ def needed(lines):
             k = block_at(a, int(p[1]))
             put(k, *two(int(p[3])), *two(int(p[4])))
             name(k + 4, p[2])
+            put(predecessors_at(a, int(p[1])), 0)
+            ends[int(p[3]) + int(p[4]) - 1] = int(p[1])
         else:
             entries += put_row(put, a, p, entries)
+            if int(p[1]) in ends:
+                put_predecessor(t, a, p, ends[int(p[1])])
     put(0, functions)
     return t
+
+
+def put_predecessor(t, a, p, block):
+    """"The blocks whose terminator names it, each once, in the order declared": a block with this last row, behind those declared before."""
+    if p[2] in ('jump', 'jump.cond'):
+        for b in set(p[5].removeprefix('blocks ').split(',')):
+            k = predecessors_at(a, int(b))
+            t[k] += 1
+            t[k + t[k]] = block
 
 
 def put_row(put, a, p, entries):

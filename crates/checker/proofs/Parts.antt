@@ -15,7 +15,7 @@ use Rattle.laws.proofs.Tests.{both-ways}
 use Rattle.language.specs.Instructions.{typeCount, void}
 use Rattle.language.specs.Programs.{isSsa, blockAt, rowsOf, maxRegisters, maxBlocks, maxRows, maxEntries}
 use Rattle.language.specs.Names.{spelled}
-use Rattle.language.specs.Table.{functionEntry, functionName, functionParams, functionSsa, functionResult, registerCount, registerName, blockCount, blockName, rowCount, entriesBefore, blocksPlaced, phisPlaced, decodeRegister, decodeBlock, decodeRow, decodeFunction}
+use Rattle.language.specs.Table.{functionEntry, functionName, functionParams, functionSsa, functionResult, registerCount, registerName, blockCount, blockName, rowCount, entriesBefore, blocksPlaced, phisPlaced, predecessorsKept, decodeRegister, decodeBlock, decodeRow, decodeFunction}
 use Rattle.language.specs.Table.{InTable}
 use Rattle.language.specs.Checking.{inRange, spelledOrNone, distinct, sound}
 use Rattle.theorems.proofs.AcceptanceCheck.{sound-parts, sound-apart, parts-sound-among}
@@ -77,6 +77,7 @@ module _ (t : List ℕ) (a : ℕ) where
       pub phis : T (phisPlaced t a)
       pub entries : entriesBefore t a (rowCount t a) ≤ maxEntries
       pub ranges : T (all (λ k. inRange (decodeFunction t a) (decodeRow t a k)) (below (rowCount t a)))
+      pub lists : T (predecessorsKept t a)
       pub name : T (spelled (functionName t a))
       pub apart : T (not (any (same (functionName t a)) (tableNamesBefore t i)))
       pub registerNames : T (all spelledOrNone (map (registerName t a) (below (registerCount t a))))
@@ -97,7 +98,8 @@ module _ (t : List ℕ) (a : ℕ) where
     cells-sound h =
         let f = decodeFunction t a in
         let p = sound-parts (tableNamesBefore t i) f h in
-        let sequence : T (blocksPlaced t a) = and-l (blocksPlaced t a) (phisPlaced t a) (p .placed) in
+        let sequence : T (blocksPlaced t a) = and-l (blocksPlaced t a) (phisPlaced t a && predecessorsKept t a) (p .placed) in
+        let others : T (phisPlaced t a && predecessorsKept t a) = and-r (blocksPlaced t a) (phisPlaced t a && predecessorsKept t a) (p .placed) in
         let placed : blocksPlaced t a ≡ true = is-true (blocksPlaced t a) sequence in
         let entry : functionEntry t a < blockCount t a = omega (arith, block-count t a) in
         record {
@@ -111,9 +113,10 @@ module _ (t : List ℕ) (a : ℕ) where
           types = moved (sym types-are) (p .types);
           sequence = sequence;
           rows = omega (arith, rows-count t a);
-          phis = and-r (blocksPlaced t a) (phisPlaced t a) (p .placed);
+          phis = and-l (phisPlaced t a) (predecessorsKept t a) others;
           entries = omega (arith, sequence-entries t a placed);
           ranges = moved (sym (ranges-are placed)) (p .ranges);
+          lists = and-r (phisPlaced t a) (predecessorsKept t a) others;
           name = p .name;
           apart = sound-apart (tableNamesBefore t i) f h;
           registerNames = moved (sym (spelled-names (λ r. r .name) (f .registers) register-names)) (p .registerNames);
@@ -122,6 +125,11 @@ module _ (t : List ℕ) (a : ℕ) where
           blocksDistinct = moved (sym (ap distinct block-names)) (p .blocksDistinct);
         }
 
+    all-placed : Right → T (decodeFunction t a .placed)
+    unfolding decodeFunction
+    all-placed h =
+        and-i (blocksPlaced t a) (phisPlaced t a && predecessorsKept t a) (h .sequence) (and-i (phisPlaced t a) (predecessorsKept t a) (h .phis) (h .lists))
+
     sound-cells : Right → T (sound (tableNamesBefore t i) (decodeFunction t a))
     unfolding decodeFunction
     sound-cells h =
@@ -129,7 +137,7 @@ module _ (t : List ℕ) (a : ℕ) where
         let placed : blocksPlaced t a ≡ true = is-true (blocksPlaced t a) (h .sequence) in
         parts-sound-among (tableNamesBefore t i) f
         (record {
-          placed = and-i (blocksPlaced t a) (phisPlaced t a) (h .sequence) (h .phis);
+          placed = all-placed h;
           registers = omega (arith, register-count t a);
           blocks = omega (arith, block-count t a);
           rows = omega (arith, rows-count t a);
@@ -164,7 +172,7 @@ module _ (t : List ℕ) (a : ℕ) where
           blocks = h .blocks;
           rows = h .rows;
           entries = h .entries;
-          placed = is-true (blocksPlaced t a && phisPlaced t a) (and-i (blocksPlaced t a) (phisPlaced t a) (h .sequence) (h .phis));
+          placed = is-true (decodeFunction t a .placed) (all-placed h);
         }
 
     right-ranges : Right → T (all (inRange (decodeFunction t a)) (rowsOf (decodeFunction t a)))

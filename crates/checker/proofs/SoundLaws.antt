@@ -3,12 +3,15 @@
 use mathlib.Core.Bool.{Bool, true, false, cond}
 use mathlib.Core.Path.{_≡_, refl}
 use mathlib.Core.List.{List}
-use Prim.Native.Nat.{ℕ, suc, _≤_, _<_}
+use Prim.Native.Nat.{ℕ, suc, _+_, _≤_, _<_}
 use native.Mathlib.Omega.{arith}
 use lib.Dec.{T, leb, leb→le}
+use lib.Ieee.Bits.{is-true}
 use lib.Ieee.Fits.{and-l, and-r}
 use Rattle.laws.proofs.Tests.{of-true}
-use Rattle.language.specs.Table.{registerCount, blockCount, rowCount, blocksPlaced}
+use Rattle.laws.proofs.Sums.{sum-below-le}
+use Rattle.language.specs.Table.{registerCount, blockCount, blockFirst, blockRows, rowCount, blocksPlaced, predecessorsKept}
+use Rattle.language.proofs.TableView.{sequence-first}
 use Rattle.checker.specs.Parts.{headRight, typesRight, blocksRight, placedRows, rowsRight, allNamesRight, soundAt, soundRows}
 use Rattle.language.specs.Programs.{maxRows, maxBlocks, maxRegisters}
 
@@ -38,6 +41,15 @@ placed-right t a h = by (blocksRight t a) h
     by true h = (refl, refl)
     by false h = absurd (omega arith)
 
+-- among which each block's are
+pub rows-among : (t : List ℕ) (a : ℕ) → placedRows t a ≤ maxRows → (b : ℕ) → b < blockCount t a → blockFirst t a b + blockRows t a b ≤ maxRows
+unfolding blocksRight
+rows-among t a h b l =
+    let right : T (blocksRight t a) = of-true (blocksRight t a) (placed-right t a h .0) in
+    let placed : blocksPlaced t a ≡ true = is-true (blocksPlaced t a) (and-l (blocksPlaced t a) (leb (rowCount t a) maxRows) right) in
+    let few : rowCount t a ≤ maxRows = leb→le (rowCount t a) maxRows (and-r (blocksPlaced t a) (leb (rowCount t a) maxRows) right) in
+    omega (arith, sequence-first t a placed b l, sum-below-le (blockRows t a) b (blockCount t a) l)
+
 module _ (t : List ℕ) (i a : ℕ) where
   pub head-fails : headRight t a ≡ false → suc maxRows ≡ soundRows t i a
   unfolding soundRows soundAt
@@ -59,13 +71,18 @@ module _ (t : List ℕ) (i a : ℕ) where
         rows-fail e = rw (head, types, placed-right t a placed .0, e)
 
         module _ (rows : rowsRight t a ≡ true) where
-          pub names-fail : allNamesRight t i a ≡ false → suc maxRows ≡ soundRows t i a
+          pub lists-fail : predecessorsKept t a ≡ false → suc maxRows ≡ soundRows t i a
           unfolding soundRows soundAt
-          names-fail e = rw (head, types, placed-right t a placed .0, rows, e)
+          lists-fail e = rw (head, types, placed-right t a placed .0, rows, e)
 
-          pub none-fails : allNamesRight t i a ≡ true → placedRows t a ≡ soundRows t i a
-          unfolding soundRows soundAt
-          none-fails e = rw (head, types, placed-right t a placed .0, rows, e) (placed-right t a placed .1)
+          module _ (lists : predecessorsKept t a ≡ true) where
+            pub names-fail : allNamesRight t i a ≡ false → suc maxRows ≡ soundRows t i a
+            unfolding soundRows soundAt
+            names-fail e = rw (head, types, placed-right t a placed .0, rows, lists, e)
+
+            pub none-fails : allNamesRight t i a ≡ true → placedRows t a ≡ soundRows t i a
+            unfolding soundRows soundAt
+            none-fails e = rw (head, types, placed-right t a placed .0, rows, lists, e) (placed-right t a placed .1)
 
   -- 9 does not hold, or it does
   pub is-sound : soundRows t i a ≤ maxRows → (soundAt t i a ≡ true) × (soundRows t i a ≡ rowCount t a)

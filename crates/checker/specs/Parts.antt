@@ -8,7 +8,7 @@ use Rattle.laws.specs.Lists.{any, all, below, empty, same}
 use Rattle.language.specs.Instructions.{typeCount, void, phiOp}
 use Rattle.language.specs.Programs.{maxRegisters, maxBlocks, maxRows, maxEntries}
 use Rattle.language.specs.Names.{spelled}
-use Rattle.language.specs.Table.{functionAt, functionSsa, functionResult, functionParams, registerCount, blockCount, functionEntry, functionName, registerType, blockName, rowOp, phiFirst, phiCount, rowCount, entriesBefore, blocksPlaced, phisPlaced, decodeRow, decodeFunction}
+use Rattle.language.specs.Table.{functionAt, functionSsa, functionResult, functionParams, registerCount, blockCount, functionEntry, functionName, registerType, blockName, rowOp, phiFirst, phiCount, rowCount, entriesBefore, blocksPlaced, phisPlaced, predecessorsKept, decodeRow, decodeFunction}
 use Rattle.language.specs.Table.{blockLength, blockNamesOffset, registerLength, registerNamesOffset}
 use Rattle.language.specs.Checking.{inRange, spelledOrNone, distinct}
 use Rattle.spelling.specs.Names.{namesIn}
@@ -64,7 +64,7 @@ allNamesRight t i a =
 
 -- All of it.
 unfoldable pub soundAt : List ℕ → ℕ → ℕ → Bool
-soundAt t i a = headRight t a && (typesRight t a && (blocksRight t a && (rowsRight t a && allNamesRight t i a)))
+soundAt t i a = headRight t a && (typesRight t a && (blocksRight t a && (rowsRight t a && (predecessorsKept t a && allNamesRight t i a))))
 
 -- How many rows the function has if so; else one more than there may be.
 unfoldable pub soundRows : List ℕ → ℕ → ℕ → ℕ

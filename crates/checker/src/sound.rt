@@ -10,6 +10,7 @@ ghost use Rattle.language.specs.Programs.{maxRows, maxBlocks, maxRegisters, max
 ghost use Rattle.table.specs.Named.{NamesWithin};
 use instructions::ops;
 use instructions::types;
+use predecessors::predecessors_kept;
 use rules::in_range;
 use spelling::all_spelled;
 use spelling::distinct_names;
@@ -210,6 +211,9 @@ pub fn sound_rows(t: &[u8], i: usize, a: usize, classes: &[u8; 256]) -> usize
         return MAX_ROWS + 1;
     }
     if !rows_right(t, a, registers, blocks, rows) {
+        return MAX_ROWS + 1;
+    }
+    if !predecessors_kept(t, a, blocks) {
         return MAX_ROWS + 1;
     }
     if !names_right(t, i, a, registers, blocks, classes) {

@@ -1,7 +1,7 @@
 -- What a table that passes its check whole gives of each of its functions: what runs, translations and texts ask for.
 -- Assumes nothing.
 use mathlib.Core.Path.{_≡_, subst, subst⁻¹}
-use mathlib.Core.Bool.{true, and-eq-true-iff}
+use mathlib.Core.Bool.{true, _&&_, and-eq-true-iff}
 use mathlib.Core.List.{List, []}
 use Prim.Native.Nat.{ℕ, _≤_, _<_}
 use native.Mathlib.Omega.{arith}
@@ -9,7 +9,7 @@ use lib.Dec.{eqb, leb, eqb→eq, leb→le}
 use lib.Ieee.Bits.{is-true}
 use lib.ListN.{length}
 use Rattle.language.specs.Programs.{maxFunctions}
-use Rattle.language.specs.Table.{tableLength, functionAt, functionCount, functionParams, registerCount, blocksPlaced, phisPlaced, decode, decodeFunction}
+use Rattle.language.specs.Table.{tableLength, functionAt, functionCount, functionParams, registerCount, blocksPlaced, phisPlaced, predecessorsKept, decode, decodeFunction}
 use Rattle.language.specs.Table.{InTable}
 use Rattle.language.specs.Checking.{Verdict, check, judgeFrom}
 use Rattle.language.specs.Answers.{checkAnswer}
@@ -52,7 +52,7 @@ module _ (t : List ℕ) (e : checkAnswer t ≡ Verdict.accepted) where
           registers = omega (arith, s .registers, register-count t a);
           blocks = omega (arith, s .blocks, block-count t a);
           rows = omega (arith, s .rows, rows-count t a);
-          entries = omega (arith, s .entries, sequence-entries t a (and-eq-true-iff (blocksPlaced t a) (phisPlaced t a) .0 placed .0));
+          entries = omega (arith, s .entries, sequence-entries t a (and-eq-true-iff (blocksPlaced t a) (phisPlaced t a && predecessorsKept t a) .0 placed .0));
           placed = placed;
         }
 

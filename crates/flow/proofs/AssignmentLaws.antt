@@ -4,7 +4,7 @@ use mathlib.Core.Path.{_≡_, refl, sym, ap, _∙_, subst}
 use mathlib.Core.Bool.{Bool, true, false, cond, not, _||_, true≢false}
 use mathlib.Core.List.{List, [], _∷_}
 use Prim.Native.Nat.{ℕ, suc, _+_, _≤_, _<_}
-use native.Mathlib.Nat.{zero-add, zero-lt-suc, not-suc-le-zero}
+use native.Mathlib.Nat.{zero-lt-suc, not-suc-le-zero}
 use native.Mathlib.Numerals.{add-one}
 use native.Mathlib.Decide.{ℕ-discrete, decLt}
 use native.Mathlib.Omega.{arith}
@@ -216,9 +216,8 @@ module _ (t : List ℕ) (a : ℕ) (fit : Preparable t a) (b j : ℕ) (lb : b < b
 
 -- ---- before the first row, and from block to block
 
-pub none-noted : (f : Func) (m : List ℕ) → length m ≡ flowLength → ((u : ℕ) → u < maxRegisters → getD m (0 + u) 0 ≡ 0) → Noted f m 0
-none-noted f m e h =
-    record { count = e; seen = λ u l. never (rw zero-add at (h u l)) (λ i n. absurd (not-suc-le-zero n)) }
+pub none-noted : (f : Func) (m : List ℕ) → length m ≡ flowLength → ((u : ℕ) → u < maxRegisters → assignmentIn m u ≡ 0) → Noted f m 0
+none-noted f m e h = record { count = e; seen = λ u l. never (h u l) (λ i n. absurd (not-suc-le-zero n)) }
 
 -- the rows before the next block are those before this one and its own
 pub rows-more : (t : List ℕ) (a b : ℕ) → rowsBefore t a (b + 1) ≡ rowsBefore t a b + blockRows t a b

@@ -17,7 +17,7 @@ use Rattle.language.specs.Instructions.{phiOp}
 use Rattle.language.specs.Programs.{Func, Row, isPhi, maxBlocks}
 use Rattle.language.specs.Table.{blockCount, blockFirst, blockRows, rowOp, decodeRow, decodeBlock, decodeFunction}
 use Rattle.language.proofs.TableView.{block-is, phi-row}
-use Rattle.flow.specs.Layout.{phisOffset, ranksOffset, flowLength}
+use Rattle.flow.specs.Layout.{phisOffset, flowLength}
 use Rattle.flow.specs.Leading.{leadingPhis, Led}
 use Rattle.flow.proofs.Firsts.{leading-to, leading-all}
 
@@ -64,7 +64,7 @@ pub lead-is :
 lead-is t a b l first rows p q v e = e ∙ rw (p, q) (leading-is t a b l)
 
 pub none-led : (f : Func) (m : List ℕ) → Led f m m 0
-none-led f m = record { count = refl; phis = λ b q. absurd (not-suc-le-zero q); before = λ i q. refl; after = λ i. refl }
+none-led f m = record { count = refl; phis = λ b q. absurd (not-suc-le-zero q); before = λ i q. refl }
 
 -- one block more
 pub led-more :
@@ -82,5 +82,4 @@ led-more f m m′ b v n l e h =
           (λ x q. getD-set-other m′ (phisOffset + b) (phisOffset + x) v 0 (λ d. omega arith) ∙ h .phis x q)
           (getD-set-same m′ (phisOffset + b) v 0 (omega (arith, h .count)) ∙ e);
       before = λ i q. getD-set-other m′ (phisOffset + b) i v 0 (λ d. omega arith) ∙ h .before i q;
-      after = λ i. getD-set-other m′ (phisOffset + b) (ranksOffset + i) v 0 (λ d. omega arith) ∙ h .after i;
     }

@@ -1,9 +1,6 @@
 pub mod Accepted
 pub mod AssignmentLaws
-pub mod Ends
 pub mod Firsts
-pub mod PredecessorLaws
 pub mod LeadingLaws
 pub mod PreparedLaws
 pub mod Standing
-pub mod TallyLaws

@@ -1,7 +1,7 @@
 -- The numbers prepared of a function: where each kind stands, from the parts, and its accessor. No other page says these places.
 -- Assumes nothing.
 use mathlib.Core.List.{List}
-use Prim.Native.Nat.{ℕ, _+_, _*_}
+use Prim.Native.Nat.{ℕ, _+_}
 use lib.ListN.{getD}
 use Rattle.language.specs.Programs.{maxRegisters, maxBlocks}
 
@@ -9,20 +9,12 @@ use Rattle.language.specs.Programs.{maxRegisters, maxBlocks}
 abbrev pub homesOffset : ℕ
 homesOffset = maxRegisters
 
--- For each block the count of its predecessors,
-abbrev pub incomingOffset : ℕ
-incomingOffset = homesOffset + maxRegisters
-
--- the count of its leading phi,
+-- For each block the count of its leading phi.
 abbrev pub phisOffset : ℕ
-phisOffset = incomingOffset + maxBlocks
-
--- and its ranks, one for each of the two blocks that it may go to.
-abbrev pub ranksOffset : ℕ
-ranksOffset = phisOffset + maxBlocks
+phisOffset = homesOffset + maxRegisters
 
 abbrev pub flowLength : ℕ
-flowLength = ranksOffset + 2 * maxBlocks
+flowLength = phisOffset + maxBlocks
 
 -- ---- The accessors.
 
@@ -34,14 +26,6 @@ assignmentIn m u = getD m u 0
 abbrev pub homeIn : List ℕ → ℕ → ℕ
 homeIn m u = getD m (homesOffset + u) 0
 
--- How many predecessors block b has.
-abbrev pub incomingIn : List ℕ → ℕ → ℕ
-incomingIn m b = getD m (incomingOffset + b) 0
-
 -- How many phi lead block b.
 abbrev pub phisIn : List ℕ → ℕ → ℕ
 phisIn m b = getD m (phisOffset + b) 0
-
--- The rank of block x among the predecessors of the k-th block that it goes to.
-abbrev pub rankIn : List ℕ → ℕ → ℕ → ℕ
-rankIn m x k = getD m (ranksOffset + 2 * x + k) 0

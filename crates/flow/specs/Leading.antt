@@ -2,20 +2,18 @@
 -- Assumes nothing.
 use mathlib.Core.Path.{_≡_}
 use mathlib.Core.List.{List}
-use Prim.Native.Nat.{ℕ, _+_, _<_}
+use Prim.Native.Nat.{ℕ, _<_}
 use lib.ListN.{length, getD}
 use Rattle.laws.specs.Lists.{leading}
 use Rattle.language.specs.Programs.{Func, isPhi, rowsAt}
-use Rattle.flow.specs.Layout.{phisOffset, ranksOffset, phisIn}
-use Rattle.flow.specs.Changes.{SameBefore}
+use Rattle.flow.specs.Layout.{phisOffset, phisIn}
 
 -- How many phi stand before the first other row of block b.
 unfoldable pub leadingPhis : Func → ℕ → ℕ
 leadingPhis f b = length (leading isPhi (rowsAt f b))
 
--- The leading phi of the first x blocks are put into m, which becomes m′, and nothing else changes.
+-- The leading phi of the first x blocks are put into m, which becomes m′, and nothing before them changes.
 pub record Led (f : Func) (m m′ : List ℕ) (x : ℕ) : Type 0 where
   pub count : length m′ ≡ length m
   pub phis : (b : ℕ) → b < x → phisIn m′ b ≡ leadingPhis f b
-  pub before : SameBefore phisOffset m m′
-  pub after : (i : ℕ) → getD m′ (ranksOffset + i) 0 ≡ getD m (ranksOffset + i) 0
+  pub before : (i : ℕ) → i < phisOffset → getD m′ i 0 ≡ getD m i 0

@@ -1,7 +1,5 @@
 pub mod Layout
 pub mod Sized
-pub mod Changes
 pub mod Assignments
-pub mod Predecessors
 pub mod Leading
 pub mod Prepared

@@ -64,7 +64,7 @@ pub fn prepare_assignments(t: &[u8], a: usize, m: &mut [u16])
     requires { ⌜ Preparable (now t) a × (length (now m) ≡ flowLength) ⌝ }
     ensures { λ _. ⌜ Noted (decodeFunction (now (t .entry)) a) (now (m .exit)) (rowCount (now (t .entry)) a) ⌝ }
 {
-    clear(m, 0, MAX_REGISTERS);
+    clear(m, MAX_REGISTERS);
     let blocks = block_count(t, a);
     let mut b = 0;
     while b < blocks {

@@ -1,16 +1,16 @@
 // Single numbers of those prepared.
-ghost use Prim.Native.Nat.{_+_, _≤_};
-ghost use lib.ListN.{length};
-ghost use Rattle.flow.specs.Changes.{Zeroed};
+ghost use mathlib.Core.Path.{_≡_};
+ghost use Prim.Native.Nat.{ℕ, _<_, _≤_};
+ghost use lib.ListN.{length, getD};
 
-// n numbers from `first` on become 0.
-pub fn clear(m: &mut [u16], first: usize, n: usize)
-    requires { ⌜ first + n ≤ length (now m) ⌝ }
-    ensures { λ _. ⌜ Zeroed (now (m .entry)) first n (now (m .exit)) ⌝ }
+// The first n numbers become 0.
+pub fn clear(m: &mut [u16], n: usize)
+    requires { ⌜ n ≤ length (now m) ⌝ }
+    ensures { λ _. ⌜ ((i : ℕ) → i < n → getD (now (m .exit)) i 0 ≡ 0) ⌝ }
 {
     let mut i = 0;
     while i < n {
-        m[first + i] = 0;
+        m[i] = 0;
         i += 1;
     }
 }

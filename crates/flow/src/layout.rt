@@ -4,10 +4,6 @@ use table::MAX_REGISTERS;
 
 pub const HOMES_OFFSET: usize = MAX_REGISTERS;
 
-pub const INCOMING_OFFSET: usize = HOMES_OFFSET + MAX_REGISTERS;
+pub const PHIS_OFFSET: usize = HOMES_OFFSET + MAX_REGISTERS;
 
-pub const PHIS_OFFSET: usize = INCOMING_OFFSET + MAX_BLOCKS;
-
-pub const RANKS_OFFSET: usize = PHIS_OFFSET + MAX_BLOCKS;
-
-pub const FLOW_LENGTH: usize = RANKS_OFFSET + 2 * MAX_BLOCKS;
+pub const FLOW_LENGTH: usize = PHIS_OFFSET + MAX_BLOCKS;

@@ -1,20 +1,15 @@
-// What is prepared of a function once, so that nothing scans it again: where its registers are first assigned, the predecessors of its
-// blocks with their ranks, its leading phi. The numbers are lent as `&[u16]` of one length; `Layout` says which stands where, and each
-// kind has its accessor.
+// What is prepared of a function once, so that nothing scans it again: where its registers are first assigned, and its leading phi. The
+// numbers are lent as `&[u16]` of one length; `Layout` says which stands where, and each kind has its accessor.
 mod accessors;
 mod assignments;
 mod cells;
 mod layout;
 mod leading;
-mod predecessors;
 
 pub use accessors::assignment;
 pub use accessors::home;
-pub use accessors::incoming;
 pub use accessors::phis;
-pub use accessors::rank;
 pub use layout::FLOW_LENGTH;
-pub use predecessors::prepare_predecessors;
 ghost use mathlib.Core.Path.{_≡_};
 ghost use lib.ListN.{length};
 ghost use Rattle.language.specs.Table.{decodeFunction};
@@ -30,6 +25,5 @@ pub fn prepare(t: &[u8], a: usize, m: &mut [u16])
     ensures { λ _. ⌜ Prepared (decodeFunction (now (t .entry)) a) (now (m .exit)) ⌝ }
 {
     prepare_assignments(t, a, m);
-    prepare_predecessors(t, a, m);
     prepare_leading(t, a, m);
 }

@@ -8,4 +8,5 @@ pub mod WriteLaws
 pub mod Demand
 pub mod Known
 pub mod Ignored
+pub mod Predecessors
 pub mod RoundTrip

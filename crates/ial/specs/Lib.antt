@@ -3,4 +3,5 @@ pub mod Runs
 pub mod Calls
 pub mod Demand
 pub mod Ignored
+pub mod Predecessors
 pub mod RoundTrip

@@ -1,30 +1,26 @@
-// Running a function of a lent table on many arguments, each by itself: the table is checked, the predecessors counted and the scratch of the
-// phi cleared once.
+// Running a function of a lent table on many arguments, each by itself: the table is checked and the scratch of the phi
+// cleared once.
 ghost use mathlib.Core.Path.{_≡_};
 ghost use mathlib.Core.List.{[], _∷_};
 ghost use Prim.Native.Nat.{_*_, _<_};
 ghost use lib.Dec.{eqb};
 ghost use lib.ListN.{length};
 ghost use Rattle.language.specs.Checking.{Verdict as Verdictᴸ};
-ghost use Rattle.language.specs.Table.{functionAt, functionCount, blockCount, decode, decodeFunction};
+ghost use Rattle.language.specs.Table.{functionCount, decode};
 ghost use Rattle.language.specs.Answers.{checkAnswer, ranNumbers, runFunction, runEach};
-ghost use Rattle.flow.specs.Predecessors.{Flowed};
 ghost use Rattle.answers.specs.Numbers.{numbersOf};
 ghost use Rattle.ial.specs.Runs.{cellsFrom};
 ghost use Rattle.ial.specs.Calls.{RunEachCalled};
 ghost use Rattle.language.specs.Programs.{maxRows};
-use crate::running::run_prepared;
+use crate::running::run_within;
 use answers::Answer;
 use answers::Verdict;
 use answers::put_numbers;
 use answers::run_numbers;
 use answers::verdict_numbers;
 use checker::check_table;
-use flow::FLOW_LENGTH;
-use flow::prepare_predecessors;
 use machine::start;
 use table::MAX_ROWS;
-use table::function_at;
 use table::function_count;
 
 // One answer for every argument.
@@ -39,11 +35,10 @@ fn same_each(x: Answer, args: &[u64], out: &mut [u64])
     }
 }
 
-// A function of a table that passes its check, its predecessors counted: a run for every argument, whatever the registers hold.
+// A function of a table that passes its check: a run for every argument, whatever the registers hold.
 fn run_all(
     t: &[u8],
     i: usize,
-    m: &[u16],
     args: &[u64],
     budget: u64,
     taken: &mut [u64],
@@ -52,14 +47,14 @@ fn run_all(
 )
     requires { ⌜ checkAnswer (now t) ≡ Verdictᴸ.accepted ⌝ }
     requires { ⌜ i < functionCount (now t) ⌝ }
-    requires { ⌜ Flowed (decodeFunction (now t) (functionAt i)) (now m) (blockCount (now t) (functionAt i)) × (length (now taken) ≡ maxRows) ⌝ }
+    requires { ⌜ length (now taken) ≡ maxRows ⌝ }
     requires { ⌜ length (now out) ≡ 4 * length (now args) ⌝ }
     ensures { λ _. ⌜ now (out .exit) ≡ cellsFrom (λ a. ranNumbers (runFunction (decode (now (t .entry))) i (a ∷ []) budget (length (now (registers .entry))) .answer)) (now (args .entry)) ⌝ }
 {
     let mut k = 0;
     while k < args.len() {
         let e = k + 1;
-        let r = run_prepared(t, i, m, &args[k..e], budget, taken, registers);
+        let r = run_within(t, i, &args[k..e], budget, taken, registers);
         put_numbers(out, 4 * k, run_numbers(r));
         k += 1;
     }
@@ -83,10 +78,8 @@ fn each_checked(
         return;
     }
     let i = function as usize;
-    let mut m = [0u16; FLOW_LENGTH];
-    prepare_predecessors(t, function_at(i), &mut m);
     let mut taken = [0u64; MAX_ROWS];
-    run_all(t, i, &m, args, budget, &mut taken, registers, out);
+    run_all(t, i, args, budget, &mut taken, registers, out);
 }
 
 // What `run` answers for every argument.

@@ -3,9 +3,8 @@ ghost use mathlib.Core.Path.{_≡_};
 ghost use Prim.Native.Nat.{_<_};
 ghost use lib.ListN.{length};
 ghost use Rattle.language.specs.Checking.{Verdict as Verdictᴸ};
-ghost use Rattle.language.specs.Table.{functionAt, functionCount, blockCount, decode, decodeFunction};
+ghost use Rattle.language.specs.Table.{functionCount, decode};
 ghost use Rattle.language.specs.Answers.{zeros, checkAnswer, runFunction};
-ghost use Rattle.flow.specs.Predecessors.{Flowed};
 ghost use Rattle.machine.specs.Runs.{ranIn};
 ghost use Rattle.answers.specs.Cases.{ranOf};
 ghost use Rattle.answers.specs.Lent.{finishedOf};
@@ -16,8 +15,6 @@ use answers::Ran;
 use answers::Verdict;
 use answers::row_place;
 use checker::check_table;
-use flow::FLOW_LENGTH;
-use flow::prepare_predecessors;
 use machine::Outcome;
 use machine::Run;
 use machine::first_unfit;
@@ -44,12 +41,11 @@ fn answer_of(i: usize, r: Run) -> Ran
     }
 }
 
-// A function of a table that passes its check, its predecessors counted: "running then 20, 22". The registers may hold anything; where they
+// A function of a table that passes its check: "running then 20, 22". The registers may hold anything; where they
 // are all zero, a refusal leaves them so. This is the one place that calls `run_on`, for a run and for many.
-pub fn run_prepared(
+pub fn run_within(
     t: &[u8],
     i: usize,
-    m: &[u16],
     args: &[u64],
     budget: u64,
     taken: &mut [u64],
@@ -57,7 +53,7 @@ pub fn run_prepared(
 ) -> Ran
     requires { ⌜ checkAnswer (now t) ≡ Verdictᴸ.accepted ⌝ }
     requires { ⌜ i < functionCount (now t) ⌝ }
-    requires { ⌜ Flowed (decodeFunction (now t) (functionAt i)) (now m) (blockCount (now t) (functionAt i)) × (length (now taken) ≡ maxRows) ⌝ }
+    requires { ⌜ length (now taken) ≡ maxRows ⌝ }
     ensures { λ r. ⌜ RunsTo (decode (now (t .entry))) i (now (args .entry)) budget (now (registers .entry)) r (now (registers .exit)) ⌝ }
 {
     let a = function_at(i);
@@ -71,7 +67,7 @@ pub fn run_prepared(
     if registers.len() < register_count(t, a) {
         return Ran::Refused(22, 0);
     }
-    answer_of(i, run_on(t, a, m, args, budget, taken, registers))
+    answer_of(i, run_on(t, a, args, budget, taken, registers))
 }
 
 // A table that passes its check: "then 21; running then 20, 22".
@@ -84,10 +80,8 @@ fn run_checked(t: &[u8], function: u64, args: &[u64], budget: u64, registers: &m
         return Ran::Refused(21, 0);
     }
     let i = function as usize;
-    let mut m = [0u16; FLOW_LENGTH];
-    prepare_predecessors(t, function_at(i), &mut m);
     let mut taken = [0u64; MAX_ROWS];
-    run_prepared(t, i, &m, args, budget, &mut taken, registers)
+    run_within(t, i, args, budget, &mut taken, registers)
 }
 
 // Runs a function of a lent table on arguments, for at most `budget` steps: 9 to 17, 21, 20, 22; 40 to 43. The lent registers hold the

@@ -3,14 +3,15 @@
 use mathlib.Core.Bool.{true, false}
 use mathlib.Core.Path.{_≡_, refl}
 use mathlib.Core.List.{List, [], _∷_}
-use Prim.Native.Nat.{ℕ, zero, suc}
-use lib.ListN.{take}
+use Prim.Native.Nat.{ℕ, zero, suc, _+_, _-_}
+use lib.ListN.{take, drop}
 use Rattle.laws.specs.Sections.{pad}
 use Rattle.language.specs.Instructions.{formOf}
 use Rattle.language.specs.Programs.{Row, Func, rowsOf}
-use Rattle.language.specs.Table.{decodeRow, decodeAs, decodeRegister, decodeBlock, blocksPlaced, phisPlaced, decodeFunction, rowsOffset}
-use Rattle.language.specs.Table.{nameCells, registerCells, blockCells, rowCells, headCells, registerSection, blockSection, rowSection}
-use Rattle.language.specs.Table.{entrySection, functionCells}
+use Rattle.language.specs.Table.{decodeRow, decodeAs, decodeRegister, decodeBlock, blocksPlaced, phisPlaced, predecessorsKept, decodeFunction, rowsOffset, blockCountOffset, blocksOffset, blocksLength}
+use Rattle.language.specs.Table.{nameCells, registerCells, predecessorCells, blockCells, rowCells, headCells, registerSection, blockSection, rowSection}
+use Rattle.language.specs.Table.{entrySection, cellsListing, predecessorLists, functionCells}
+use Rattle.language.specs.Checking.{goesTo, predecessors}
 
 -- ---- A row of each form, its entries beginning at 259.
 
@@ -56,9 +57,16 @@ register-cells : take 6 (registerCells (record { type = 9; name = 97 ∷ 98 ∷ 
 unfolding registerCells nameCells pad
 register-cells = refl
 
-block-cells : take 8 (blockCells 259 (record { name = 99 ∷ []; rows = Row.nop ∷ Row.leave ∷ [] })) ≡ 3 ∷ 1 ∷ 2 ∷ 0 ∷ 1 ∷ 99 ∷ 0 ∷ 0 ∷ []
+abbrev laid : List ℕ
+laid = blockCells 259 (record { block = record { name = 99 ∷ []; rows = Row.nop ∷ Row.leave ∷ [] }; list = 2 ∷ 5 ∷ [] })
+
+block-cells : take 8 laid ≡ 3 ∷ 1 ∷ 2 ∷ 0 ∷ 1 ∷ 99 ∷ 0 ∷ 0 ∷ []
 unfolding blockCells nameCells pad
 block-cells = refl
+
+predecessor-cells : take 5 (drop 69 laid) ≡ 2 ∷ 2 ∷ 5 ∷ 0 ∷ 0 ∷ []
+unfolding blockCells nameCells predecessorCells pad
+predecessor-cells = refl
 
 -- ---- One function, written and read back.
 
@@ -71,7 +79,7 @@ example =
       params = 1;
       registers = record { type = 4; name = 97 ∷ 98 ∷ [] } ∷ record { type = 9; name = [] } ∷ [];
       blocks =
-          record { name = []; rows = Row.load 2 1 255 ∷ [] }
+          record { name = []; rows = Row.load 2 1 255 ∷ Row.branch 1 1 1 ∷ [] }
           ∷ record { name = 99 ∷ []; rows = Row.phi 0 (1 ∷ []) ∷ [] }
           ∷ [];
       entry = 0;
@@ -79,8 +87,18 @@ example =
     }
 
 example-back : decodeFunction (functionCells example) 0 ≡ example
-unfolding pad formOf rowsOf decodeRow decodeAs decodeRegister decodeBlock blocksPlaced phisPlaced decodeFunction nameCells registerCells blockCells rowCells headCells registerSection blockSection rowSection entrySection functionCells
+unfolding pad formOf rowsOf decodeRow decodeAs decodeRegister decodeBlock blocksPlaced phisPlaced predecessorsKept decodeFunction nameCells registerCells predecessorCells blockCells rowCells headCells registerSection blockSection rowSection entrySection goesTo predecessors predecessorLists cellsListing functionCells
 example-back = refl
+
+-- "each once": a branch that names a block twice is one predecessor.
+once : predecessorLists example ≡ [] ∷ (0 ∷ []) ∷ []
+unfolding goesTo predecessors predecessorLists
+once = refl
+
+-- A list with that block twice is not document 01's.
+twice : decodeFunction (cellsListing ([] ∷ (0 ∷ 0 ∷ []) ∷ []) example) 0 .placed ≡ false
+unfolding pad formOf rowsOf decodeRow decodeAs decodeRegister decodeBlock blocksPlaced phisPlaced predecessorsKept decodeFunction nameCells registerCells predecessorCells blockCells rowCells headCells registerSection blockSection rowSection entrySection goesTo predecessors cellsListing
+twice = refl
 
 -- ---- A stored position that is not the one the counts give: a block at row x, whose one row is a phi with its entries
 -- from y on. Right are 0 and 0.
@@ -91,7 +109,7 @@ behind zero xs = xs
 behind (suc n) xs = let rest = behind n xs in 7 ∷ rest
 
 abbrev stored : ℕ → ℕ → List ℕ
-stored x y = behind 6 (1 ∷ behind 16962 (x ∷ 0 ∷ 1 ∷ 0 ∷ behind 4412 (31 ∷ 7 ∷ 7 ∷ 7 ∷ y ∷ 0 ∷ 2 ∷ 0 ∷ [])))
+stored x y = behind blockCountOffset (1 ∷ behind (blocksOffset - (blockCountOffset + 1)) (x ∷ 0 ∷ 1 ∷ 0 ∷ behind (blocksLength - 4) (31 ∷ 7 ∷ 7 ∷ 7 ∷ y ∷ 0 ∷ 2 ∷ 0 ∷ [])))
 
 block-misplaced : blocksPlaced (stored 1 0) 0 ≡ false
 unfolding blocksPlaced

@@ -1,24 +1,28 @@
 -- What the accessors of a table's cells have to do with the program that it decodes to.
 -- Assumes nothing.
-use mathlib.Core.Bool.{true, cond, and-eq-true-iff}
+use mathlib.Core.Bool.{Bool, true, cond, _&&_, and-eq-true-iff}
 use mathlib.Core.Path.{_≡_, refl, sym, ap, _∙_}
 use mathlib.Core.List.{List, [], _∷_, map, map-map}
-use Prim.Native.Nat.{ℕ, _+_, _<_}
+use Prim.Native.Nat.{ℕ, _+_, _*_, _<_}
 use native.Mathlib.Nat.{zero-add}
 use native.Mathlib.Omega.{arith}
 use lib.Dec.{eqb}
-use lib.ListN.{length, getD, take}
+use lib.ListN.{length, getD, take, drop, length-drop}
+use lib.Seq.{getD-take, getD-drop, length-take-le}
 use borrow.Author.Tests.{eqb-true}
-use Rattle.laws.specs.Lists.{below, sum}
+use Rattle.laws.specs.Lists.{below, same, sum}
 use Rattle.laws.proofs.Gather.{length-gather}
 use Rattle.laws.proofs.Ranges.{length-map-from, getD-map-from, gather-from, all-from-at, map-from-take, map-from-same}
 use Rattle.laws.proofs.Sums.{gather-map, sum-same}
+use Rattle.laws.proofs.Positions.{same-eq}
+use Rattle.laws.proofs.Tests.{of-true}
 use Rattle.language.specs.Instructions.{Form, formOf, formNumber, hasTarget, sourceCount, phiOp}
 use Rattle.language.proofs.FormLaws.{by-form, phi-form}
-use Rattle.language.specs.Programs.{Row, Block, typeAt, blockAt, rowsAt, rowsOf, firstRow, opOf, targetsOf, sourcesOf, entriesOf, isPhi, entryCount, noRegister, noBlock, noFunction}
+use Rattle.language.specs.Programs.{Row, Block, typeAt, blockAt, rowsAt, rowsOf, firstRow, opOf, targetsOf, sourcesOf, entriesOf, isPhi, entryCount, noRegister, noBlock, noFunction, maxBlocks}
 use Rattle.language.specs.Table.{functionCount, functionAt, functionEntry, registerCount, registerType, blockCount, blockFirst, blockRows, rowsBefore}
 use Rattle.language.specs.Table.{rowCount, phiFirst, phiCount, phiEntry, rowEntries, entriesBefore, rowOp, rowTarget, rowLeft, rowRight, decodeRegister, decodeAs, decodeRow, decodeBlock, decodeFunction, decode}
-use Rattle.language.specs.Table.{blocksPlaced, phisPlaced}
+use Rattle.language.specs.Table.{blocksPlaced, phisPlaced, predecessorsKept, predecessorCount, predecessorAt, storedPredecessors, decodeAt, predecessorsOffset, blockLength, InTable}
+use Rattle.language.specs.Checking.{goesTo, predecessors}
 
 module _ (t : List ℕ) where
   pub function-count : length (decode t) ≡ functionCount t
@@ -175,22 +179,42 @@ module _ (t : List ℕ) (a : ℕ) where
         ∙ ap sum (map-map (λ r. length (entriesOf r)) (decodeRow t a) (below (rowCount t a)))
         ∙ sum-same row-entries (below (rowCount t a))
 
+  -- ---- stored predecessors, one by one
+
+  pub predecessor-is : (b k : ℕ) → k < predecessorCount t a b → getD (storedPredecessors t a b) k 0 ≡ predecessorAt t a b k
+  predecessor-is b k h =
+      let p = a + predecessorsOffset + blockLength * b in
+      getD-take (predecessorCount t a b) (drop (p + 1) t) k 0 h ∙ getD-drop (p + 1) t k 0 ∙ ap (λ i. getD t i 0) (omega arith)
+
+  pub stored-count : InTable t a → (b : ℕ) → b < maxBlocks → predecessorCount t a b < 256 → length (storedPredecessors t a b) ≡ predecessorCount t a b
+  stored-count h b l c =
+      let p = a + predecessorsOffset + blockLength * b in
+      length-take-le (predecessorCount t a b) (drop (p + 1) t) (omega (arith, length-drop (p + 1) t))
+
+  -- predecessors go by the blocks alone
+  pub predecessors-decoded : (b : ℕ) → predecessors (decodeFunction t a) b ≡ predecessors (decodeAt t a true) b
+  unfolding decodeFunction predecessors goesTo
+  predecessors-decoded b = refl
+
   -- ---- where all stored positions are right
 
   module _ (placed : decodeFunction t a .placed ≡ true) where
-    both : (blocksPlaced t a ≡ true) × (phisPlaced t a ≡ true)
+    first : (blocksPlaced t a ≡ true) × ((phisPlaced t a && predecessorsKept t a) ≡ true)
     unfolding decodeFunction
-    both = and-eq-true-iff (blocksPlaced t a) (phisPlaced t a) .0 placed
+    first = and-eq-true-iff (blocksPlaced t a) (phisPlaced t a && predecessorsKept t a) .0 placed
+
+    second : (phisPlaced t a ≡ true) × (predecessorsKept t a ≡ true)
+    second = and-eq-true-iff (phisPlaced t a) (predecessorsKept t a) .0 (first .1)
 
     pub block-first-is : (b : ℕ) → b < blockCount t a → blockFirst t a b ≡ rowsBefore t a b
-    block-first-is = sequence-first (both .0)
+    block-first-is = sequence-first (first .0)
 
     pub phi-first-is : (r : ℕ) → r < rowCount t a → rowOp t a r ≡ phiOp → phiFirst t a r ≡ entriesBefore t a r
     unfolding phisPlaced
     phi-first-is r b e =
         let test : cond (eqb (rowOp t a r) phiOp) (eqb (phiFirst t a r) (entriesBefore t a r)) true ≡ true =
         rw (zero-add r) at
-        (all-from-at (λ r. cond (eqb (rowOp t a r) phiOp) (eqb (phiFirst t a r) (entriesBefore t a r)) true) 0 (rowCount t a) (both .1) r b) in
+        (all-from-at (λ r. cond (eqb (rowOp t a r) phiOp) (eqb (phiFirst t a r) (entriesBefore t a r)) true) 0 (rowCount t a) (second .0) r b) in
         eqb-true (phiFirst t a r) (entriesBefore t a r) (rw e at test)
 
     pub row-count : length (rowsOf (decodeFunction t a)) ≡ rowCount t a
@@ -198,7 +222,7 @@ module _ (t : List ℕ) (a : ℕ) where
 
     pub row-is : (r : ℕ) → r < rowCount t a → getD (rowsOf (decodeFunction t a)) r Row.nop ≡ decodeRow t a r
     row-is r b =
-        ap (λ x. getD x r Row.nop) (sequence-rows (both .0)) ∙ getD-map-from (decodeRow t a) Row.nop 0 (rowCount t a) r b ∙ ap (decodeRow t a) (zero-add r)
+        ap (λ x. getD x r Row.nop) (sequence-rows (first .0)) ∙ getD-map-from (decodeRow t a) Row.nop 0 (rowCount t a) r b ∙ ap (decodeRow t a) (zero-add r)
 
     pub first-row-is : (b : ℕ) → b < blockCount t a → firstRow (decodeFunction t a) b ≡ blockFirst t a b
     unfolding firstRow
@@ -208,3 +232,20 @@ module _ (t : List ℕ) (a : ℕ) where
         map-from-take (blockRows t a) (λ x. length (x .rows)) noBlock 0 blocks b (omega (arith, block-count))
         (λ i d. rw (zero-add i) (sym (block-rows-count i (omega arith)))) in
         ap sum (sym counts) ∙ sym (block-first-is b c)
+
+    -- what a run takes phi entries by is what the definition takes from terminators
+    pub stored-is : (b : ℕ) → b < blockCount t a → storedPredecessors t a b ≡ predecessors (decodeFunction t a) b
+    unfolding predecessorsKept
+    stored-is b c =
+        let test : ℕ → Bool = λ b. same (storedPredecessors t a b) (predecessors (decodeAt t a true) b) in
+        same-eq (storedPredecessors t a b) (predecessors (decodeAt t a true) b)
+        (of-true (test b) (rw (zero-add b) at (all-from-at test 0 (blockCount t a) (second .1) b c)))
+        ∙ sym (predecessors-decoded b)
+
+    -- count by count and one by one
+    pub kept-count : InTable t a → (b : ℕ) → b < blockCount t a → b < maxBlocks → predecessorCount t a b < 256
+        → predecessorCount t a b ≡ length (predecessors (decodeFunction t a) b)
+    kept-count h b c l e = sym (stored-count h b l e) ∙ ap length (stored-is b c)
+
+    pub kept-at : (b k : ℕ) → b < blockCount t a → k < predecessorCount t a b → predecessorAt t a b k ≡ getD (predecessors (decodeFunction t a) b) k 0
+    kept-at b k c l = sym (predecessor-is b k l) ∙ ap (λ xs. getD xs k 0) (stored-is b c)

@@ -32,8 +32,8 @@ pub record Block : Type 0 where
   pub rows : List Row
 
 -- `ssa` is 1 for a function so marked and 0 for another. The first `params` registers are the parameters. `placed` is true
--- where the positions that a table stores (a block's first row, a phi's first entry) are those the counts give; it is true
--- of every function that is read or translated.
+-- where what a table stores twice agrees: a block's first row and a phi's first entry are those the counts give, a block's
+-- predecessors those the terminators give. It is true of every function that is read or translated.
 pub record Func : Type 0 where
   pub name : List ℕ
   pub ssa : ℕ

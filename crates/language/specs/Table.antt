@@ -2,16 +2,18 @@
 -- functions, their registers, their blocks with the rows of each, one block after the other, and which block is entry").
 -- docs/TABLE.md states the layout cell by cell. "cells not needed are 0 in an output and ignored in an input": `cells` writes
 -- those as 0, `decode` never looks at one. `decode` takes any list: a cell past the end counts as 0.
+-- A block's record also holds its predecessors (document 02: "Keep each block's predecessor list in its record").
 -- Assumes nothing.
 use mathlib.Core.Bool.{Bool, true, cond, _&&_}
 use mathlib.Core.List.{List, [], _∷_, _++_, map}
 use Prim.Native.Nat.{ℕ, _+_, _*_, _/_, _%_, _≤_}
 use lib.Dec.{eqb}
 use lib.ListN.{length, getD, take, drop}
-use Rattle.laws.specs.Lists.{all, below, from, gather, sum}
+use Rattle.laws.specs.Lists.{all, below, from, gather, same, sum, together}
 use Rattle.laws.specs.Sections.{pad, gatherFrom}
 use Rattle.language.specs.Instructions.{Form, formOf, nopOp, phiOp, jumpOp, jumpCondOp, returnOp, leaveOp}
 use Rattle.language.specs.Programs.{Row, Register, Block, Func, Program, entriesOf, rowsOf, maxFunctions, maxRegisters, maxBlocks, maxRows, maxEntries, maxName}
+use Rattle.language.specs.Checking.{predecessors}
 
 -- ---- The layout: every offset and length from the parts. No other page says these numbers.
 
@@ -23,9 +25,13 @@ nameLength = 1 + maxName
 abbrev pub registerLength : ℕ
 registerLength = 1 + nameLength
 
--- A block: its first row and the count of its rows, two cells each, and its name.
+-- The predecessors of a block: their count, and 64 cells for their numbers.
+abbrev pub predecessorsLength : ℕ
+predecessorsLength = 1 + maxBlocks
+
+-- A block: its first row and the count of its rows, two cells each, its name and its predecessors.
 abbrev pub blockLength : ℕ
-blockLength = 4 + nameLength
+blockLength = 4 + nameLength + predecessorsLength
 
 -- A row: its instruction, target, two sources and eight operand cells.
 abbrev pub rowLength : ℕ
@@ -85,6 +91,9 @@ blockRowsOffset = blocksOffset + 2
 abbrev pub blockNamesOffset : ℕ
 blockNamesOffset = blocksOffset + 4
 
+abbrev pub predecessorsOffset : ℕ
+predecessorsOffset = blockNamesOffset + nameLength
+
 abbrev pub targetsOffset : ℕ
 targetsOffset = rowsOffset + 1
 
@@ -115,7 +124,7 @@ functionNamesOffset = 1 + nameOffset
 abbrev pub InTable : List ℕ → ℕ → Type 0
 InTable t a = a + functionLength ≤ length t
 
--- ---- Cells to numbers: the number of two, four or eight bytes from cell k on, low byte first, and a name.
+-- ---- Cells to numbers: the number of two, four or eight bytes from cell k on, low byte first, and a list.
 
 abbrev pub two : List ℕ → ℕ → ℕ
 two t k = getD t k 0 + 256 * getD t (k + 1) 0
@@ -126,9 +135,12 @@ four t k = two t k + 65536 * two t (k + 2)
 abbrev pub eight : List ℕ → ℕ → ℕ
 eight t k = four t k + 4294967296 * four t (k + 4)
 
--- The name whose length is cell k and whose bytes follow.
+-- The list whose length is cell k and whose numbers follow; so stand names and predecessors.
+abbrev pub listAt : List ℕ → ℕ → List ℕ
+listAt t k = take (getD t k 0) (drop (k + 1) t)
+
 abbrev pub nameAt : List ℕ → ℕ → List ℕ
-nameAt t k = take (getD t k 0) (drop (k + 1) t)
+nameAt t k = listAt t k
 
 -- ---- The accessors. `a` is the cell where the function begins.
 
@@ -170,6 +182,16 @@ blockRows t a b = two t (a + blockRowsOffset + blockLength * b)
 
 abbrev pub blockName : List ℕ → ℕ → ℕ → List ℕ
 blockName t a b = nameAt t (a + blockNamesOffset + blockLength * b)
+
+-- The predecessors that a block stores: their count, the cell of the k-th, and the list.
+abbrev pub predecessorCount : List ℕ → ℕ → ℕ → ℕ
+predecessorCount t a b = getD t (a + predecessorsOffset + blockLength * b) 0
+
+abbrev pub predecessorAt : List ℕ → ℕ → ℕ → ℕ → ℕ
+predecessorAt t a b k = getD t (a + (predecessorsOffset + 1) + blockLength * b + k) 0
+
+abbrev pub storedPredecessors : List ℕ → ℕ → ℕ → List ℕ
+storedPredecessors t a b = listAt t (a + predecessorsOffset + blockLength * b)
 
 -- A row: the instruction's number, its target, its first and second source, and eight operand bytes,
 abbrev pub rowOp : List ℕ → ℕ → ℕ → ℕ
@@ -251,8 +273,9 @@ blocksPlaced t a = all (λ b. eqb (blockFirst t a b) (rowsBefore t a b)) (below 
 unfoldable pub phisPlaced : List ℕ → ℕ → Bool
 phisPlaced t a = all (λ r. cond (eqb (rowOp t a r) phiOp) (eqb (phiFirst t a r) (entriesBefore t a r)) true) (below (rowCount t a))
 
-unfoldable pub decodeFunction : List ℕ → ℕ → Func
-decodeFunction t a =
+-- The function at a, `placed` being told.
+abbrev pub decodeAt : List ℕ → ℕ → Bool → Func
+decodeAt t a placed =
     record {
       name = functionName t a;
       ssa = functionSsa t a;
@@ -261,8 +284,17 @@ decodeFunction t a =
       registers = map (decodeRegister t a) (below (registerCount t a));
       blocks = map (decodeBlock t a) (below (blockCount t a));
       entry = functionEntry t a;
-      placed = blocksPlaced t a && phisPlaced t a;
+      placed = placed;
     }
+
+-- The stored predecessors of each block are document 01's. "A lent table whose stored list differs is refused with 9; only a block's
+-- last row names blocks there."
+unfoldable pub predecessorsKept : List ℕ → ℕ → Bool
+predecessorsKept t a =
+    all (λ b. same (storedPredecessors t a b) (predecessors (decodeAt t a true) b)) (below (blockCount t a))
+
+unfoldable pub decodeFunction : List ℕ → ℕ → Func
+decodeFunction t a = decodeAt t a (blocksPlaced t a && (phisPlaced t a && predecessorsKept t a))
 
 unfoldable pub decode : List ℕ → Program
 decode t = map (λ i. decodeFunction t (functionAt i)) (below (functionCount t))
@@ -288,9 +320,19 @@ nameCells name = length name ∷ pad maxName name
 unfoldable pub registerCells : Register → List ℕ
 registerCells r = r .type ∷ nameCells (r .name)
 
--- A block whose first row is n.
-unfoldable pub blockCells : ℕ → Block → List ℕ
-blockCells n b = twoBytes n ++ (twoBytes (length (b .rows)) ++ nameCells (b .name))
+-- A list of predecessors: their count and their numbers.
+unfoldable pub predecessorCells : List ℕ → List ℕ
+predecessorCells list = length list ∷ pad maxBlocks list
+
+-- A block and the list of its predecessors.
+pub record Listed : Type 0 where
+  pub block : Block
+  pub list : List ℕ
+
+-- One whose first row is n.
+unfoldable pub blockCells : ℕ → Listed → List ℕ
+blockCells n b =
+    twoBytes n ++ (twoBytes (length (b .block .rows)) ++ (nameCells (b .block .name) ++ predecessorCells (b .list)))
 
 -- A row; the entries of a phi begin at n.
 unfoldable pub rowCells : ℕ → Row → List ℕ
@@ -314,8 +356,12 @@ headCells f =
 unfoldable pub registerSection : Func → List ℕ
 registerSection f = pad registersLength (gather registerCells (f .registers))
 
-unfoldable pub blockSection : Func → List ℕ
-blockSection f = pad blocksLength (gatherFrom (λ b. length (b .rows)) blockCells 0 (f .blocks))
+-- The blocks with these lists of predecessors.
+abbrev pub listed : List (List ℕ) → List Block → List Listed
+listed lists blocks = together (λ b list. record { block = b; list = list }) blocks lists
+
+unfoldable pub blockSection : List (List ℕ) → Func → List ℕ
+blockSection lists f = pad blocksLength (gatherFrom (λ b. length (b .block .rows)) blockCells 0 (listed lists (f .blocks)))
 
 unfoldable pub rowSection : Func → List ℕ
 rowSection f = pad rowsLength (gatherFrom (λ r. length (entriesOf r)) rowCells 0 (rowsOf f))
@@ -323,8 +369,16 @@ rowSection f = pad rowsLength (gatherFrom (λ r. length (entriesOf r)) rowCells 
 unfoldable pub entrySection : Func → List ℕ
 entrySection f = pad maxEntries (gather entriesOf (rowsOf f))
 
+-- A function with these lists of its blocks' predecessors.
+unfoldable pub cellsListing : List (List ℕ) → Func → List ℕ
+cellsListing lists f = headCells f ++ (registerSection f ++ (blockSection lists f ++ (rowSection f ++ entrySection f)))
+
+-- The predecessors of each block, "each once, in the order declared".
+unfoldable pub predecessorLists : Func → List (List ℕ)
+predecessorLists f = map (predecessors f) (below (length (f .blocks)))
+
 unfoldable pub functionCells : Func → List ℕ
-functionCells f = headCells f ++ (registerSection f ++ (blockSection f ++ (rowSection f ++ entrySection f)))
+functionCells f = cellsListing (predecessorLists f) f
 
 unfoldable pub cells : Program → List ℕ
 cells p = length p ∷ pad functionsLength (gather functionCells p)

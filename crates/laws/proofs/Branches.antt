@@ -54,8 +54,3 @@ module _ {A : Type 0} (z x y : A) where
     by-not-lt-of r e h p = by-false (ltb a b) (le-ltb a b (subst (λ (n : ℕ). b ≤ n) e h)) p
 
 pub ruleset branches = (by-true, by-false, by-lt, by-not-lt, by-le, by-not-le, by-eq, by-ne, by-other, by-lt-of, by-not-lt-of)
-
--- what stands around a definition by cases goes into its cases
-pub into-cond : {A B : Type 0} (f : A → B) (b : Bool) (x y : A) → f (cond b x y) ≡ cond b (f x) (f y)
-into-cond f true x y = refl
-into-cond f false x y = refl

@@ -79,6 +79,16 @@ module _ {A B C : Type 0} (g : A → B → C) where
   getD-together d e z (x ∷ xs) (y ∷ ys) zero l h = refl
   getD-together d e z (x ∷ xs) (y ∷ ys) (suc i) l h = getD-together d e z xs ys i (le-of-suc-le-suc l) (le-of-suc-le-suc h)
 
+-- ---- an element of the second list is another one
+
+module _ {A B C : Type 0} (g : A → B → C) where
+  pub together-set :
+      (d : A) (xs : List A) (ys : List B) (i : ℕ) (y : B) → i < length xs → together g xs (set ys i y) ≡ set (together g xs ys) i (g (getD xs i d) y)
+  together-set d [] ys i y h = absurd (not-suc-le-zero h)
+  together-set d (x ∷ xs) [] i y h = refl
+  together-set d (x ∷ xs) (z ∷ ys) zero y h = refl
+  together-set d (x ∷ xs) (z ∷ ys) (suc i) y h = ap (λ (r : List C). g x z ∷ r) (together-set d xs ys i y (le-of-suc-le-suc h))
+
 -- ---- what goes by one of the two lists alone
 
 module _ {A B C : Type 0} (g : A → B → C) where

@@ -1,6 +1,6 @@
 -- `any`, `all` and `keep` against the elements they speak of.
 -- Assumes nothing.
-use mathlib.Core.Path.{_≡_, refl, _∙_, subst, subst⁻¹, ap}
+use mathlib.Core.Path.{_≡_, refl, subst, subst⁻¹}
 use mathlib.Core.Bool.{Bool, true, false, cond, _||_}
 use mathlib.Core.List.{List, [], _∷_}
 use mathlib.Core.Logic.{_⊎_, inl, inr}
@@ -11,8 +11,7 @@ use native.Mathlib.Omega.{arith}
 use lib.Dec.{T, eqb, eqb→eq, eqb-refl}
 use lib.ListN.{length, getD}
 use mir.Facts.{or-yes}
-use borrow.Author.Tests.{eq-eqb, ne-eqb}
-use Rattle.laws.specs.Lists.{any, keep, position, together, from, below, member}
+use Rattle.laws.specs.Lists.{any, keep, together, from, member}
 
 pub either-left : (a b : Bool) → T a → T (a || b)
 either-left true b t = tt
@@ -106,23 +105,30 @@ kept-below q k (suc n) i h = by (q k) i h (kept-below q (suc k) n)
     by true (suc j) l ih = let r = ih j (le-of-suc-le-suc l) in omega arith
     by false j l ih = let r = ih j l in omega arith
 
--- the place of a number among those kept
-module _ (q : ℕ → Bool) where
-  rank-from : (k n i x : ℕ) → x ≡ k + i → i < n → q x ≡ true → position (λ z. eqb z x) (keep q (from k n)) ≡ length (keep q (from k i))
-  rank-from k zero i x e h t = absurd (not-suc-le-zero h)
-  rank-from k (suc n) zero x e h t =
-      let here : k ≡ x = omega arith in
-      let passes : q k ≡ true = ap q here ∙ t in
-      rw (passes, eq-eqb k x here)
-  rank-from k (suc n) (suc i) x e h t = case (q k) (rank-from (suc k) n i x (omega arith) (le-of-suc-le-suc h) t)
-    where
-      case :
-          (b : Bool)
-          → position (λ z. eqb z x) (keep q (from (suc k) n)) ≡ length (keep q (from (suc k) i))
-          → position (λ z. eqb z x) (cond b (k ∷ keep q (from (suc k) n)) (keep q (from (suc k) n))) ≡ length (cond b (k ∷ keep q (from (suc k) i)) (keep q (from (suc k) i)))
-      case true r = rw (ne-eqb k x (λ z. omega arith), r)
-      case false r = r
+-- and not before its beginning
+kept-from : (q : ℕ → Bool) (k n i : ℕ) → i < length (keep q (from k n)) → k ≤ getD (keep q (from k n)) i 0
+kept-from q k zero i h = absurd (not-suc-le-zero h)
+kept-from q k (suc n) i h = by (q k) i h (kept-from q (suc k) n)
+  where
+    by :
+        (b : Bool) (j : ℕ) → j < length (cond b (k ∷ keep q (from (suc k) n)) (keep q (from (suc k) n)))
+        → ((m : ℕ) → m < length (keep q (from (suc k) n)) → suc k ≤ getD (keep q (from (suc k) n)) m 0)
+        → k ≤ getD (cond b (k ∷ keep q (from (suc k) n)) (keep q (from (suc k) n))) j 0
+    by true zero l ih = omega arith
+    by true (suc j) l ih = let r = ih j (le-of-suc-le-suc l) in omega arith
+    by false j l ih = let r = ih j l in omega arith
 
-  -- a number kept of those below n has as many before it as are kept of those below it
-  pub rank-below : (n x : ℕ) → x < n → q x ≡ true → position (λ z. eqb z x) (keep q (below n)) ≡ length (keep q (below x))
-  rank-below n x h t = rank-from zero n x x (omega arith) h t
+-- of two numbers kept the later is the larger
+pub kept-ascends : (q : ℕ → Bool) (k n i j : ℕ) → i < j → j < length (keep q (from k n)) → getD (keep q (from k n)) i 0 < getD (keep q (from k n)) j 0
+kept-ascends q k zero i j l h = absurd (not-suc-le-zero h)
+kept-ascends q k (suc n) i j l h = by (q k) i j l h (kept-from q (suc k) n) (kept-ascends q (suc k) n)
+  where
+    by :
+        (b : Bool) (i j : ℕ) → i < j → j < length (cond b (k ∷ keep q (from (suc k) n)) (keep q (from (suc k) n)))
+        → ((m : ℕ) → m < length (keep q (from (suc k) n)) → suc k ≤ getD (keep q (from (suc k) n)) m 0)
+        → ((m o : ℕ) → m < o → o < length (keep q (from (suc k) n)) → getD (keep q (from (suc k) n)) m 0 < getD (keep q (from (suc k) n)) o 0)
+        → getD (cond b (k ∷ keep q (from (suc k) n)) (keep q (from (suc k) n))) i 0 < getD (cond b (k ∷ keep q (from (suc k) n)) (keep q (from (suc k) n))) j 0
+    by true i zero l h lo ih = absurd (not-suc-le-zero l)
+    by true zero (suc j) l h lo ih = lo j (le-of-suc-le-suc h)
+    by true (suc i) (suc j) l h lo ih = ih i j (le-of-suc-le-suc l) (le-of-suc-le-suc h)
+    by false i j l h lo ih = ih i j l h

@@ -2,13 +2,13 @@
 -- Assumes nothing.
 use mathlib.Core.Path.{_≡_, refl, sym, ap, _∙_}
 use mathlib.Core.List.{List, [], _∷_, _++_, append-assoc}
-use Prim.Native.Nat.{ℕ, zero, suc, _+_, _-_, _*_, _≤_, _<_}
-use native.Mathlib.Nat.{add-zero, add-suc}
+use Prim.Native.Nat.{ℕ, zero, suc, _+_, _-_, _*_, _≤_, _<_, suc-le-suc}
+use native.Mathlib.Nat.{add-zero, add-suc, not-suc-le-zero, zero-lt-suc, le-of-suc-le-suc}
 use native.Mathlib.Omega.{arith}
 use lib.ListN.{length, getD, set, replicate, length-append, length-replicate, length-set, replicate-append-replicate}
 use lib.Seq.{sets, length-sets, set-append-left}
 use Rattle.laws.specs.Lists.{gather}
-use Rattle.laws.specs.Sections.{pad, At}
+use Rattle.laws.specs.Sections.{pad, At, gatherFrom}
 use Rattle.laws.proofs.Indexing.{set-append-add}
 use Rattle.laws.proofs.Sections.{at-stride, gather-is-from, length-gatherFrom}
 
@@ -112,3 +112,27 @@ module _ {A B : Type 0} (f : B → List A) (w : ℕ) (d : B) (xs : List B) (l : 
 
   pub at-each : (i : ℕ) → i < length xs → {t : List A} {k : ℕ} → At t k (gather f xs) → At t (k + w * i) (f (getD xs i d))
   at-each i b h = at-stride (λ x. 0) (λ m. f) w d 0 xs (λ m. l) i b (rw (gather-is-from f 0 xs) at h)
+
+-- ---- an element of a section is another one
+
+-- of elements of w cells each, vs stored k cells into element i
+pub element-stored :
+    {A B : Type 0} (size : B → ℕ) (f : ℕ → B → List A) (w : ℕ) (d x : B) (k : ℕ) (vs : List A)
+    → k + length vs ≤ w
+    → (n : ℕ) (xs : List B)
+    → ((m i : ℕ) → i < length xs → length (f m (getD xs i d)) ≡ w)
+    → (i : ℕ)
+    → i < length xs
+    → size x ≡ size (getD xs i d)
+    → ((m : ℕ) → Stored (f m (getD xs i d)) k vs (f m x))
+    → Stored (gatherFrom size f n xs) (w * i + k) vs (gatherFrom size f n (set xs i x))
+element-stored size f w d x k vs r n [] l i b s h = absurd (not-suc-le-zero b)
+element-stored size f w d x k vs r n (y ∷ xs) l zero b s h =
+    let one : length (f n y) ≡ w = l n zero (zero-lt-suc (length xs)) in
+    let at : w * 0 + k ≡ k = omega arith in
+    rw (at, s) (stored-left (h n) (gatherFrom size f (n + size y) xs) (omega arith))
+element-stored size f w d x k vs r n (y ∷ xs) l (suc i) b s h =
+    let one : length (f n y) ≡ w = l n zero (zero-lt-suc (length xs)) in
+    stored-right
+    (element-stored size f w d x k vs r (n + size y) xs (λ m j c. l m (suc j) (suc-le-suc c)) i (le-of-suc-le-suc b) s h)
+    (f n y) (omega arith)

@@ -1,6 +1,5 @@
 pub mod Here
 pub mod PhiLoops
-pub mod PhisLaws
 pub mod PhiSteps
 pub mod StartsLaws
 pub mod Values

@@ -1,38 +1,16 @@
 // The phi of a block: "All phi of a block read before any writes".
 ghost use mathlib.Core.Path.{_≡_};
-ghost use mathlib.Core.Bool.{true};
-ghost use Prim.Native.Nat.{_<_};
 ghost use lib.ListN.{length};
-ghost use Rattle.language.specs.Table.{blockCount, decodeFunction, InTable};
-ghost use Rattle.language.specs.Checking.{goesTo};
-ghost use Rattle.theorems.specs.Clean.{Clean};
-ghost use Rattle.flow.specs.Sized.{Sized};
-ghost use Rattle.flow.specs.Predecessors.{rankOf, Flowed};
+ghost use Rattle.language.specs.Table.{InTable};
 ghost use Rattle.machine.specs.Phis.{Readable, Taken, phisWritten};
 ghost use Rattle.language.specs.Programs.{maxRows};
-use flow::rank;
-use table::block_first;
-use table::block_rows;
-use table::jump_first;
+use table::phi_count;
 use table::phi_entry;
 use table::phi_first;
 use table::row_target;
 
-// The phi entry that a run takes which comes from block x to block b: the rank of x there, prepared for each of the two blocks it may name.
-pub fn entry_from(t: &[u8], a: usize, m: &[u16], x: usize, b: usize) -> usize
-    requires { ⌜ Sized (now t) a × Clean (decodeFunction (now t) a) ⌝ }
-    requires { ⌜ Flowed (decodeFunction (now t) a) (now m) (blockCount (now t) a) ⌝ }
-    requires { ⌜ (x < blockCount (now t) a) × (goesTo (decodeFunction (now t) a) x b ≡ true) ⌝ }
-    ensures { λ r. ⌜ r ≡ rankOf (decodeFunction (now (t .entry)) a) x b ⌝ }
-{
-    let last = block_first(t, a, x) + block_rows(t, a, x) - 1;
-    if jump_first(t, a, last) == b {
-        return rank(m, x, 0);
-    }
-    rank(m, x, 1)
-}
-
-// What entry k of each phi holds, in row order.
+// What entry k of each phi holds, in row order. Every phi of a block has as many entries as the block has predecessors, so those of the next one
+// are so many further on.
 fn read_phis(
     t: &[u8],
     a: usize,
@@ -46,9 +24,12 @@ fn read_phis(
     requires { ⌜ Readable (now t) a first n k (now registers) ⌝ }
     ensures { λ _. ⌜ Taken (now (t .entry)) a first n k (now (registers .entry)) (now (taken .exit)) ⌝ }
 {
+    let count = phi_count(t, a, first);
+    let mut e = phi_first(t, a, first) + k;
     let mut i = 0;
     while i < n {
-        taken[i] = registers[phi_entry(t, a, phi_first(t, a, first + i) + k)];
+        taken[i] = registers[phi_entry(t, a, e)];
+        e += count;
         i += 1;
     }
 }

@@ -11,11 +11,12 @@ use Rattle.laws.proofs.Positions.{position-of-from}
 use Rattle.laws.proofs.Sections.{at-move, at-self, at-left, at-right, at-pad, at-stride}
 use Rattle.laws.proofs.Storing.{at-each}
 use Rattle.language.specs.Programs.{Register, Block, Func, noFunction, noRegister, noBlock, maxFunctions}
-use Rattle.language.specs.Table.{functionAt, nameAt, twoBytes, nameCells, registerCells, blockCells, headCells, registerSection, blockSection, rowSection, entrySection, functionCells}
+use Rattle.language.specs.Table.{functionAt, nameAt, twoBytes, nameCells, registerCells, predecessorCells, headCells, registerSection, blockSection, rowSection, entrySection, predecessorLists, cellsListing, functionCells, blockCells}
 use Rattle.language.specs.Table.{blockLength, blockNamesOffset, blocksLength, blocksOffset, functionLength, functionNamesOffset, functionsLength, registerLength, registerNamesOffset, registersLength, rowsOffset}
 use Rattle.language.specs.Table.{registersOffset}
 use Rattle.language.specs.Reading.{Draft, functionNumber, registerNumber, blockNumber}
 use Rattle.language.proofs.TableLaws.{name-back}
+use Rattle.predecessors.specs.Listing.{bareCells}
 use Rattle.reader.specs.Draft.{WithinSizes, openBlock, openRegisters, openBlocks, openTable}
 use Rattle.reader.proofs.DraftSections.{height, Sized, tableOf, sections, sized, length-functions, registers-stride, blocks-stride}
 
@@ -59,16 +60,19 @@ module _ {t : List ℕ} where
   unfolding registerCells
   register-name r h e = name-back (r .name) (at-right (r .type ∷ []) (nameCells (r .name)) h) e
 
-  block-name : {k : ℕ} (n : ℕ) (b : Block) → At t k (blockCells n b) → {m : ℕ} → m ≡ k + 4 → nameAt t m ≡ b .name
+  block-name : {k : ℕ} (n : ℕ) (b : Block) → At t k (bareCells n b) → {m : ℕ} → m ≡ k + 4 → nameAt t m ≡ b .name
   unfolding blockCells
-  block-name n b h e = name-back (b .name) (at-right (twoBytes n ++ twoBytes (length (b .rows))) (nameCells (b .name)) h) e
+  block-name n b h e =
+      name-back (b .name)
+      (at-left (nameCells (b .name)) (predecessorCells [])
+      (at-right (twoBytes n ++ twoBytes (length (b .rows))) (nameCells (b .name) ++ predecessorCells []) h)) e
 
   function-name : {k : ℕ} (f : Func) → At t k (functionCells f) → {m : ℕ} → m ≡ k + 8 → nameAt t m ≡ f .name
-  unfolding functionCells headCells
+  unfolding functionCells cellsListing headCells
   function-name f h e =
       name-back (f .name)
       (at-right (f .ssa ∷ f .result ∷ (twoBytes (f .params) ++ (twoBytes (length (f .registers)) ++ (length (f .blocks) ∷ f .entry ∷ [])))) (nameCells (f .name))
-      (at-left (headCells f) (registerSection f ++ (blockSection f ++ (rowSection f ++ entrySection f))) h)) e
+      (at-left (headCells f) (registerSection f ++ (blockSection (predecessorLists f) f ++ (rowSection f ++ entrySection f))) h)) e
 
 module _ (d : Draft) (w : WithinSizes d) (less : length (d .functions) < maxFunctions) where
   abbrev fs : List Func
@@ -96,10 +100,10 @@ module _ (d : Draft) (w : WithinSizes d) (less : length (d .functions) < maxFunc
   unfolding openBlocks
   block-name-back i b e =
       let bs = d .function .blocks in
-      let G = gatherFrom height blockCells 0 bs in
+      let G = gatherFrom height bareCells 0 bs in
       rw (sections d)
       (block-name (0 + sum (map height (take i bs))) (getD bs i noBlock)
-      (at-stride height blockCells blockLength noBlock 0 bs (blocks-stride d w) i b
+      (at-stride height bareCells blockLength noBlock 0 bs (blocks-stride d w) i b
       (at-left G (openBlock (d .block .name)) (at-pad blocksLength (G ++ openBlock (d .block .name)) (at-blocks (sized d w less)))))
       (omega arith))
 

@@ -14,11 +14,13 @@ use Rattle.laws.proofs.Sections.{length-pad, length-gatherFrom}
 use Rattle.laws.proofs.Gather.{length-gather}
 use Rattle.laws.proofs.Storing.{Stored, length-each, stored-left, stored-right, stored-pad, pad-zeros, pad-is}
 use Rattle.language.specs.Programs.{Row, Block, Func, noFunction, noRegister, noBlock, entriesOf, rowsOf, entryCount, maxEntries, maxFunctions, maxName}
-use Rattle.language.specs.Table.{functionAt, nameCells, registerCells, blockCells, rowCells, functionCells}
+use Rattle.language.specs.Table.{functionAt, nameCells, registerCells, rowCells, functionCells}
 use Rattle.language.specs.Table.{blocksLength, blocksOffset, entriesOffset, functionLength, functionsLength, registersLength, rowsLength, rowsOffset}
 use Rattle.language.specs.Table.{blockLength, registerLength, registersOffset, rowLength}
 use Rattle.language.specs.Reading.{Draft, openFunction, fresh}
-use Rattle.language.proofs.TableLaws.{length-name, length-register, length-block}
+use Rattle.language.proofs.TableLaws.{length-name, length-register}
+use Rattle.predecessors.specs.Listing.{bareCells}
+use Rattle.predecessors.proofs.BareLaws.{length-bare}
 use Rattle.reader.specs.Draft.{WithinSizes, pendingCells, openBlock, openHead, openRegisters, openBlocks, openRows, openRowCells, openEntries, openCells, openTable, closedTable}
 
 pub length-pending : (n : ℕ) (row : Row) → length (pendingCells n row) ≡ rowLength
@@ -54,14 +56,14 @@ module _ (d : Draft) (w : WithinSizes d) where
   pub registers-stride : (i : ℕ) → i < length (d .function .registers) → length (registerCells (getD (d .function .registers) i noRegister)) ≡ registerLength
   registers-stride i b = length-register (getD (d .function .registers) i noRegister) (leb→le _ _ (all-at _ (d .function .registers) i noRegister (w .registerNames) b))
 
-  pub blocks-stride : (m i : ℕ) → i < length (d .function .blocks) → length (blockCells m (getD (d .function .blocks) i noBlock)) ≡ blockLength
-  blocks-stride m i b = length-block m (getD (d .function .blocks) i noBlock) (leb→le _ _ (all-at _ (d .function .blocks) i noBlock (w .blockNames) b))
+  pub blocks-stride : (m i : ℕ) → i < length (d .function .blocks) → length (bareCells m (getD (d .function .blocks) i noBlock)) ≡ blockLength
+  blocks-stride m i b = length-bare m (getD (d .function .blocks) i noBlock) (leb→le _ _ (all-at _ (d .function .blocks) i noBlock (w .blockNames) b))
 
   pub length-registers : length (gather registerCells (d .function .registers)) ≡ registerLength * length (d .function .registers)
   length-registers = length-each registerCells registerLength noRegister (d .function .registers) registers-stride
 
-  pub length-blocks : length (gatherFrom height blockCells 0 (d .function .blocks)) ≡ blockLength * length (d .function .blocks)
-  length-blocks = length-gatherFrom height blockCells blockLength noBlock 0 (d .function .blocks) blocks-stride
+  pub length-blocks : length (gatherFrom height bareCells 0 (d .function .blocks)) ≡ blockLength * length (d .function .blocks)
+  length-blocks = length-gatherFrom height bareCells blockLength noBlock 0 (d .function .blocks) blocks-stride
 
   pub length-head : length (openHead d) ≡ registersOffset
   unfolding openHead
@@ -74,7 +76,7 @@ module _ (d : Draft) (w : WithinSizes d) where
   pub length-openBlocks : length (openBlocks d) ≡ blocksLength
   unfolding openBlocks
   length-openBlocks =
-      length-pad blocksLength (gatherFrom height blockCells 0 (d .function .blocks) ++ openBlock (d .block .name))
+      length-pad blocksLength (gatherFrom height bareCells 0 (d .function .blocks) ++ openBlock (d .block .name))
       (simp length-append (omega (arith, length-blocks, length-openBlock (d .block .name) (leb→le _ _ (w .block)) (length (d .function .blocks)) (w .blocks) (w .room))))
 
   pub length-openRowCells : length (openRowCells d) ≡ rowsLength

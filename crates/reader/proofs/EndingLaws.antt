@@ -18,19 +18,22 @@ use Rattle.laws.specs.Lists.{same}
 use Rattle.laws.proofs.Indexing.{getD-map, getD-map-lt}
 use Rattle.laws.proofs.Positions.{position-le}
 use Rattle.laws.proofs.Keep.{keep-none, keep-first}
+use Rattle.laws.proofs.Cells.{at-sets}
+use Rattle.laws.proofs.Sections.{at-cell}
 use Rattle.table.specs.Named.{firstNamed}
+use Rattle.predecessors.specs.Listing.{Stands, noLists}
 use Rattle.language.specs.Programs.{Func, noBlock, rowsOf, entryCount, maxFunctions}
-use Rattle.language.specs.Table.{functionAt, nameAt, two, four, twoBytes, eightBytes, rowOp, blockLength, blockNamesOffset, operandsOffset, rowLength, nameLength}
+use Rattle.language.specs.Table.{functionAt, nameAt, two, four, twoBytes, eightBytes, rowOp, blockCount, predecessorLists, InTable, blockLength, blockNamesOffset, operandsOffset, rowLength, nameLength}
 use Rattle.language.specs.Reading.{Draft, Mention, ActOutcome, blockNumber, undeclared, fresh, endFunction}
 use Rattle.language.specs.Instructions.{jumpCondOp, jumpOp}
-use Rattle.reader.specs.Draft.{WithinSizes, openRows, closedTable, patchedTable, mentionedBlocks, headBytes}
+use Rattle.reader.specs.Draft.{WithinSizes, openRows, closedTable, unlistedTable, patchedTable, mentionedBlocks, headBytes}
 use Rattle.reader.specs.State.{Bounded, Counts, Holds, Pending, mentionLength}
 use Rattle.reader.specs.Ending.{blockNamed, Resolved, patchRow, patchRows, headAt, closedAt, Closes, EndsFunction}
 use Rattle.reader.specs.declared.state.Reader.{Reader}
 use Rattle.reader.specs.declared.state.Taken.the-variants as taken
 use Rattle.reader.proofs.DraftNames.{block-search}
 use Rattle.reader.proofs.DraftPatch.{patched-none, patches-jump, patches-branch, patches-other, eight-of-blocks}
-use Rattle.reader.proofs.DraftEnd.{closedFunction, closes, within-closed}
+use Rattle.reader.proofs.DraftEnd.{closedFunction, closes, closed-laid, within-closed, beforeLast, behindLast, unlisted-stands, listed-closes}
 use Rattle.reader.proofs.DraftSteps.{function-ended}
 
 -- ---- the parts of the code
@@ -127,7 +130,15 @@ closed-counts s fs e =
       named = refl;
     }
 
+-- the count of blocks is in its cell
+pub head-count : (s : Reader) (entry a : ℕ) (t t′ : List ℕ) → InTable t a → t′ ≡ sets t a (headAt s entry) → blockCount t′ a ≡ s .blocks
+head-count s entry a t t′ h e = ap (λ (u : List ℕ). blockCount u a) e ∙ at-cell 0 (at-sets (headAt s entry) t a (omega arith)) 6 (lit< tt) refl
+
 -- ---- the end against the definition
+
+-- What putting down the lists does to every function that stands at a.
+abbrev Lists : (a : ℕ) (t t′ : List ℕ) → Type 0
+Lists a t t′ = (g : Func) (before behind : List ℕ) → Stands t a (noLists g) g before behind → Stands t′ a (predecessorLists g) g before behind
 
 abbrev noMention : Mention
 noMention = record { name = []; place = 0 }
@@ -236,9 +247,9 @@ module _ {s : Reader} {t : List ℕ} (less : s .functions < maxFunctions) {a : �
   head-of : (entry : ℕ) → entry ≡ blockNumber f [] → headAt s entry ≡ headBytes f (blockNumber f [])
   head-of entry e = rw (e, h .counts .ssa, h .counts .result, h .counts .params, h .counts .registers, h .counts .blocks)
 
-  table-closed : {entry : ℕ} {t₁ t′ : List ℕ} → d .block ≡ noBlock → d .parts .entries ≡ [] → entry ≡ blockNumber f []
-      → t₁ ≡ patchRows t a (mentionedBlocks d) (s .rows) → t′ ≡ sets t₁ a (headAt s entry) → t′ ≡ closedTable (d .functions ++ (closedFunction d ∷ []))
-  table-closed {entry} none empty e p q =
+  table-unlisted : {entry : ℕ} {t₁ t′ : List ℕ} → d .block ≡ noBlock → d .parts .entries ≡ [] → entry ≡ blockNumber f []
+      → t₁ ≡ patchRows t a (mentionedBlocks d) (s .rows) → t′ ≡ sets t₁ a (headAt s entry) → t′ ≡ unlistedTable (d .functions) (closedFunction d)
+  table-unlisted {entry} none empty e p q =
       let bs = mentionedBlocks d in
       let small : (m : ℕ) → getD bs m 0 < 256 =
       λ m. getD-map-lt (λ (x : Mention). blockNumber f (x .name)) 256 (d .mentions) m 0 (λ x. omega (arith, block-most (x .name), w .blocks)) (lit< tt) in
@@ -248,6 +259,15 @@ module _ {s : Reader} {t : List ℕ} (less : s .functions < maxFunctions) {a : �
       ∙ ap (λ (u : List ℕ). sets u a (headAt s entry)) (p ∙ rows)
       ∙ ap (λ (vs : List ℕ). sets (patchedTable d bs (length (openRows d))) a vs) (head-of entry e)
       ∙ sym (closes d w fewer none empty begins)
+
+  -- and its lists are put down
+  table-closed : {t′ t″ : List ℕ} → d .block ≡ noBlock → d .parts .entries ≡ [] → t′ ≡ unlistedTable (d .functions) (closedFunction d) → Lists a t′ t″
+      → t″ ≡ closedTable (d .functions ++ (closedFunction d ∷ []))
+  table-closed none empty e lists =
+      let fs = d .functions in
+      let g = closedFunction d in
+      let laid = closed-laid d w fewer none empty in
+      listed-closes fs g fewer (w .whole) laid (lists g (beforeLast fs) (behindLast fs) (unlisted-stands fs g fewer (w .whole) laid begins e))
 
 -- ---- the three ends
 
@@ -275,9 +295,9 @@ module _ (s : Reader) (t pend : List ℕ) (p : ℕ) (less : s .functions < maxFu
           meaning = λ d h m none empty. rw (first-undeclared less at d h pend m z l p (has-entry d h), e) (Closes.refuses 7 (four pend (mentionLength * r + nameLength)));
         }
 
-    pub ends-closed : {s′ : Reader} {t₁ t′ : List ℕ} → s′ ≡ closedAt s → s .mentions ≤ r → s .mentions ≤ length found → t₁ ≡ patchRows t a (take (s .mentions) found) (s .rows)
-        → t′ ≡ sets t₁ a (headAt s entry) → length t′ ≡ length t → EndsFunction s t pend p (taken.Reading s′) t′
-    ends-closed e l c x y size =
+    pub ends-closed : {s′ : Reader} {t₁ t′ t″ : List ℕ} → s′ ≡ closedAt s → s .mentions ≤ r → s .mentions ≤ length found → t₁ ≡ patchRows t a (take (s .mentions) found) (s .rows)
+        → t′ ≡ sets t₁ a (headAt s entry) → Lists a t′ t″ → length t″ ≡ length t → EndsFunction s t pend p (taken.Reading s′) t″
+    ends-closed e l c x y lists size =
         rw e
         (record {
           kept = (closed-bounded s less, refl);
@@ -292,7 +312,8 @@ module _ (s : Reader) (t pend : List ℕ) (p : ℕ) (less : s .functions < maxFu
                 counts = closed-counts s fs (simp length-append (omega (arith, h .counts .functions)));
                 within = within-closed d w few none empty;
                 table =
-                    table-closed less at d h none empty (found-entry ∙ block-of-name less at d h [])
-                    (rw (blocks-found less at d h pend m z l c) at x) y;
+                    table-closed less at d h none empty
+                    (table-unlisted less at d h none empty (found-entry ∙ block-of-name less at d h []) (rw (blocks-found less at d h pend m z l c) at x) y)
+                    lists;
               }));
         })

@@ -11,8 +11,9 @@ use Rattle.laws.specs.Lists.{all, empty, gather, sum}
 use Rattle.laws.specs.Sections.{pad, gatherFrom}
 use Rattle.language.specs.Programs.{Row, Func, noBlock, noFunction, entriesOf, opOf, formIn, rowsOf, entryCount, maxFunctions, maxRegisters, maxBlocks, maxRows, maxEntries, maxName}
 use Rattle.language.specs.Instructions.{Form, Operand, formOf, formNumber, hasTarget, sourceCount, operandOf, jumpCondOp, jumpOp}
-use Rattle.language.specs.Table.{twoBytes, eightBytes, nameCells, registerCells, blockCells, rowCells, functionCells, rowLength}
+use Rattle.language.specs.Table.{twoBytes, eightBytes, nameCells, registerCells, rowCells, functionCells, cellsListing, rowLength}
 use Rattle.language.specs.Table.{blocksLength, functionLength, functionsLength, registersLength, rowsLength}
+use Rattle.predecessors.specs.Listing.{bareCells, noLists}
 use Rattle.language.specs.Grammar.{Stage}
 use Rattle.language.specs.Reading.{Draft, Parts, ActOutcome, openFunction, resolveRow, blockNumber, maxMentions}
 
@@ -64,8 +65,9 @@ openHead d = 0 ∷ 0 ∷ 0 ∷ 0 ∷ 0 ∷ 0 ∷ 0 ∷ 0 ∷ nameCells (d .funct
 unfoldable pub openRegisters : Draft → List ℕ
 openRegisters d = pad registersLength (gather registerCells (d .function .registers))
 
+-- Their lists of predecessors are put down when the function ends.
 unfoldable pub openBlocks : Draft → List ℕ
-openBlocks d = pad blocksLength (gatherFrom (λ b. length (b .rows)) blockCells 0 (d .function .blocks) ++ openBlock (d .block .name))
+openBlocks d = pad blocksLength (gatherFrom (λ b. length (b .rows)) bareCells 0 (d .function .blocks) ++ openBlock (d .block .name))
 
 -- The rows of the closed blocks, then those of the block in hand.
 abbrev pub openRows : Draft → List Row
@@ -100,6 +102,10 @@ patchedTable d bs r =
     0 ∷ pad functionsLength
     (gather functionCells (d .functions)
     ++ (openHead d ++ (openRegisters d ++ (openBlocks d ++ (patchedRows bs r (openRows d) ++ openEntries d)))))
+
+-- With its blocks' numbers and its head the function g is closed but for its lists.
+unfoldable pub unlistedTable : List Func → Func → List ℕ
+unlistedTable fs g = 0 ∷ pad functionsLength (gather functionCells fs ++ cellsListing (noLists g) g)
 
 -- The block of each mention.
 abbrev pub mentionedBlocks : Draft → List ℕ

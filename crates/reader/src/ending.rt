@@ -1,5 +1,5 @@
 // A function's closing brace: 8 without an entry block, 7 at the first mention of a block that is not there, else every jump gets its blocks'
-// numbers and the function is closed.
+// numbers, every block the list of its predecessors, and the function is closed.
 ghost use mathlib.Core.Path.{_≡_};
 ghost use Prim.Native.Nat.{_<_, _≤_};
 ghost use lib.ListN.{length, getD, take};
@@ -18,6 +18,7 @@ use numbers::put_eight;
 use numbers::put_two;
 use numbers::two_at;
 use numbers::wide;
+use predecessors::put_predecessors;
 use table::BLOCK_COUNT_OFFSET;
 use table::BLOCK_LENGTH;
 use table::BLOCK_NAMES_OFFSET;
@@ -162,6 +163,7 @@ impl Reader {
         }
         patch(t, a, self.rows, found, self.mentions);
         self.put_head(t, a, entry);
+        put_predecessors(t, a);
         Taken::Reading(self.closed())
     }
 }

@@ -14,13 +14,13 @@ use Rattle.laws.proofs.Agreeing.{all-agree}
 use Rattle.laws.proofs.Ranges.{length-map-from}
 use Rattle.laws.proofs.Every.{Every, none, more, every-at, every-imp, every-right}
 use Rattle.language.specs.Instructions.{Form, formOf, formNumber, loadType, uint, void, convOp, copyOp}
-use Rattle.language.specs.Programs.{Func, Row, isSsa, typeAt, rowsAt, isPhi, targetsOf, sourcesOf, entriesOf, opOf, maxRegisters}
-use Rattle.language.specs.Table.{functionSsa, functionResult, functionEntry, registerCount, registerType, rowOp, rowTarget, rowLeft, rowRight, loadNumber, jumpFirst, jumpSecond, phiFirst, phiCount, phiEntry, blockRows, decodeAs, decodeRow, decodeFunction}
+use Rattle.language.specs.Programs.{Func, Row, isSsa, typeAt, rowsAt, isPhi, targetsOf, sourcesOf, entriesOf, opOf, maxRegisters, maxBlocks}
+use Rattle.language.specs.Table.{functionSsa, functionResult, functionEntry, registerCount, registerType, rowOp, rowTarget, rowLeft, rowRight, loadNumber, jumpFirst, jumpSecond, phiFirst, phiCount, phiEntry, blockCount, blockRows, predecessorCount, decodeAs, decodeRow, decodeFunction}
 use Rattle.language.specs.Checking.{Spot, inRange, typed, breaks11, breaks12, breaks13, breaks14, breaks15, breaks16}
-use Rattle.language.proofs.TableView.{register-count, type-is, block-count, block-rows-count}
+use Rattle.language.proofs.TableView.{register-count, type-is, block-count, block-rows-count, kept-count}
 use Rattle.theorems.proofs.AcceptanceRows.{range-parts}
 use Rattle.rules.specs.Tests.{lowest, laterTests}
-use Rattle.flow.specs.Layout.{incomingIn, phisIn}
+use Rattle.flow.specs.Layout.{phisIn}
 use Rattle.rules.specs.Cells.{RowStands, Judged, spot, retaken, unset, binaryTyped}
 use Rattle.rules.proofs.Firsts.{any-not-all}
 use Rattle.rules.proofs.FaultLaws.{ssa-is, led, breaks12-at, breaks16-at}
@@ -220,14 +220,20 @@ module _ (t : List ℕ) (a : ℕ) (m : List ℕ) (b j k : ℕ) (h : RowStands t 
 
   phi-15 :
       (u first count : ℕ)
-      → breaks15 f (spot b j (Row.phi u (map (phiEntry t a) (from first count)))) ≡ (eqb count 0 || not (eqb count (incomingIn m b)))
+      → predecessorCount t a b < 256
+      → breaks15 f (spot b j (Row.phi u (map (phiEntry t a) (from first count)))) ≡ (eqb count 0 || not (eqb count (predecessorCount t a b)))
   unfolding breaks15
-  phi-15 u first count =
-      let l : b < length (f .blocks) = rw (block-count t a) (h .block) in
-      rw (empty-from (phiEntry t a) first count, length-map-from (phiEntry t a) first count, h .prepared .incoming b l)
+  phi-15 u first count c =
+      let few : blockCount t a ≤ maxBlocks = h .sized .blocks in
+      rw (
+        empty-from (phiEntry t a) first count,
+        length-map-from (phiEntry t a) first count,
+        kept-count t a (h .sized .placed) (h .sized .within) b (h .block) (omega (arith, h .block)) c,
+      )
 
   pub phi-judged :
       formOf (rowOp t a k) ≡ Form.phi
+      → predecessorCount t a b < 256
       → T (inRange f (decodeAs Form.phi t a k))
       → (let es = map (phiEntry t a) (from (phiFirst t a k) (phiCount t a k)) in
       lowest 11
@@ -235,12 +241,12 @@ module _ (t : List ℕ) (a : ℕ) (m : List ℕ) (b j k : ℕ) (h : RowStands t 
       ∷ retaken t a m (rowTarget t a k) k
       ∷ not (eqb (functionSsa t a) 1)
       ∷ (eqb b (functionEntry t a) || ltb (phisIn m b) j)
-      ∷ (eqb (phiCount t a k) 0 || not (eqb (phiCount t a k) (incomingIn m b)))
+      ∷ (eqb (phiCount t a k) 0 || not (eqb (phiCount t a k) (predecessorCount t a b)))
       ∷ not (all (λ u. not (unset t a m u)) es)
       ∷ []))
       ≡ lowest 11 (laterTests f (spot b j (decodeAs Form.phi t a k)))
   unfolding decodeAs breaks11 breaks13 typed
-  phi-judged e n =
+  phi-judged e c n =
       let es : List ℕ = map (phiEntry t a) (from (phiFirst t a k) (phiCount t a k)) in
       let x : ℕ = rowTarget t a k in
       let r : Row = Row.phi x es in
@@ -253,7 +259,7 @@ module _ (t : List ℕ) (a : ℕ) (m : List ℕ) (b j k : ℕ) (h : RowStands t 
       (breaks12-at t a m b j k h r x (row-as Form.phi e) refl (few x l))
       (cond-not (isSsa f) ∙ ap not (ssa-is t a))
       (phi-14 x es)
-      (phi-15 x (phiFirst t a k) (phiCount t a k))
+      (phi-15 x (phiFirst t a k) (phiCount t a k) c)
       (breaks16-at t a m b j k h r (every-imp few ls) ∙ any-not-all (unset t a m) es)
 
   -- the terminators and `nop`
@@ -337,7 +343,7 @@ module _ (t : List ℕ) (a : ℕ) (m : List ℕ) (k : ℕ) where
       end ∙ rw (i, s, y′, z′, l, n, d, p, q, e, c) (binary-judged t a m b j k h g r′)
 
   pub phi-found :
-      (b j x first count w ssa entry leading incoming : ℕ) (fits again set : Bool) (r : ℕ)
+      (b j x first count w ssa entry leading kept : ℕ) (fits again set : Bool) (r : ℕ)
       → x ≡ rowTarget t a k
       → first ≡ phiFirst t a k
       → count ≡ phiCount t a k
@@ -345,15 +351,16 @@ module _ (t : List ℕ) (a : ℕ) (m : List ℕ) (k : ℕ) where
       → fits ≡ all (λ u. eqb (registerType t a u) w) (map (phiEntry t a) (from first count))
       → entry ≡ functionEntry t a
       → leading ≡ phisIn m b
-      → incoming ≡ incomingIn m b
+      → kept ≡ predecessorCount t a b
+      → kept < 256
       → set ≡ all (λ u. not (unset t a m u)) (map (phiEntry t a) (from first count))
       → again ≡ retaken t a m x k
       → ssa ≡ functionSsa t a
-      → r ≡ lowest 11 (not fits ∷ again ∷ not (eqb ssa 1) ∷ (eqb b entry || ltb leading j) ∷ (eqb count 0 || not (eqb count incoming)) ∷ not set ∷ [])
+      → r ≡ lowest 11 (not fits ∷ again ∷ not (eqb ssa 1) ∷ (eqb b entry || ltb leading j) ∷ (eqb count 0 || not (eqb count kept)) ∷ not set ∷ [])
       → Judged Form.phi t a m b j k r
   unfolding Judged
-  phi-found b j x first count w ssa entry leading incoming fits again set r p q e l n c d i s u v end h g r′ =
-      end ∙ rw (n, s, u, v, c, d, i, l, p, q, e) (phi-judged t a m b j k h g r′)
+  phi-found b j x first count w ssa entry leading kept fits again set r p q e l n c d i byte s u v end h g r′ =
+      end ∙ rw (n, s, u, v, c, d, i, l, p, q, e) (phi-judged t a m b j k h g (rw i at byte) r′)
 
   pub source-found :
       (y w kind : ℕ) (never : Bool) (r : ℕ)

@@ -1,5 +1,5 @@
 // 10 to 16 of a row whose numbers are in their ranges. What a test would have to scan the function for is
-// prepared (`flow`): the first row that assigns a register, a block's leading phi, its number of predecessors.
+// prepared (`flow`): the first row that assigns a register, a block's leading phi. A block keeps its predecessors itself.
 ghost use mathlib.Core.Path.{_≡_};
 ghost use mathlib.Core.Bool.{false, not, Bool·beq};
 ghost use mathlib.Core.List.{map, [], _∷_};
@@ -18,7 +18,6 @@ ghost use Rattle.instructions.specs.Shapes.{isTerminatorOp};
 ghost use Rattle.language.specs.Programs.{maxRows, maxEntries, maxBlocks, maxRegisters};
 use crate::ranges::form_of;
 use flow::assignment;
-use flow::incoming;
 use flow::phis;
 use instructions::forms;
 use instructions::is_terminator;
@@ -33,6 +32,7 @@ use table::function_ssa;
 use table::phi_count;
 use table::phi_entry;
 use table::phi_first;
+use table::predecessor_count;
 use table::register_type;
 use table::row_left;
 use table::row_op;
@@ -202,7 +202,7 @@ fn phi_fault(t: &[u8], a: usize, m: &[u16], b: usize, j: usize, k: usize) -> u8
     let count = phi_count(t, a, k);
     let fits = entries_typed(t, a, first, count, register_type(t, a, target));
     let misplaced = (b == function_entry(t, a)) | (phis(m, b) < j);
-    let miscounted = (count == 0) | (count != incoming(m, b));
+    let miscounted = (count == 0) | (count != predecessor_count(t, a, b));
     let assigned = entries_set(t, a, m, first, count);
     pick(
         !fits,

@@ -4,7 +4,7 @@ ghost use mathlib.Core.Path.{_≡_};
 ghost use Prim.Native.Nat.{_<_, _≤_};
 ghost use lib.ListN.{length};
 ghost use Rattle.language.specs.Table.{functionCount, functionSsa, functionResult, functionParams, registerCount, blockCount, functionEntry, functionName, InTable};
-ghost use Rattle.language.specs.Table.{registerType, registerName, blockFirst, blockRows, blockName};
+ghost use Rattle.language.specs.Table.{registerType, registerName, blockFirst, blockRows, blockName, predecessorCount, predecessorAt};
 ghost use Rattle.language.specs.Table.{rowOp, rowTarget, rowLeft, rowRight, loadNumber, jumpFirst, jumpSecond, phiFirst, phiCount, phiEntry};
 ghost use Rattle.language.specs.Programs.{maxRows, maxEntries, maxBlocks, maxRegisters};
 use crate::cells::name_at;
@@ -19,6 +19,7 @@ use crate::layout::LEFTS_OFFSET;
 use crate::layout::NAME_OFFSET;
 use crate::layout::OPERANDS_OFFSET;
 use crate::layout::PARAMS_OFFSET;
+use crate::layout::PREDECESSORS_OFFSET;
 use crate::layout::REGISTER_COUNT_OFFSET;
 use crate::layout::REGISTER_LENGTH;
 use crate::layout::REGISTER_NAMES_OFFSET;
@@ -128,6 +129,20 @@ pub fn block_name(t: &[u8], a: usize, b: usize) -> &[u8]
 }
 
 // Rows, and the three readings of their eight operand cells: a load's number, the blocks of a jump, where a phi's entries stand.
+
+pub fn predecessor_count(t: &[u8], a: usize, b: usize) -> usize
+    requires { ⌜ (InTable (now t) a) × (b < maxBlocks) ⌝ }
+    ensures { λ r. ⌜ (r ≡ predecessorCount (now (t .entry)) a b) × (r < 256) ⌝ }
+{
+    wide(t[a + PREDECESSORS_OFFSET + BLOCK_LENGTH * b])
+}
+
+pub fn predecessor(t: &[u8], a: usize, b: usize, k: usize) -> usize
+    requires { ⌜ (InTable (now t) a) × (b < maxBlocks) × (k < 256) ⌝ }
+    ensures { λ r. ⌜ (r ≡ predecessorAt (now (t .entry)) a b k) × (r < 256) ⌝ }
+{
+    wide(t[a + (PREDECESSORS_OFFSET + 1) + BLOCK_LENGTH * b + k])
+}
 
 pub fn row_op(t: &[u8], a: usize, r: usize) -> u8
     requires { ⌜ (InTable (now t) a) × (r < maxRows) ⌝ }

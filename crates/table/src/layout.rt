@@ -23,7 +23,9 @@ pub const NAME_LENGTH: usize = 1 + MAX_NAME;
 
 pub const REGISTER_LENGTH: usize = 1 + NAME_LENGTH;
 
-pub const BLOCK_LENGTH: usize = 4 + NAME_LENGTH;
+pub const PREDECESSORS_LENGTH: usize = 1 + MAX_BLOCKS;
+
+pub const BLOCK_LENGTH: usize = 4 + NAME_LENGTH + PREDECESSORS_LENGTH;
 
 pub const ROW_LENGTH: usize = 12;
 
@@ -56,6 +58,8 @@ pub const REGISTER_NAMES_OFFSET: usize = REGISTERS_OFFSET + 1;
 pub const BLOCK_ROWS_OFFSET: usize = BLOCKS_OFFSET + 2;
 
 pub const BLOCK_NAMES_OFFSET: usize = BLOCKS_OFFSET + 4;
+
+pub const PREDECESSORS_OFFSET: usize = BLOCK_NAMES_OFFSET + NAME_LENGTH;
 
 pub const TARGETS_OFFSET: usize = ROWS_OFFSET + 1;
 

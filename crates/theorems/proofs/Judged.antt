@@ -5,7 +5,7 @@ use mathlib.Core.Bool.{Bool, true, false, cond, _||_, or-comm, or-false}
 use mathlib.Core.List.{List, [], _∷_, map, map-append}
 use Prim.Native.Nat.{ℕ, zero, suc, _≤_, _<_, zero-le}
 use native.Mathlib.Omega.{arith}
-use native.Mathlib.Decide.{ℕ-discrete}
+use native.Mathlib.Decide.{ℕ-discrete, decLt}
 use borrow.Author.Tests.{leb-true, leb-false}
 use lib.Dec.{leb}
 use lib.ListN.{length, take, drop, length-drop}
@@ -119,3 +119,25 @@ module _ (p : Program) where
       by v (Checked.many m) = absurd (omega arith)
       by v (Checked.accepted m b) = refl
       by v (Checked.refused j k r m l b q) = absurd (refused-not-accepted (sym q ∙ a j l))
+
+  -- It refuses as it does the first function that it refuses.
+  pub first-refused :
+      (i k r : ℕ)
+      → length p ≤ maxFunctions
+      → i < length p
+      → ((j : ℕ) → j < i → judged p j ≡ Verdict.accepted)
+      → judged p i ≡ Verdict.refused k r
+      → check p ≡ Verdict.refused k r
+  first-refused i k r h l a e = by (check p) checked
+    where
+      first : (j m n : ℕ) → ((x : ℕ) → x < j → judged p x ≡ Verdict.accepted) → judged p j ≡ Verdict.refused m n → i ≡ j
+      first j m n b q =
+          elim (decLt i j) [
+            | yes x ↦ absurd (refused-not-accepted (sym e ∙ b i x))
+            | no x ↦ elim (decLt j i) [ yes y ↦ absurd (refused-not-accepted (sym q ∙ a j y)) | no y ↦ omega arith ]
+          ]
+
+      by : (v : Verdict) → Checked p v → v ≡ Verdict.refused k r
+      by v (Checked.many m) = absurd (omega arith)
+      by v (Checked.accepted m b) = absurd (refused-not-accepted (sym e ∙ b i l))
+      by v (Checked.refused j m n x y b q) = sym q ∙ ap (judged p) (sym (first j m n b q)) ∙ e

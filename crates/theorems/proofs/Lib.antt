@@ -33,6 +33,7 @@ pub mod Demand
 pub mod OverTables
 pub mod ReadMoves
 pub mod ReadFits
+pub mod Predecessors
 pub mod Turn
 pub mod Values
 pub mod NeverStuck

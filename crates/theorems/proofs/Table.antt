@@ -12,11 +12,11 @@ use Rattle.laws.specs.Sections.{At, Bytes, ZeroOr, pad}
 use Rattle.laws.proofs.Ranges.{map-from}
 use Rattle.laws.proofs.Sections.{at-self, at-right, at-pad, at-stride, gather-is-from, length-gatherFrom, length-pad, bytes-pad}
 use Rattle.laws.proofs.Sections.{bytes-gatherFrom, zero-or-at, zero-or-pad, zero-or-stride, zero-or-map}
-use Rattle.language.specs.Programs.{Program, noFunction}
-use Rattle.language.specs.Table.{tableLength, functionCount, functionAt, functionCells, cells, decodeFunction, decode, functionLength, functionsLength}
-use Rattle.theorems.specs.TableLaw.{Fits, TableLaw}
+use Rattle.language.specs.Programs.{Func, Program, noFunction}
+use Rattle.language.specs.Table.{tableLength, functionCount, functionAt, predecessorLists, functionCells, cells, decodeFunction, decode, functionLength, functionsLength}
+use Rattle.theorems.specs.TableLaw.{Laid, Fits, TableLaw}
 use Rattle.theorems.specs.TableNeeds.{NeededIn, Needed, ZeroLaw}
-use Rattle.theorems.proofs.TableFunction.{length-function, function-back}
+use Rattle.theorems.proofs.TableFunction.{laid-of, lists-fit, length-function, function-back}
 use Rattle.theorems.proofs.TableBytes.{function-bytes}
 use Rattle.theorems.proofs.TableZero.{function-zero}
 
@@ -29,7 +29,7 @@ module _ (p : Program) (fits : Fits p) where
   functions-at = at-pad functionsLength (gather functionCells p) (at-right (length p ∷ []) (pad functionsLength (gather functionCells p)) at-self)
 
   -- function i begins at its cell
-  function-at : (i : ℕ) → i < length p → At (cells p) (functionAt i) (functionCells (getD p i noFunction))
+  pub function-at : (i : ℕ) → i < length p → At (cells p) (functionAt i) (functionCells (getD p i noFunction))
   function-at i b =
       at-stride (λ f. 0) (λ m. functionCells) functionLength noFunction 0 p functions-stride i b (rw (gather-is-from functionCells 0 p) at functions-at)
 
@@ -62,11 +62,14 @@ module _ (p : Program) (fits : Fits p) where
   )
 
   function-zero-or-needed : (i : ℕ) → i < length p → ZeroOr (Needed (cells p)) (functionAt i) (functionCells (getD p i noFunction))
+  unfolding functionCells
   function-zero-or-needed i b =
+      let f : Func = getD p i noFunction in
+      let laid : Laid f = laid-of f (fits .functions i b) in
       let inside : i < functionCount (cells p) = rw function-count-back b in
       rw (zero-add (functionAt i)) at
       (zero-or-map (NeededIn (cells p) (functionAt i)) (Needed (cells p)) 0 (λ j m e n. rw (e ∙ zero-add j) (Needed.function i inside n)) (functionAt i)
-      (functionCells (getD p i noFunction)) (function-zero (getD p i noFunction) (fits .functions i b) (functionAt i) (function-at i b)))
+      (functionCells f) (function-zero f laid (predecessorLists f) (lists-fit f laid) (functionAt i) (function-at i b)))
 
   functions-zero-or-needed : ZeroOr (Needed (cells p)) 1 (gather functionCells p)
   functions-zero-or-needed =

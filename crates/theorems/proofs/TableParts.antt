@@ -3,7 +3,7 @@
 use mathlib.Core.Bool.{true, false, cond, true≢false}
 use mathlib.Core.Path.{_≡_, refl, ap, _∙_}
 use mathlib.Core.List.{List, [], _∷_, _++_, map}
-use Prim.Native.Nat.{ℕ, _+_, _*_, _/_, _%_, _^_, _<_}
+use Prim.Native.Nat.{ℕ, _+_, _*_, _/_, _%_, _^_, _≤_, _<_}
 use native.Mathlib.Nat.{zero-lt-suc, mod-eq-of-lt}
 use native.Mathlib.Omega.{arith}
 use lib.Dec.{eqb, lit<}
@@ -12,14 +12,14 @@ use lib.ListN.{length, getD}
 use Rattle.laws.specs.Lists.{from}
 use Rattle.laws.specs.Sections.{At, pad}
 use Rattle.laws.proofs.Ranges.{map-from}
-use Rattle.laws.proofs.Sections.{at-left, at-right, at-cell, at-pad}
+use Rattle.laws.proofs.Sections.{at-move, at-left, at-right, at-cell, at-pad}
 use Rattle.language.specs.Instructions.{Form, formOf, phiOp}
-use Rattle.language.specs.Programs.{Row, Register, Block, entriesOf, opOf, formIn, isPhi}
-use Rattle.language.specs.Table.{two, four, eight, twoBytes, fourBytes, eightBytes, nameCells, registerCells, blockCells, rowCells}
+use Rattle.language.specs.Programs.{Row, Register, entriesOf, namedBy, opOf, formIn, isPhi, maxName}
+use Rattle.language.specs.Table.{two, four, eight, twoBytes, fourBytes, eightBytes, nameCells, registerCells, predecessorCells, Listed, blockCells, rowCells}
 use Rattle.language.specs.Table.{decodeRegister, decodeRow, decodeAs, decodeBlock, registerType, registerName, blockFirst, blockRows}
 use Rattle.language.specs.Table.{blockName, rowEntries, rowOp, rowTarget, rowLeft, rowRight, loadNumber, jumpFirst, jumpSecond, phiFirst}
-use Rattle.language.specs.Table.{phiCount, phiEntry, blockLength, blocksOffset, entriesOffset, registerLength, registersOffset, rowLength, rowsOffset}
-use Rattle.language.proofs.TableLaws.{name-back}
+use Rattle.language.specs.Table.{phiCount, phiEntry, blockLength, blockNamesOffset, blocksOffset, entriesOffset, predecessorsOffset, registerLength, registersOffset, rowLength, rowsOffset}
+use Rattle.language.proofs.TableLaws.{length-name, name-back}
 use Rattle.theorems.specs.TableLaw.{RowFits, loadedNumber}
 
 -- ---- the cells of a row
@@ -175,6 +175,32 @@ module _ {t : List ℕ} (a : ℕ) where
   as-back n Row.leave r h e x g d b c = refl
   as-back {k} n (Row.unknown op) r h e x g d b c = ap Row.unknown (op-back n (Row.unknown op) r h e)
 
+  -- the blocks that a row names, which no other of its numbers tells
+  named-as : {k : ℕ} (n : ℕ) (row : Row) (r : ℕ) → At t k (rowCells n row) → k ≡ a + rowsOffset + rowLength * r
+      → namedBy (decodeAs (formIn row) t a r) ≡ namedBy row
+  unfolding pad rowCells decodeAs
+  named-as n Row.nop r h e = refl
+  named-as n (Row.load op u y) r h e = refl
+  named-as n (Row.unary op u s) r h e = refl
+  named-as n (Row.binary op u s v) r h e = refl
+  named-as n (Row.phi u es) r h e = refl
+  named-as {k} n (Row.jump x) r h e =
+      let first : jumpFirst t a r ≡ x = row-cell n (Row.jump x) r h e 4 (lit< tt) (omega arith) in
+      cc
+  named-as {k} n (Row.branch s x y) r h e =
+      let first : jumpFirst t a r ≡ x = row-cell n (Row.branch s x y) r h e 4 (lit< tt) (omega arith) in
+      let second : jumpSecond t a r ≡ y = row-cell n (Row.branch s x y) r h e 5 (lit< tt) (omega arith) in
+      cc
+  named-as n (Row.return s) r h e = refl
+  named-as n Row.leave r h e = refl
+  named-as n (Row.unknown op) r h e = refl
+
+  pub named-back : {k : ℕ} (n : ℕ) (row : Row) (r : ℕ) → formOf (opOf row) ≡ formIn row → At t k (rowCells n row) → k ≡ a + rowsOffset + rowLength * r
+      → namedBy (decodeRow t a r) ≡ namedBy row
+  unfolding decodeRow
+  named-back n row r f h e =
+      ap (λ o. namedBy (decodeAs (formOf o) t a r)) (op-back n row r h e) ∙ ap (λ o. namedBy (decodeAs o t a r)) f ∙ named-as n row r h e
+
   pub row-back : {k l : ℕ} (n : ℕ) (row : Row) (r : ℕ) → RowFits row → At t k (rowCells n row) → k ≡ a + rowsOffset + rowLength * r
       → At t l (entriesOf row) → l ≡ a + entriesOffset + n → n < 65536 → length (entriesOf row) < 65536 → decodeRow t a r ≡ row
   unfolding decodeRow
@@ -201,25 +227,39 @@ module _ {t : List ℕ} (a : ℕ) where
 
   -- ---- blocks
 
-  module _ {k : ℕ} (n : ℕ) (b : Block) (i : ℕ) (h : At t k (blockCells n b)) (e : k ≡ a + blocksOffset + blockLength * i) where
+  module _ {k : ℕ} (n : ℕ) (b : Listed) (i : ℕ) (h : At t k (blockCells n b)) (e : k ≡ a + blocksOffset + blockLength * i) where
+    abbrev count : List ℕ
+    count = twoBytes (length (b .block .rows))
+
+    abbrev behindRows : List ℕ
+    behindRows = nameCells (b .block .name) ++ predecessorCells (b .list)
+
+    from-count : At t (k + 2) (count ++ behindRows)
+    unfolding blockCells
+    from-count = at-right (twoBytes n) (count ++ behindRows) h
+
+    from-name : At t (k + 2 + 2) behindRows
+    from-name = at-right count behindRows from-count
+
     pub block-first-back : n < 65536 → blockFirst t a i ≡ n
     unfolding blockCells
-    block-first-back c = two-back n (at-left (twoBytes n) (twoBytes (length (b .rows)) ++ nameCells (b .name)) h) (omega arith) ∙ mod-eq-of-lt c
+    block-first-back c = two-back n (at-left (twoBytes n) (count ++ behindRows) h) (omega arith) ∙ mod-eq-of-lt c
 
-    behind : At t (k + 2) (twoBytes (length (b .rows)) ++ nameCells (b .name))
-    unfolding blockCells
-    behind = at-right (twoBytes n) (twoBytes (length (b .rows)) ++ nameCells (b .name)) h
+    pub block-rows-back : length (b .block .rows) < 65536 → blockRows t a i ≡ length (b .block .rows)
+    block-rows-back c = two-back (length (b .block .rows)) (at-left count behindRows from-count) (omega arith) ∙ mod-eq-of-lt c
 
-    pub block-rows-back : length (b .rows) < 65536 → blockRows t a i ≡ length (b .rows)
-    block-rows-back c = two-back (length (b .rows)) (at-left (twoBytes (length (b .rows))) (nameCells (b .name)) behind) (omega arith) ∙ mod-eq-of-lt c
+    pub block-name-at : At t (a + blockNamesOffset + blockLength * i) (nameCells (b .block .name))
+    block-name-at = at-move (omega arith) (at-left (nameCells (b .block .name)) (predecessorCells (b .list)) from-name)
 
-    pub block-name-back : blockName t a i ≡ b .name
-    block-name-back = name-back (b .name) (at-right (twoBytes (length (b .rows))) (nameCells (b .name)) behind) (omega arith)
+    pub block-list-at : length (b .block .name) ≤ maxName → At t (a + predecessorsOffset + blockLength * i) (predecessorCells (b .list))
+    block-list-at c =
+        at-move (omega (arith, length-name (b .block .name) c)) (at-right (nameCells (b .block .name)) (predecessorCells (b .list)) from-name)
 
-    pub block-back : n < 65536 → length (b .rows) < 65536
-        → ((j : ℕ) → j < length (b .rows) → decodeRow t a (n + j) ≡ getD (b .rows) j Row.nop) → decodeBlock t a i ≡ b
+    pub block-back : n < 65536 → length (b .block .rows) < 65536
+        → ((j : ℕ) → j < length (b .block .rows) → decodeRow t a (n + j) ≡ getD (b .block .rows) j Row.nop) → decodeBlock t a i ≡ b .block
     unfolding decodeBlock
     block-back c d g =
-        let rows : map (decodeRow t a) (from (blockFirst t a i) (blockRows t a i)) ≡ b .rows =
-        rw (block-first-back c, block-rows-back d) (map-from (decodeRow t a) Row.nop n (b .rows) g) in
-        λ j. record { name = block-name-back j; rows = rows j }
+        let name : blockName t a i ≡ b .block .name = name-back (b .block .name) block-name-at refl in
+        let rows : map (decodeRow t a) (from (blockFirst t a i) (blockRows t a i)) ≡ b .block .rows =
+        rw (block-first-back c, block-rows-back d) (map-from (decodeRow t a) Row.nop n (b .block .rows) g) in
+        λ j. record { name = name j; rows = rows j }

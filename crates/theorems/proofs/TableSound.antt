@@ -14,7 +14,7 @@ use lib.Ieee.Fits.{and-l, and-r}
 use mir.Facts.{or-yes}
 use Rattle.laws.specs.Lists.{empty}
 use Rattle.laws.specs.Sections.{Bytes}
-use Rattle.laws.proofs.Every.{Every, none, more, every-all, every-at, every-left, every-right}
+use Rattle.laws.proofs.Every.{every-all, every-at, every-left, every-right}
 use Rattle.language.specs.Instructions.{Form, formOf, formNumber, width, loadType, instructionCount}
 use Rattle.language.specs.Names.{Spelling, spell, nextSpelled, whole, spelled}
 use Rattle.language.proofs.SpelledNames.{spoiled}
@@ -24,6 +24,7 @@ use Rattle.theorems.specs.Statements.{AcceptedBack}
 use Rattle.theorems.specs.TableLaw.{NameFits, RowFits, FunctionFits, Fits, Held, loadedNumber}
 use Rattle.theorems.proofs.AcceptanceCheck.{clean-of-check, Sound, sound-parts}
 use Rattle.theorems.proofs.AcceptanceRows.{range-parts}
+use Rattle.theorems.proofs.TableBytes.{bytes-under}
 use Rattle.theorems.proofs.Table.{table}
 
 -- ---- names
@@ -77,10 +78,6 @@ form-back Form.unknown = refl
 
 pub same-form : (x y : Form) → formNumber x ≡ formNumber y → x ≡ y
 same-form x y e = sym (form-back x) ∙ ap formBy e ∙ form-back y
-
-bytes-under : {n : ℕ} {xs : List ℕ} → n ≤ 256 → Every (λ x. x < n) xs → Bytes xs
-bytes-under h none = tt
-bytes-under h (more p q) = (lt-of-lt-of-le p h, bytes-under h q)
 
 pub width-most : (t : ℕ) → width t ≤ 64
 unfolding width

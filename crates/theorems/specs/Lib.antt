@@ -7,4 +7,5 @@ pub mod Clean
 pub mod Accepted
 pub mod Values
 pub mod NeverStuck
+pub mod Predecessors
 pub mod RoundTrip

@@ -2,15 +2,15 @@
 -- Assumes nothing.
 use mathlib.Core.Bool.{true}
 use mathlib.Core.Path.{_≡_}
-use mathlib.Core.List.{List}
+use mathlib.Core.List.{List, []}
 use Prim.Native.Nat.{ℕ, _^_, _≤_, _<_}
 use lib.ListN.{length, getD}
 use Rattle.laws.specs.Sections.{Bytes}
 use Rattle.language.specs.Instructions.{formOf}
 use Rattle.language.specs.Programs.{Row, Register, Func, Program, opOf, formIn, targetsOf, sourcesOf, entriesOf, namedBy, rowsOf}
-use Rattle.language.specs.Programs.{entryCount, blockAt, noRegister, noFunction, maxFunctions, maxRegisters, maxBlocks, maxRows, maxEntries}
+use Rattle.language.specs.Programs.{entryCount, blockAt, noRegister, noBlock, noFunction, maxFunctions, maxRegisters, maxBlocks, maxRows, maxEntries}
 use Rattle.language.specs.Programs.{maxName}
-use Rattle.language.specs.Table.{tableLength, cells, decode}
+use Rattle.language.specs.Table.{Listed, tableLength, cells, decode}
 
 -- The number a row loads.
 abbrev pub loadedNumber : Row → ℕ
@@ -57,6 +57,26 @@ pub record FunctionFits (f : Func) : Type 0 where
   pub registers : (r : ℕ) → r < length (f .registers) → RegisterFits (getD (f .registers) r noRegister)
   pub blockNames : (b : ℕ) → b < length (f .blocks) → NameFits (blockAt f b .name)
   pub rows : (r : ℕ) → r < length (rowsOf f) → RowFits (getD (rowsOf f) r Row.nop)
+
+-- What a function must meet so that its sections have room, whatever its numbers are.
+pub record Laid (f : Func) : Type 0 where
+  pub name : length (f .name) ≤ maxName
+  pub registerCount : length (f .registers) ≤ maxRegisters
+  pub blockCount : length (f .blocks) ≤ maxBlocks
+  pub rowCount : length (rowsOf f) ≤ maxRows
+  pub entryCount : entryCount f ≤ maxEntries
+  pub registerNames : (r : ℕ) → r < length (f .registers) → length (getD (f .registers) r noRegister .name) ≤ maxName
+  pub blockNames : (b : ℕ) → b < length (f .blocks) → length (blockAt f b .name) ≤ maxName
+  pub forms : (r : ℕ) → r < length (rowsOf f) → formOf (opOf (getD (rowsOf f) r Row.nop)) ≡ formIn (getD (rowsOf f) r Row.nop)
+
+-- Lists of predecessors that its blocks' records have room for: a list for each block.
+pub record ListsFit (lists : List (List ℕ)) (f : Func) : Type 0 where
+  pub count : length lists ≡ length (f .blocks)
+  pub short : (b : ℕ) → b < length (f .blocks) → length (getD lists b []) ≤ maxBlocks
+
+-- What stands at a number that is no block's.
+abbrev pub noListed : Listed
+noListed = record { block = noBlock; list = [] }
 
 pub record Fits (p : Program) : Type 0 where
   pub functionCount : length p ≤ maxFunctions

@@ -11,7 +11,7 @@ use Rattle.language.specs.Instructions.{Form, formOf}
 use Rattle.language.specs.Programs.{Program}
 use Rattle.language.specs.Table.{functionCount, functionAt, registerCount, blockCount, blockFirst, blockRows, rowCount, rowOp, phiFirst, nameOffset}
 use Rattle.language.specs.Table.{phiCount, cells, decode}
-use Rattle.language.specs.Table.{blockLength, blockNamesOffset, blocksOffset, entriesOffset, registerLength, registerNamesOffset, registersOffset, rowLength, rowsOffset}
+use Rattle.language.specs.Table.{blockLength, blockNamesOffset, blocksOffset, entriesOffset, predecessorsOffset, registerLength, registerNamesOffset, registersOffset, rowLength, rowsOffset}
 use Rattle.language.specs.Answers.{checkAnswer, signatureAnswer, runAnswer, runEachAnswer, translateAnswer, writeAnswer}
 use Rattle.theorems.specs.TableLaw.{Fits}
 
@@ -34,7 +34,7 @@ pub data NeededRow (t : List ℕ) (a r : ℕ) : Type 0 where
   counted : r < rowCount t a → NeededRow t a r
   stored : (b j : ℕ) → b < blockCount t a → j < blockRows t a b → r ≡ blockFirst t a b + j → NeededRow t a r
 
--- Cell k is needed by the function at cell a. A name is its length cell and as many bytes.
+-- Cell k is needed by the function at cell a. A name is its length cell and as many bytes, a list of predecessors their count and as many numbers.
 pub data NeededIn (t : List ℕ) (a k : ℕ) : Type 0 where
   head : (j : ℕ) → j < nameOffset → k ≡ a + j → NeededIn t a k
   name : (j : ℕ) → j < suc (getD t (a + nameOffset) 0) → k ≡ a + nameOffset + j → NeededIn t a k
@@ -46,6 +46,9 @@ pub data NeededIn (t : List ℕ) (a k : ℕ) : Type 0 where
   blockName :
       (b j : ℕ) → b < blockCount t a → j < suc (getD t (a + blockNamesOffset + blockLength * b) 0)
       → k ≡ a + blockNamesOffset + blockLength * b + j → NeededIn t a k
+  predecessor :
+      (b j : ℕ) → b < blockCount t a → j < suc (getD t (a + predecessorsOffset + blockLength * b) 0)
+      → k ≡ a + predecessorsOffset + blockLength * b + j → NeededIn t a k
   row : (r j : ℕ) → NeededRow t a r → T (member j (usedCells (formOf (rowOp t a r)))) → k ≡ a + rowsOffset + rowLength * r + j → NeededIn t a k
   entry : (r j : ℕ) → NeededRow t a r → formOf (rowOp t a r) ≡ Form.phi → j < phiCount t a r → k ≡ a + entriesOffset + (phiFirst t a r + j) → NeededIn t a k
 

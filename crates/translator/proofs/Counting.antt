@@ -11,19 +11,17 @@ use lib.ListN.{length}
 use lib.Seq.{take-length}
 use lib.Ieee.Fits.{and-l, and-r}
 use borrow.Author.Tests.{ne-eqb}
-use Rattle.laws.specs.Lists.{keep, position, below, sum}
+use Rattle.laws.specs.Lists.{keep, below, sum}
 use Rattle.laws.proofs.Gather.{keep-gather, length-gather, sum-take-suc}
-use Rattle.laws.proofs.Searching.{rank-below}
 use Rattle.laws.proofs.Keep.{any-none, any-keep}
 use Rattle.laws.proofs.Sums.{sum-keep, sum-same, sum-below-le, length-keeps}
 use Rattle.laws.proofs.OneMore.{sum-below-suc}
 use Rattle.language.specs.Programs.{Row, Block, Func, noBlock, rowsAt, rowsOf, firstRow, isPhi, hasPhi}
-use Rattle.language.specs.Checking.{goesTo, predecessors}
+use Rattle.language.specs.Checking.{predecessors}
 use Rattle.language.specs.Running.{phisOf}
 use Rattle.language.specs.Translating.{keptOf, phiBlocks, phisBefore, pairsBefore, phiTotal, pairCount, sizeOfEdges, translatedBlocks, translationFits}
 use Rattle.theorems.specs.Clean.{Clean}
 use Rattle.theorems.proofs.SimulationRows.{phisAt, rows-split}
-use Rattle.flow.specs.Predecessors.{rankOf}
 use Rattle.flow.specs.Leading.{leadingPhis}
 use Rattle.translator.proofs.Running.{leading-keep}
 
@@ -116,8 +114,3 @@ module _ (f : Func) (c : Clean f) where
       case : (b : Bool) → hasPhi f y ≡ b → cond (eqb p 0) u v ≡ cond b v u
       case true h = rw (ne-eqb p 0 (λ z. omega (arith, any-keep isPhi (rowsAt f y) h)))
       case false h = rw (e, any-none isPhi (rowsAt f y) h)
-
-  -- a predecessor's rank is its place
-  pub rank-is : (x y : ℕ) → x < length (f .blocks) → goesTo f x y ≡ true → rankOf f x y ≡ position (λ z. eqb z x) (predecessors f y)
-  unfolding rankOf predecessors
-  rank-is x y l g = sym (rank-below (λ z. goesTo f z y) (length (f .blocks)) x l g)

@@ -12,7 +12,7 @@ use lib.Seq.{sets}
 use Rattle.laws.specs.Sections.{pad}
 use Rattle.language.specs.Programs.{Row, Func, blockAt, rowsAt, rowsOf, firstRow, hasPhi, maxRows, maxEntries, maxBlocks}
 use Rattle.language.specs.Checking.{predecessors}
-use Rattle.language.specs.Table.{twoBytes, eightBytes, blockCount, blockFirst, rowTarget, phiFirst, phiEntry, blockCells, rowCells, cells, decodeFunction, nameLength}
+use Rattle.language.specs.Table.{twoBytes, eightBytes, blockCount, blockFirst, rowTarget, phiFirst, phiEntry, rowCells, decodeFunction, nameLength, predecessorsLength}
 use Rattle.language.specs.Table.{blockLength, blocksOffset, functionAt, rowLength, rowsOffset, tableLength}
 use Rattle.language.specs.Translating.{pairsBefore, newRegister, edgeRows, copyRow, translatedBlocks}
 use Rattle.language.specs.Instructions.{copyOp, jumpOp}
@@ -21,15 +21,16 @@ use Rattle.language.proofs.TableView.{block-count}
 use Rattle.theorems.proofs.SimulationBlocks.{edge-block}
 use Rattle.theorems.proofs.SimulationRows.{phisAt}
 use Rattle.theorems.proofs.Spots.{first-next, first-within, row-at, row-below}
-use Rattle.language.proofs.TableLaws.{no-name-cells}
 use Rattle.flow.specs.Layout.{phisIn}
 use Rattle.flow.specs.Prepared.{Prepared}
+use Rattle.predecessors.specs.Listing.{bareCells}
+use Rattle.translator.specs.Filling.{unlisted}
 use Rattle.translator.specs.Source.{TranslatableAt, translated, built, pairsIn, edgeNumber, Edge}
 use Rattle.translator.proofs.Counting.{pairsAt, pairs-next, pairs-within, pairs-all, first-all}
 use Rattle.translator.proofs.Filling.{filled-all}
 use Rattle.translator.proofs.Items.{copies-in, copies-out, jumps-on, phi-within, target-is, entry-is, entry-within, new-within}
-use Rattle.translator.proofs.KeptLaws.{length-built, one-row, one-block}
-use Rattle.translator.proofs.RegistersLaws.{target-fits, new-next, new-most}
+use Rattle.translator.proofs.KeptLaws.{length-built, bare-stored, one-row, one-block}
+use Rattle.translator.proofs.RegistersLaws.{target-laid, new-next, new-most}
 use Rattle.translator.proofs.Renaming.{eight-of-one}
 use Rattle.translator.proofs.SizesLaws.{phis-here, pairs-here}
 
@@ -57,13 +58,13 @@ module _ (t : List ℕ) (a : ℕ) (h : TranslatableAt t a) (m : List ℕ) (p : P
   g = translated t a
 
   -- the blocks up to the edges of block y are all there
-  pub edges-most : (y : ℕ) → y < blockCount t a → blockCount t a + pairsBefore f y + pairsIn m y ≤ length (g .blocks)
+  pub edges-most : (y : ℕ) → y < blockCount t a → blockCount t a + pairsBefore f y + pairsIn t a m y ≤ length (g .blocks)
   unfolding translatedBlocks
   edges-most y l =
-      omega (arith, block-count t a, size-blocks f, pairs-here t a m p (h .clean) y l, pairs-within f y (rw (block-count t a) l))
+      omega (arith, block-count t a, size-blocks f, pairs-here t a m p (h .clean) (h .sized .placed) y l, pairs-within f y (rw (block-count t a) l))
 
-  pub edges-few : (y d e : ℕ) → y < blockCount t a → d ≡ blockCount t a + pairsBefore f y → e ≡ pairsIn m y → d + e ≤ 64
-  edges-few y d e l eb ep = omega (arith, edges-most y l, target-fits t a h .blockCount)
+  pub edges-few : (y d e : ℕ) → y < blockCount t a → d ≡ blockCount t a + pairsBefore f y → e ≡ pairsIn t a m y → d + e ≤ 64
+  edges-few y d e l eb ep = omega (arith, edges-most y l, target-laid t a h .blockCount)
 
   module _ (y j n k : ℕ) (s : Edge t a m y j n k) where
     abbrev b : ℕ
@@ -73,7 +74,7 @@ module _ (t : List ℕ) (a : ℕ) (h : TranslatableAt t a) (m : List ℕ) (p : P
     edge-known = omega (arith, edges-most y (s .block), s .pair)
 
     parts : (hasPhi f y ≡ true) × (j < length (predecessors f y))
-    parts = pair-parts f y j (rw (pairs-here t a m p (h .clean) y (s .block)) at (s .pair))
+    parts = pair-parts f y j (rw (pairs-here t a m p (h .clean) (h .sized .placed) y (s .block)) at (s .pair))
 
     edge-is : blockAt g b ≡ record { name = []; rows = edgeRows (newRegister f y) j y (phisAt f y) }
     edge-is = rw (block-count t a) at (edge-block f y j (rw (block-count t a) (s .block)) (parts .0) (parts .1))
@@ -94,7 +95,7 @@ module _ (t : List ℕ) (a : ℕ) (h : TranslatableAt t a) (m : List ℕ) (p : P
     edge-within i l = rw (s .place) (row-below g b i (rw edge-count l))
 
     pub edge-short : (i : ℕ) → i < 2 * phisIn m y + 1 → k + i < maxRows
-    edge-short i l = omega (arith, edge-within i l, target-fits t a h .rowCount)
+    edge-short i l = omega (arith, edge-within i l, target-laid t a h .rowCount)
 
     -- ---- its rows
 
@@ -109,7 +110,7 @@ module _ (t : List ℕ) (a : ℕ) (h : TranslatableAt t a) (m : List ℕ) (p : P
       entry-short = entry-within t a (h .sized) (h .clean) y i (s .block) among j (parts .1)
 
       pub new-short : n + i < 256
-      new-short = rw (s .new) (omega (arith, new-within t a (h .sized) (h .clean) y i (s .block) among, target-fits t a h .registerCount))
+      new-short = rw (s .new) (omega (arith, new-within t a (h .sized) (h .clean) y i (s .block) among, target-laid t a h .registerCount))
 
       -- an entry goes to a new register
       pub entry-put : (e : ℕ) (out next : List ℕ) → out ≡ built t a (b + 1) (k + i) → e ≡ phiEntry t a (phiFirst t a (blockFirst t a y + i) + j)
@@ -152,12 +153,12 @@ module _ (t : List ℕ) (a : ℕ) (h : TranslatableAt t a) (m : List ℕ) (p : P
     -- ---- its place
 
     pub place-put : (out next : List ℕ) → out ≡ built t a b k → next ≡ sets out (functionAt 0 + blocksOffset + blockLength * b) (twoBytes k ++ twoBytes (2 * phisIn m y + 1)) → next ≡ built t a (b + 1) k
-    unfolding blockCells
     place-put out next o c =
         let vs : List ℕ = twoBytes k ++ twoBytes (2 * phisIn m y + 1) in
         let unnamed : blockAt g b .name ≡ [] = ap (λ x. x .name) edge-is in
-        let cells : blockCells (firstRow g b) (blockAt g b) ≡ vs ++ replicate nameLength 0 = rw (← s .place, edge-count, unnamed, no-name-cells) in
-        rw (add-one b) (one-block t a h b k out next vs nameLength edge-known (omega (arith, s .place, first-within g b edge-known)) o cells c)
+        let cells : bareCells (firstRow g b) (blockAt g b) ≡ vs ++ replicate (nameLength + predecessorsLength) 0 =
+        bare-stored (firstRow g b) (blockAt g b) ∙ rw (← s .place, edge-count, unnamed) in
+        rw (add-one b) (one-block t a h b k out next vs (nameLength + predecessorsLength) edge-known (omega (arith, s .place, first-within g b edge-known)) o cells c)
 
     pub edge-next : k + 2 * phisIn m y + 1 ≡ firstRow g (b + 1)
     edge-next = rw (add-one b) (omega (arith, first-next g b edge-known, edge-count, s .place))
@@ -168,7 +169,7 @@ module _ (t : List ℕ) (a : ℕ) (h : TranslatableAt t a) (m : List ℕ) (p : P
     -- the same by the numbers of the code
     module _ (d q : ℕ) (eb : d ≡ b) (eq : q ≡ phisIn m y) where
       pub edge-few : d < maxBlocks
-      edge-few = omega (arith, edge-known, target-fits t a h .blockCount)
+      edge-few = omega (arith, edge-known, target-laid t a h .blockCount)
 
       pub edge-long : (out : List ℕ) → out ≡ built t a d k → length out ≡ tableLength
       edge-long out o = edge-length out (o ∙ ap (λ v. built t a v k) eb)
@@ -205,8 +206,8 @@ module _ (t : List ℕ) (a : ℕ) (h : TranslatableAt t a) (m : List ℕ) (p : P
   edges-first = omega arith
 
   module _ (y : ℕ) (l : y < blockCount t a) where
-    pub edges-next : (d e : ℕ) → d ≡ blockCount t a + pairsBefore f y → e ≡ pairsIn m y → d + e ≡ blockCount t a + pairsBefore f (y + 1)
-    edges-next d e eb ep = rw (add-one y) (omega (arith, pairs-next f y, pairs-here t a m p (h .clean) y l))
+    pub edges-next : (d e : ℕ) → d ≡ blockCount t a + pairsBefore f y → e ≡ pairsIn t a m y → d + e ≡ blockCount t a + pairsBefore f (y + 1)
+    edges-next d e eb ep = rw (add-one y) (omega (arith, pairs-next f y, pairs-here t a m p (h .clean) (h .sized .placed) y l))
 
     pub registers-next : (n q : ℕ) → n ≡ newRegister f y → q ≡ phisIn m y → n + q ≡ newRegister f (y + 1)
     registers-next n q en eq = rw (add-one y) (omega (arith, new-next t a h y l, phis-here t a m p (h .clean) y l))
@@ -217,7 +218,7 @@ module _ (t : List ℕ) (a : ℕ) (h : TranslatableAt t a) (m : List ℕ) (p : P
   -- ---- all of it
 
   pub edges-all : (k : ℕ) (out : List ℕ) → k ≡ firstRow g (blockCount t a + pairsBefore f (blockCount t a)) → out ≡ built t a (blockCount t a + pairsBefore f (blockCount t a)) k
-      → out ≡ cells (g ∷ [])
+      → out ≡ unlisted g
   unfolding translatedBlocks
   edges-all k out d o =
       let all : blockCount t a + pairsBefore f (blockCount t a) ≡ length (g .blocks) =

@@ -13,14 +13,17 @@ use Rattle.laws.proofs.Appending.{gatherFrom-append}
 use Rattle.laws.proofs.Sections.{length-pad, length-gatherFrom, gather-is-from}
 use Rattle.laws.proofs.Storing.{Stored, pad-is, pad-zeros, pad-stored, stored-left, stored-right, stored-pad}
 use Rattle.language.specs.Answers.{zeros}
-use Rattle.language.specs.Programs.{Row, Block, Func, noRegister, noBlock, blockAt, entriesOf, rowsOf, firstRow, maxEntries}
-use Rattle.language.specs.Table.{headCells, registerCells, blockCells, rowCells, entrySection, functionCells, registerSection, blockSection, rowSection, cells}
+use Rattle.language.specs.Programs.{Row, Block, Func, noRegister, noBlock, blockAt, entriesOf, rowsOf, firstRow, maxBlocks, maxEntries}
+use Rattle.language.specs.Table.{headCells, registerCells, rowCells, entrySection, functionCells, registerSection, rowSection, cellsListing, predecessorLists, cells, blockCount, InTable}
 use Rattle.language.specs.Table.{blockLength, blocksLength, blocksOffset, functionAt, functionLength, functionsLength, registersLength, rowLength, rowsLength, rowsOffset, tableLength}
 use Rattle.language.specs.Table.{registerLength, registersOffset}
-use Rattle.theorems.specs.TableLaw.{FunctionFits}
+use Rattle.theorems.specs.TableLaw.{Laid, ListsFit}
 use Rattle.theorems.proofs.TableParts.{length-row}
-use Rattle.theorems.proofs.TableFunction.{length-head, length-entries, registers-stride, blocks-stride}
-use Rattle.translator.specs.Filling.{filled}
+use Rattle.theorems.proofs.TableFunction.{length-head, length-entries, registers-stride, length-listing, lists-fit, block-count-at}
+use Rattle.predecessors.specs.Listing.{Stands, noLists, bareCells}
+use Rattle.predecessors.proofs.BareLaws.{bare-section, length-bare}
+use Rattle.predecessors.proofs.ListingLaws.{before-fit, stands-at, stands-within}
+use Rattle.translator.specs.Filling.{filled, unlisted}
 
 -- ---- a section of items of w cells each, the first i of them put down
 
@@ -95,15 +98,18 @@ entries r = length (entriesOf r)
 short : {xs : List ℕ} (vs : List ℕ) (z w : ℕ) → xs ≡ vs ++ replicate z 0 → length xs ≡ w → length vs ≤ w
 short vs z w e l = let n : length vs + z ≡ w = sym (ap length e ∙ simp (length-append, length-replicate)) ∙ l in omega arith
 
-module _ (g : Func) (fits : FunctionFits g) where
+module _ (g : Func) (laid : Laid g) where
   row-stride : (m i : ℕ) → i < length (rowsOf g) → length (rowCells m (getD (rowsOf g) i Row.nop)) ≡ rowLength
   row-stride m i b = length-row m (getD (rowsOf g) i Row.nop)
+
+  block-stride : (m i : ℕ) → i < length (g .blocks) → length (bareCells m (blockAt g i)) ≡ blockLength
+  block-stride m i b = length-bare m (blockAt g i) (laid .blockNames i b)
 
   abbrev registersFirst : ℕ → List ℕ
   registersFirst i = pad registersLength (gatherFrom (λ x. 0) (λ m. registerCells) 0 (take i (g .registers)))
 
   abbrev blocksFirst : ℕ → List ℕ
-  blocksFirst j = pad blocksLength (gatherFrom height blockCells 0 (take j (g .blocks)))
+  blocksFirst j = pad blocksLength (gatherFrom height bareCells 0 (take j (g .blocks)))
 
   abbrev rowsFirst : ℕ → List ℕ
   rowsFirst k = pad rowsLength (gatherFrom entries rowCells 0 (take k (rowsOf g)))
@@ -113,23 +119,23 @@ module _ (g : Func) (fits : FunctionFits g) where
   sections i j k = rw (gather-is-from registerCells 0 (take i (g .registers)))
 
   registers-room : registerLength * length (g .registers) ≤ registersLength
-  registers-room = omega (arith, fits .registerCount)
+  registers-room = omega (arith, laid .registerCount)
 
   blocks-room : blockLength * length (g .blocks) ≤ blocksLength
-  blocks-room = omega (arith, fits .blockCount)
+  blocks-room = omega (arith, laid .blockCount)
 
   rows-room : rowLength * length (rowsOf g) ≤ rowsLength
-  rows-room = omega (arith, fits .rowCount)
+  rows-room = omega (arith, laid .rowCount)
 
   module _ (i j k : ℕ) (hi : i ≤ length (g .registers)) (hj : j ≤ length (g .blocks)) (hk : k ≤ length (rowsOf g)) where
     lengths : Lengths (headCells g) (registersFirst i) (blocksFirst j) (rowsFirst k) (entrySection g)
     lengths =
         record {
-          head = length-head g fits;
-          registers = length-section registersLength (λ x. 0) (λ m. registerCells) registerLength noRegister (g .registers) (registers-stride g fits) registers-room i hi;
-          blocks = length-section blocksLength height blockCells blockLength noBlock (g .blocks) (blocks-stride g fits) blocks-room j hj;
+          head = length-head g laid;
+          registers = length-section registersLength (λ x. 0) (λ m. registerCells) registerLength noRegister (g .registers) (registers-stride g laid) registers-room i hi;
+          blocks = length-section blocksLength height bareCells blockLength noBlock (g .blocks) block-stride blocks-room j hj;
           rows = length-section rowsLength entries rowCells rowLength Row.nop (rowsOf g) row-stride rows-room k hk;
-          entries = length-entries g fits;
+          entries = length-entries g laid;
         }
 
     pub length-filled : length (filled g i j k) ≡ tableLength
@@ -140,16 +146,16 @@ module _ (g : Func) (fits : FunctionFits g) where
           → Stored (filled g i j k) (functionAt 0 + registersOffset + registerLength * i) vs (filled g (suc i) j k)
       register-stored b e =
           rw (sections i j k, sections (suc i) j k)
-          (in-registers lengths (section-grows registersLength (λ x. 0) (λ m. registerCells) registerLength noRegister (g .registers) (registers-stride g fits) registers-room i b vs z e)
-          (omega (arith, short vs z registerLength e (registers-stride g fits 0 i b), registers-room)) refl)
+          (in-registers lengths (section-grows registersLength (λ x. 0) (λ m. registerCells) registerLength noRegister (g .registers) (registers-stride g laid) registers-room i b vs z e)
+          (omega (arith, short vs z registerLength e (registers-stride g laid 0 i b), registers-room)) refl)
 
-      pub block-stored : j < length (g .blocks) → blockCells (0 + firstRow g j) (blockAt g j) ≡ vs ++ replicate z 0
+      pub block-stored : j < length (g .blocks) → bareCells (0 + firstRow g j) (blockAt g j) ≡ vs ++ replicate z 0
           → Stored (filled g i j k) (functionAt 0 + blocksOffset + blockLength * j) vs (filled g i (suc j) k)
       unfolding firstRow
       block-stored b e =
           rw (sections i j k, sections i (suc j) k)
-          (in-blocks lengths (section-grows blocksLength height blockCells blockLength noBlock (g .blocks) (blocks-stride g fits) blocks-room j b vs z e)
-          (omega (arith, short vs z blockLength e (blocks-stride g fits (0 + firstRow g j) j b), blocks-room)) refl)
+          (in-blocks lengths (section-grows blocksLength height bareCells blockLength noBlock (g .blocks) block-stride blocks-room j b vs z e)
+          (omega (arith, short vs z blockLength e (block-stride (0 + firstRow g j) j b), blocks-room)) refl)
 
       pub row-stored : k < length (rowsOf g) → rowCells (0 + sum (map entries (take k (rowsOf g)))) (getD (rowsOf g) k Row.nop) ≡ vs ++ replicate z 0
           → Stored (filled g i j k) (functionAt 0 + rowsOffset + rowLength * k) vs (filled g i j (suc k))
@@ -160,11 +166,44 @@ module _ (g : Func) (fits : FunctionFits g) where
 
 -- ---- all of it, and none of it
 
-pub filled-all : (g : Func) → filled g (length (g .registers)) (length (g .blocks)) (length (rowsOf g)) ≡ cells (g ∷ [])
-unfolding filled cells functionCells registerSection blockSection rowSection
-filled-all g =
-    let e : functionCells g ++ [] ≡ functionCells g = append-nil (functionCells g) in
-    rw (take-length (g .registers), take-length (g .blocks), take-length (rowsOf g), e)
+pub filled-all : (g : Func) → filled g (length (g .registers)) (length (g .blocks)) (length (rowsOf g)) ≡ unlisted g
+unfolding filled unlisted cellsListing registerSection rowSection
+filled-all g = rw (take-length (g .registers), take-length (g .blocks), take-length (rowsOf g), bare-section g)
+
+-- then the lists, between the function count and the cells of no function
+module _ (g : Func) (laid : Laid g) where
+  abbrev behind : List ℕ
+  behind = replicate (functionsLength - length (cellsListing (noLists g) g)) 0
+
+  none-fit : ListsFit (noLists g) g
+  none-fit = before-fit g 0 (omega arith)
+
+  stands : (lists : List (List ℕ)) → ListsFit lists g → Stands (1 ∷ pad functionsLength (cellsListing lists g)) 1 lists g (1 ∷ []) behind
+  stands lists fit =
+      record {
+        laid = laid;
+        place = refl;
+        cells =
+            ap (λ (r : List ℕ). 1 ∷ r)
+            (pad-is functionsLength (cellsListing lists g) (functionsLength - length (cellsListing (noLists g) g))
+            (omega (arith, length-listing g laid lists fit, length-listing g laid (noLists g) none-fit)));
+      }
+
+  module _ {out : List ℕ} (o : out ≡ unlisted g) where
+    bare : Stands out 1 (noLists g) g (1 ∷ []) behind
+    unfolding unlisted
+    bare = rw o (stands (noLists g) none-fit)
+
+    pub unlisted-within : (InTable out 1) × (blockCount out 1 ≤ maxBlocks)
+    unlisted-within =
+        (stands-within bare none-fit, omega (arith, block-count-at g laid (noLists g) none-fit 1 (stands-at bare none-fit), laid .blockCount))
+
+    pub lists-put : {next : List ℕ}
+        → ((f : Func) (before rest : List ℕ) → Stands out 1 (noLists f) f before rest → Stands next 1 (predecessorLists f) f before rest) → next ≡ cells (g ∷ [])
+    unfolding cells functionCells
+    lists-put put =
+        put g (1 ∷ []) behind bare .cells ∙ sym (stands (predecessorLists g) (lists-fit g laid) .cells)
+        ∙ ap (λ (r : List ℕ). 1 ∷ pad functionsLength r) (sym (append-nil (functionCells g)))
 
 zeros-pad : (n : ℕ) → zeros n ≡ pad n []
 unfolding zeros
@@ -181,17 +220,17 @@ pad-cons n x xs h =
     let k : ℕ = n - length xs in
     pad-is (suc n) (x ∷ xs) k (omega arith) ∙ ap (λ (r : List ℕ). x ∷ r) (sym (pad-is n xs k (omega arith)))
 
-module _ (g : Func) (fits : FunctionFits g) (none : gather entriesOf (rowsOf g) ≡ []) where
+module _ (g : Func) (laid : Laid g) (none : gather entriesOf (rowsOf g) ≡ []) where
   filled-head : filled g 0 0 0 ≡ pad tableLength (1 ∷ headCells g)
   unfolding filled entrySection
   filled-head =
-      let short : length (headCells g) ≤ functionsLength = omega (arith, length-head g fits) in
+      let short : length (headCells g) ≤ functionsLength = omega (arith, length-head g laid) in
       rw none
-      (ap (λ (r : List ℕ). 1 ∷ r) (no-sections functionsLength (headCells g) registersLength blocksLength rowsLength maxEntries (omega (arith, length-head g fits)))
+      (ap (λ (r : List ℕ). 1 ∷ r) (no-sections functionsLength (headCells g) registersLength blocksLength rowsLength maxEntries (omega (arith, length-head g laid)))
       ∙ sym (pad-cons functionsLength 1 (headCells g) short))
 
   -- the head goes to a table that is all zero
   pub head-stored : (vs : List ℕ) (z : ℕ) → headCells g ≡ vs ++ replicate z 0 → Stored (zeros tableLength) 0 (1 ∷ vs) (filled g 0 0 0)
   head-stored vs z e =
-      let n : length vs + z ≡ registersOffset = sym (ap length e ∙ simp (length-append, length-replicate)) ∙ length-head g fits in
+      let n : length vs + z ≡ registersOffset = sym (ap length e ∙ simp (length-append, length-replicate)) ∙ length-head g laid in
       rw (filled-head, e, zeros-pad tableLength) (pad-stored tableLength [] 0 (1 ∷ vs) z (omega arith) (omega arith))

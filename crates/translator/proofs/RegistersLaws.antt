@@ -16,10 +16,11 @@ use Rattle.language.specs.Table.{twoBytes, headCells, functionResult, functionP
 use Rattle.language.specs.Table.{registerCount, registerType, registerName, blockCount, blockFirst, rowTarget, registerCells, decodeRegister, decodeFunction}
 use Rattle.language.specs.Table.{functionAt, nameLength, registerLength, registersOffset}
 use Rattle.language.specs.Translating.{phisBefore, newRegister, translation, translatedRegisters, translatedBlocks}
-use Rattle.theorems.specs.TableLaw.{FunctionFits}
+use Rattle.theorems.specs.TableLaw.{Laid}
 use Rattle.theorems.proofs.Acceptance.{no-phi, clean-translation}
 use Rattle.theorems.proofs.AcceptanceCheck.{sound-parts}
 use Rattle.theorems.proofs.AcceptanceRows.{entries-none}
+use Rattle.theorems.proofs.TableFunction.{laid-of}
 use Rattle.theorems.proofs.TableSound.{sound-fits}
 use Rattle.language.proofs.TableView.{register-count, block-count}
 use Rattle.language.proofs.TableLaws.{name-cells, no-name-cells}
@@ -42,8 +43,8 @@ module _ (t : List ℕ) (a : ℕ) (h : TranslatableAt t a) where
   abbrev g : Func
   g = translated t a
 
-  pub target-fits : FunctionFits g
-  target-fits = sound-fits g (sound-parts [] g (clean-translation f (h .clean) (h .ssa) (h .fits) .head))
+  pub target-laid : Laid g
+  target-laid = laid-of g (sound-fits g (sound-parts [] g (clean-translation f (h .clean) (h .ssa) (h .fits) .head)))
 
   pub plain : Every (λ r. isPhi r ≡ false) (rowsOf g)
   plain = every-none isPhi (rowsOf g) (of-not (any isPhi (rowsOf g)) (no-phi f))
@@ -56,12 +57,12 @@ module _ (t : List ℕ) (a : ℕ) (h : TranslatableAt t a) where
   no-entries = empty-every entriesOf (every-imp (λ r e. entries-none r e) plain)
 
   pub length-declared : (i : ℕ) → i ≤ length (g .registers) → length (declared t a i) ≡ tableLength
-  length-declared i l = length-filled g target-fits i 0 0 l (omega arith) (omega arith)
+  length-declared i l = length-filled g target-laid i 0 0 l (omega arith) (omega arith)
 
   -- one more register
   module _ (i : ℕ) (out next vs : List ℕ) (z : ℕ) (l : i < length (g .registers)) (e : out ≡ declared t a i) where
     pub one-declared : registerCells (getD (g .registers) i noRegister) ≡ vs ++ replicate z 0 → next ≡ sets out (functionAt 0 + registersOffset + registerLength * i) vs → next ≡ declared t a (suc i)
-    one-declared c s = s ∙ ap (λ (u : List ℕ). sets u (functionAt 0 + registersOffset + registerLength * i) vs) e ∙ sym (register-stored g target-fits i 0 0 (omega arith) (omega arith) (omega arith) vs z l c .cells)
+    one-declared c s = s ∙ ap (λ (u : List ℕ). sets u (functionAt 0 + registersOffset + registerLength * i) vs) e ∙ sym (register-stored g target-laid i 0 0 (omega arith) (omega arith) (omega arith) vs z l c .cells)
 
   pub kept-within : (i : ℕ) → i ≤ registerCount t a → i ≤ length (g .registers)
   unfolding translation
@@ -69,7 +70,7 @@ module _ (t : List ℕ) (a : ℕ) (h : TranslatableAt t a) where
 
   pub kept-short : (i : ℕ) → i < registerCount t a → length (registerName t a i) ≤ 64
   unfolding decodeRegister
-  kept-short i l = rw (register-kept t a (h .sized) (h .clean) i l) at (target-fits .registers i (kept-within (suc i) l) .name .short)
+  kept-short i l = rw (register-kept t a (h .sized) (h .clean) i l) at (target-laid .registerNames i (kept-within (suc i) l))
 
   pub one-kept : (i kind : ℕ) (out name next : List ℕ) → i < registerCount t a → out ≡ declared t a i → kind ≡ registerType t a i → name ≡ registerName t a i
       → next ≡ sets out (functionAt 0 + registersOffset + registerLength * i) (kind ∷ length name ∷ name) → next ≡ declared t a (suc i)
@@ -92,7 +93,7 @@ module _ (t : List ℕ) (a : ℕ) (h : TranslatableAt t a) where
 
   pub name-short : length (functionName t a) ≤ 64
   unfolding decodeFunction translation
-  name-short = target-fits .name .short
+  name-short = target-laid .name
 
   pub head-declared : (registers blocks : ℕ) (out next : List ℕ) → registers ≡ translatedRegisters f → blocks ≡ translatedBlocks f → out ≡ zeros tableLength
       → next ≡ sets out 0 (headOf t a registers blocks) → next ≡ declared t a 0
@@ -101,7 +102,7 @@ module _ (t : List ℕ) (a : ℕ) (h : TranslatableAt t a) where
       let name = functionName t a in
       let vs : List ℕ = 0 ∷ functionResult t a ∷ (twoBytes (functionParams t a) ++ (twoBytes registers ++ (blocks ∷ functionEntry t a ∷ length name ∷ name))) in
       let cells : headCells g ≡ vs ++ replicate (64 - length name) 0 = rw (size-registers f, size-blocks f, ← r, ← b, name-cells name) in
-      s ∙ ap (λ (u : List ℕ). sets u 0 (1 ∷ vs)) e ∙ sym (head-stored g target-fits no-entries vs (64 - length name) cells .cells)
+      s ∙ ap (λ (u : List ℕ). sets u 0 (1 ∷ vs)) e ∙ sym (head-stored g target-laid no-entries vs (64 - length name) cells .cells)
 
   -- ---- all new registers
 
@@ -122,7 +123,7 @@ module _ (t : List ℕ) (a : ℕ) (h : TranslatableAt t a) where
   new-within-all y l = omega (arith, phis-fit f y (rw (block-count t a) l), size-registers f)
 
   pub new-most : (y n p : ℕ) → y < blockCount t a → n ≡ newRegister f y → p ≡ length (phisAt f y) → n + p ≤ 256
-  new-most y n p l d e = omega (arith, new-within-all y l, target-fits .registerCount)
+  new-most y n p l d e = omega (arith, new-within-all y l, target-laid .registerCount)
 
   pub length-new : (y n : ℕ) (out : List ℕ) → y < blockCount t a → n ≡ newRegister f y → out ≡ declared t a n → length out ≡ tableLength
   length-new y n out l d e = ap length e ∙ length-declared n (omega (arith, new-within-all y l))

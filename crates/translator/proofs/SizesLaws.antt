@@ -1,7 +1,7 @@
 -- The translated size, counted block by block; and the plan.
 -- Assumes nothing.
 use mathlib.Core.Path.{_≡_, refl, sym, ap, _∙_}
-use mathlib.Core.Bool.{false, cond}
+use mathlib.Core.Bool.{true, false, cond}
 use mathlib.Core.List.{List}
 use Prim.Native.Nat.{ℕ, _+_, _-_, _*_, _≤_, _<_}
 use native.Mathlib.Nat.{mul-le-mul}
@@ -13,14 +13,15 @@ use lib.Seq.{getD-set-same, getD-set-other}
 use borrow.Author.Count.{below-more}
 use borrow.Author.Tests.{le-leb, lt-leb}
 use Rattle.language.specs.Programs.{Func, rowsAt, rowsOf, firstRow, hasPhi, maxRows, maxBlocks, maxRegisters}
-use Rattle.language.specs.Table.{registerCount, blockCount, blockRows, decodeFunction}
+use Rattle.language.specs.Table.{registerCount, blockCount, blockRows, storedPredecessors, decodeFunction}
 use Rattle.language.specs.Translating.{phisBefore, pairsBefore, phiTotal, pairCount, sizeOfEdges, translatedRegisters, translatedBlocks, translatedRows, translationFits}
 use Rattle.theorems.specs.Clean.{Clean}
 use Rattle.theorems.proofs.SimulationRows.{phisAt}
-use Rattle.language.proofs.TableView.{register-count, block-count, block-rows-count}
+use Rattle.language.proofs.TableView.{register-count, block-count, block-rows-count, stored-is}
 use Rattle.theorems.proofs.Spots.{first-next}
-use Rattle.flow.specs.Layout.{incomingIn, phisIn}
+use Rattle.flow.specs.Layout.{phisIn}
 use Rattle.flow.specs.Prepared.{Prepared}
+use Rattle.flow.specs.Sized.{Sized}
 use Rattle.translator.specs.Sizes.{sizesOf}
 use Rattle.translator.specs.Source.{Planned, pairsIn}
 use Rattle.translator.specs.declared.sizes.Sizes.{Sizes}
@@ -35,9 +36,10 @@ module _ (t : List ℕ) (a : ℕ) (m : List ℕ) (p : Prepared (decodeFunction t
   pub phis-here : (y : ℕ) → y < blockCount t a → phisIn m y ≡ length (phisAt f y)
   phis-here y l = p .phis y (rw (block-count t a) l) ∙ leading-phis f c y
 
-  pub pairs-here : (y : ℕ) → y < blockCount t a → pairsIn m y ≡ pairsAt f y
-  pairs-here y l =
-      by-count f c y (phisIn m y) 0 (incomingIn m y) (phis-here y l) ∙ ap (λ n. cond (hasPhi f y) n 0) (p .incoming y (rw (block-count t a) l))
+  pub pairs-here : f .placed ≡ true → (y : ℕ) → y < blockCount t a → pairsIn t a m y ≡ pairsAt f y
+  pairs-here k y l =
+      by-count f c y (phisIn m y) 0 (length (storedPredecessors t a y)) (phis-here y l)
+      ∙ ap (λ (xs : List ℕ). cond (hasPhi f y) (length xs) 0) (stored-is t a k y l)
 
 -- ---- the sizes of the first b blocks
 
@@ -58,16 +60,16 @@ measured-none t a n =
 pub product-small : (p e : ℕ) → p < 65536 → e < 65536 → e * (2 * p + 1) ≤ 8589737985
 product-small p e h k = mul-le-mul {n₂ = 65535} {m₂ = 131071} (omega arith) (omega arith)
 
-module _ (t : List ℕ) (a : ℕ) (m : List ℕ) (q : Prepared (decodeFunction t a) m) (c : Clean (decodeFunction t a)) where
+module _ (t : List ℕ) (a : ℕ) (m : List ℕ) (s : Sized t a) (q : Prepared (decodeFunction t a) m) (c : Clean (decodeFunction t a)) where
   pub measured-next : (n new edges rows b p e w : ℕ) → n ≡ blockCount t a → b < n → Measured t a n new edges rows b
-      → p ≡ phisIn m b → p < 65536 → e ≡ pairsIn m b → e < 65536 → w ≡ blockRows t a b → w < 65536
+      → p ≡ phisIn m b → p < 65536 → e ≡ pairsIn t a m b → e < 65536 → w ≡ blockRows t a b → w < 65536
       → Measured t a n (new + p) (edges + e) (rows + (w + e * (2 * p + 1))) (b + 1)
   measured-next n new edges rows b p e w z l h ep lp ee le ew lw =
       let f = decodeFunction t a in
       let known : b < blockCount t a = omega arith in
       let here : b < length (f .blocks) = rw (block-count t a) known in
       let P : p ≡ length (phisAt f b) = ep ∙ phis-here t a m q c b known in
-      let E : e ≡ pairsAt f b = ee ∙ pairs-here t a m q c b known in
+      let E : e ≡ pairsAt f b = ee ∙ pairs-here t a m q c (s .placed) b known in
       let W : w ≡ length (rowsAt f b) = ew ∙ sym (block-rows-count t a b known) in
       let X : e * (2 * p + 1) ≡ edgesAt f b = rw (P, E) in
       rw (add-one b)

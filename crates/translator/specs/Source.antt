@@ -6,13 +6,15 @@ use mathlib.Core.List.{List, _∷_, _++_}
 use Prim.Native.Nat.{ℕ, _+_, _*_, _≤_, _<_}
 use lib.Dec.{T, eqb, ltb}
 use lib.ListN.{length, getD}
+use Rattle.laws.specs.Lists.{position}
 use Rattle.language.specs.Programs.{Func, isSsa, firstRow, maxBlocks}
 use Rattle.language.specs.Table.{rowOp, rowTarget, rowLeft, rowRight, loadNumber, jumpFirst, jumpSecond, twoBytes, eightBytes}
-use Rattle.language.specs.Table.{functionResult, functionParams, functionEntry, functionName, blockCount, blockFirst, blockRows, decodeFunction}
+use Rattle.language.specs.Table.{functionResult, functionParams, functionEntry, functionName, blockCount, blockFirst, blockRows, storedPredecessors, decodeFunction}
 use Rattle.language.specs.Translating.{pairsBefore, newRegister, translation, translationFits}
 use Rattle.instructions.specs.Shapes.{shapeOf, operandNumber}
 use Rattle.theorems.specs.Clean.{Clean}
-use Rattle.flow.specs.Layout.{incomingIn, phisIn, rankIn}
+use Rattle.predecessors.specs.Ranked.{Ascending}
+use Rattle.flow.specs.Layout.{phisIn}
 use Rattle.flow.specs.Sized.{Sized}
 use Rattle.translator.specs.Filling.{filled}
 use Rattle.language.specs.Instructions.{Operand}
@@ -28,10 +30,10 @@ pub record TranslatableAt (t : List ℕ) (a : ℕ) : Type 0 where
 abbrev pub translated : List ℕ → ℕ → Func
 translated t a = translation (decodeFunction t a)
 
--- ---- what is prepared (`flow`): the pairs of which block b is the phi block
+-- ---- the pairs of which block b is the phi block: one for each predecessor that it keeps, if phi are prepared of it (`flow`)
 
-abbrev pub pairsIn : List ℕ → ℕ → ℕ
-pairsIn m b = cond (eqb (phisIn m b) 0) 0 (incomingIn m b)
+abbrev pub pairsIn : (t : List ℕ) (a : ℕ) (m : List ℕ) → ℕ → ℕ
+pairsIn t a m b = cond (eqb (phisIn m b) 0) 0 (length (storedPredecessors t a b))
 
 -- ---- the plan: the number of each block's first edge block, were it to have phi
 
@@ -39,9 +41,9 @@ pub record Planned (f : Func) (plan : List ℕ) : Type 0 where
   pub count : length plan ≡ maxBlocks
   pub first : (y : ℕ) → y < length (f .blocks) → getD plan y 0 ≡ length (f .blocks) + pairsBefore f y
 
--- The block that block x names in place of y, its k-th target.
-unfoldable pub renamedAs : (m plan : List ℕ) → (x k y : ℕ) → ℕ
-renamedAs m plan x k y = cond (eqb (phisIn m y) 0) y (getD plan y 0 + rankIn m x k)
+-- The block that block x names in place of y.
+unfoldable pub renamedAs : (t : List ℕ) (a : ℕ) (m plan : List ℕ) → (x y : ℕ) → ℕ
+renamedAs t a m plan x y = cond (eqb (phisIn m y) 0) y (getD plan y 0 + position (λ z. eqb z x) (storedPredecessors t a y))
 
 -- ---- cells
 
@@ -57,13 +59,18 @@ headOf t a registers blocks =
 unfoldable pub keptOperand : (t : List ℕ) (a : ℕ) (m plan : List ℕ) → (x r kind : ℕ) → ℕ
 keptOperand t a m plan x r kind =
     cond (eqb kind (operandNumber Operand.number)) (loadNumber t a r)
-    (cond (eqb kind (operandNumber Operand.block)) (renamedAs m plan x 0 (jumpFirst t a r))
-    (cond (eqb kind (operandNumber Operand.blocks)) (renamedAs m plan x 0 (jumpFirst t a r) + 256 * renamedAs m plan x 1 (jumpSecond t a r)) 0))
+    (cond (eqb kind (operandNumber Operand.block)) (renamedAs t a m plan x (jumpFirst t a r))
+    (cond (eqb kind (operandNumber Operand.blocks)) (renamedAs t a m plan x (jumpFirst t a r) + 256 * renamedAs t a m plan x (jumpSecond t a r)) 0))
 
--- The blocks that row r names by the kind of its operand are within the limit.
+-- Block y is within the limit, and the predecessors that it keeps can be searched.
+pub record Nameable (t : List ℕ) (a y : ℕ) : Type 0 where
+  pub below : y < maxBlocks
+  pub ascends : Ascending (storedPredecessors t a y)
+
+-- So are the blocks that row r names by the kind of its operand.
 pub record Naming (t : List ℕ) (a r kind : ℕ) : Type 0 where
-  pub first : operandNumber Operand.block ≤ kind → jumpFirst t a r < maxBlocks
-  pub second : operandNumber Operand.blocks ≤ kind → jumpSecond t a r < maxBlocks
+  pub first : operandNumber Operand.block ≤ kind → Nameable t a (jumpFirst t a r)
+  pub second : operandNumber Operand.blocks ≤ kind → Nameable t a (jumpSecond t a r)
 
 -- Row r of block x as it is kept: the cells that its form needs, every other 0.
 unfoldable pub keptCells : (t : List ℕ) (a : ℕ) (m plan : List ℕ) → (x r : ℕ) → List ℕ
@@ -97,6 +104,6 @@ edgeNumber t a y j = blockCount t a + pairsBefore (decodeFunction t a) y + j
 -- There is such an edge, n is its first new register and k its first row.
 pub record Edge (t : List ℕ) (a : ℕ) (m : List ℕ) (y j n k : ℕ) : Type 0 where
   pub block : y < blockCount t a
-  pub pair : j < pairsIn m y
+  pub pair : j < pairsIn t a m y
   pub new : n ≡ newRegister (decodeFunction t a) y
   pub place : k ≡ firstRow (translated t a) (edgeNumber t a y j)

@@ -1,12 +1,12 @@
 // The edge blocks: "it copies entries to new registers, then these to targets, each by row, and jumps to the phi block".
 ghost use mathlib.Core.Path.{_≡_};
-ghost use mathlib.Core.List.{[], _∷_};
 ghost use Prim.Native.Nat.{_+_, _*_, _<_};
 ghost use Rattle.language.specs.Programs.{firstRow};
-ghost use Rattle.language.specs.Table.{blockCount, cells, decodeFunction};
+ghost use Rattle.language.specs.Table.{blockCount, decodeFunction};
 ghost use Rattle.language.specs.Translating.{pairsBefore, newRegister};
 ghost use Rattle.flow.specs.Layout.{phisIn};
 ghost use Rattle.flow.specs.Prepared.{Prepared};
+ghost use Rattle.translator.specs.Filling.{unlisted};
 ghost use Rattle.translator.specs.Source.{TranslatableAt, translated, built, pairsIn, edgeNumber, Edge};
 use crate::kept::put_place;
 use crate::prepared::pairs;
@@ -124,9 +124,9 @@ fn put_edges(
     requires { ⌜ Prepared (decodeFunction (now t) a) (now m) ⌝ }
     requires { ⌜ (y < blockCount (now t) a) × (n ≡ newRegister (decodeFunction (now t) a) y) × (b ≡ blockCount (now t) a + pairsBefore (decodeFunction (now t) a) y) ⌝ }
     requires { ⌜ (k ≡ firstRow (translated (now t) a) b) × (now out ≡ built (now t) a b k) ⌝ }
-    ensures { λ r. ⌜ (r ≡ firstRow (translated (now (t .entry)) a) (b + pairsIn (now (m .entry)) y)) × (now (out .exit) ≡ built (now (t .entry)) a (b + pairsIn (now (m .entry)) y) r) ⌝ }
+    ensures { λ r. ⌜ (r ≡ firstRow (translated (now (t .entry)) a) (b + pairsIn (now (t .entry)) a (now (m .entry)) y)) × (now (out .exit) ≡ built (now (t .entry)) a (b + pairsIn (now (t .entry)) a (now (m .entry)) y) r) ⌝ }
 {
-    let e = pairs(m, y);
+    let e = pairs(t, a, m, y);
     let mut r = k;
     let mut j = 0;
     while j < e {
@@ -136,12 +136,12 @@ fn put_edges(
     r
 }
 
-// The edges to all blocks, behind the blocks that are kept, their rows from k on: the table is whole.
+// The edges to all blocks, behind the blocks that are kept, their rows from k on: the table is whole but for its lists of predecessors.
 pub fn put_all_edges(t: &[u8], a: usize, m: &[u16], out: &mut [u8], k: usize)
     requires { ⌜ TranslatableAt (now t) a ⌝ }
     requires { ⌜ Prepared (decodeFunction (now t) a) (now m) ⌝ }
     requires { ⌜ (k ≡ firstRow (translated (now t) a) (blockCount (now t) a)) × (now out ≡ built (now t) a (blockCount (now t) a) k) ⌝ }
-    ensures { λ _. ⌜ now (out .exit) ≡ cells (translated (now (t .entry)) a ∷ []) ⌝ }
+    ensures { λ _. ⌜ now (out .exit) ≡ unlisted (translated (now (t .entry)) a) ⌝ }
 {
     let blocks = block_count(t, a);
     let mut n = register_count(t, a);
@@ -151,7 +151,7 @@ pub fn put_all_edges(t: &[u8], a: usize, m: &[u16], out: &mut [u8], k: usize)
     while y < blocks {
         r = put_edges(t, a, m, y, n, b, out, r);
         n += phis(m, y);
-        b += pairs(m, y);
+        b += pairs(t, a, m, y);
         y += 1;
     }
 }

@@ -44,16 +44,16 @@ const NAMES: usize = FIRST_FUNCTION + BLOCK_NAMES_OFFSET;
 
 // The operand of row r of block x, by its kind: a load's number, or the blocks that are named, renamed.
 fn operand(t: &[u8], a: usize, m: &[u16], plan: &[u16], x: usize, r: usize, kind: u8) -> u64
-    requires { ⌜ (InTable (now t) a) × (length (now m) ≡ flowLength) × (length (now plan) ≡ maxBlocks) × (x < maxBlocks) × (r < maxRows) ⌝ }
+    requires { ⌜ (InTable (now t) a) × (length (now m) ≡ flowLength) × (length (now plan) ≡ maxBlocks) × (r < maxRows) ⌝ }
     requires { ⌜ Naming (now t) a r kind ⌝ }
     ensures { λ n. ⌜ n ≡ keptOperand (now (t .entry)) a (now (m .entry)) (now (plan .entry)) x r kind ⌝ }
 {
     match kind {
         operands::NUMBER => load_number(t, a, r),
-        operands::BLOCK => renamed(m, plan, x, 0, jump_first(t, a, r)) as u64,
+        operands::BLOCK => renamed(t, a, m, plan, x, jump_first(t, a, r)) as u64,
         operands::BLOCKS => {
-            let y = renamed(m, plan, x, 0, jump_first(t, a, r));
-            let z = renamed(m, plan, x, 1, jump_second(t, a, r));
+            let y = renamed(t, a, m, plan, x, jump_first(t, a, r));
+            let z = renamed(t, a, m, plan, x, jump_second(t, a, r));
             (y + 256 * z) as u64
         }
         _ => 0,
@@ -71,7 +71,7 @@ fn keep_row(
     out: &mut [u8],
     k: usize,
 )
-    requires { ⌜ (InTable (now t) a) × (length (now m) ≡ flowLength) × (length (now plan) ≡ maxBlocks) × (x < maxBlocks) × (r < maxRows) ⌝ }
+    requires { ⌜ (InTable (now t) a) × (length (now m) ≡ flowLength) × (length (now plan) ≡ maxBlocks) × (r < maxRows) ⌝ }
     requires { ⌜ Naming (now t) a r (shapeOf (rowOp (now t) a r) .operand) ⌝ }
     requires { ⌜ (length (now out) ≡ tableLength) × (k < maxRows) ⌝ }
     ensures { λ _. ⌜ now (out .exit) ≡ sets (now (out .entry)) (functionAt 0 + rowsOffset + rowLength * k) (keptCells (now (t .entry)) a (now (m .entry)) (now (plan .entry)) x r) ⌝ }

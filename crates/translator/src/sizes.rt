@@ -39,7 +39,7 @@ pub fn measure(t: &[u8], a: usize, m: &[u16]) -> Sizes
     let mut b = 0;
     while b < n {
         let p = phis(m, b);
-        let e = pairs(m, b);
+        let e = pairs(t, a, m, b);
         new += p;
         edges += e;
         rows += block_rows(t, a, b) + e * (2 * p + 1);
@@ -81,7 +81,7 @@ pub fn plan_edges(t: &[u8], a: usize, m: &[u16], plan: &mut [u16])
     let mut y = 0;
     while y < n {
         plan[y] = next as u16;
-        next += pairs(m, y);
+        next += pairs(t, a, m, y);
         y += 1;
     }
 }

@@ -13,6 +13,8 @@ use crate::registers::put_all_new;
 use crate::registers::put_head;
 use crate::sizes::measure;
 use crate::sizes::plan_edges;
+use predecessors::put_predecessors;
+use table::FIRST_FUNCTION;
 
 // "The translation is a table of that function alone": of the function at a, to a table that is all zero.
 pub fn translate_into(t: &[u8], a: usize, m: &[u16], out: &mut [u8])
@@ -29,4 +31,5 @@ pub fn translate_into(t: &[u8], a: usize, m: &[u16], out: &mut [u8])
     put_all_new(t, a, m, out);
     let k = keep_blocks(t, a, m, &plan, out);
     put_all_edges(t, a, m, out, k);
+    put_predecessors(out, FIRST_FUNCTION);
 }

@@ -44,8 +44,8 @@ translate-text-spec =
     (λ c. search needs)
     (λ c κs. omega arith)
     (λ c. search needs)
-    (λ c. search needs)
-    (λ c. search needs)
+    (λ c. sym (c .before .before .before .t2 .given))
+    (λ c. sym (c .before .before .before .before .t2 .given))
     function-number-requires
     translate-function-requires
     (λ c. c .before .before .list-refusal .kept .1 .1 .0)

@@ -3,7 +3,7 @@ use mathlib.Core.Path.{_∙_}
 use native.Mathlib.Omega.{arith}
 use borrow.Author.Needs.{needs}
 use Rattle.checker.proofs.TestLaws.{fell, held}
-use Rattle.checker.proofs.SoundLaws.{head-counts, placed-right, head-fails, types-fail, blocks-fail, rows-fail, names-fail, none-fails}
+use Rattle.checker.proofs.SoundLaws.{head-counts, placed-right, rows-among, head-fails, types-fail, blocks-fail, rows-fail, lists-fail, names-fail, none-fails}
 use Rattle.checker.proofs.sound.sound_rows.Statement.{statement}
 use Rattle.checker.proofs.sound.sound_rows.Tie as tie
 
@@ -46,16 +46,28 @@ sound-rows-spec =
     (λ c κs.
     let s = c .before .before .before .before .before .before .before .before .before .before .before in
     let counts = head-counts (s .args .t .now) (s .args .a) (held (c .before .before .before .before .before .before .before .before .before .head-right .ensures) (c .before .before .before .before .before .before .before .before .if1 .left)) in
-    (s .pre, (omega arith, omega arith, omega arith, omega arith)))
+    ((omega arith, omega arith, omega arith), λ b l. rows-among (s .args .t .now) (s .args .a) (omega arith) b (omega arith)))
     (λ c. search needs)
     (λ c.
     let args = c .before .before .before .before .before .before .before .before .before .before .before .before .before .args in
-    names-fail (args .t .now) (args .i) (args .a) (held (c .before .before .before .before .before .before .before .before .before .before .before .head-right .ensures) (c .before .before .before .before .before .before .before .before .before .before .if1 .left)) (held (c .before .before .before .before .before .before .before .types-right .ensures) (c .before .before .before .before .before .before .if2 .left)) (omega arith)
+    lists-fail (args .t .now) (args .i) (args .a) (held (c .before .before .before .before .before .before .before .before .before .before .before .head-right .ensures) (c .before .before .before .before .before .before .before .before .before .before .if1 .left)) (held (c .before .before .before .before .before .before .before .types-right .ensures) (c .before .before .before .before .before .before .if2 .left)) (omega arith)
     (held (c .before .before .before .rows-right .ensures) (c .before .before .if4 .left))
-    (fell (c .before .names-right .ensures) (c .if5 .taken)))
+    (fell (c .before .predecessors-kept .ensures) (c .if5 .taken)))
+    (λ c κs.
+    let s = c .before .before .before .before .before .before .before .before .before .before .before .before .before in
+    let counts = head-counts (s .args .t .now) (s .args .a) (held (c .before .before .before .before .before .before .before .before .before .before .before .head-right .ensures) (c .before .before .before .before .before .before .before .before .before .before .if1 .left)) in
+    (s .pre, (omega arith, omega arith, omega arith, omega arith)))
+    (λ c. search needs)
     (λ c.
-    let args = c .before .before .before .before .before .before .before .before .before .before .before .before .before .args in
-    c .before .before .before .before .before .placed-rows .ensures
-    ∙ none-fails (args .t .now) (args .i) (args .a) (held (c .before .before .before .before .before .before .before .before .before .before .before .head-right .ensures) (c .before .before .before .before .before .before .before .before .before .before .if1 .left)) (held (c .before .before .before .before .before .before .before .types-right .ensures) (c .before .before .before .before .before .before .if2 .left)) (omega arith)
-    (held (c .before .before .before .rows-right .ensures) (c .before .before .if4 .left))
-    (held (c .before .names-right .ensures) (c .if5 .left))))
+    let args = c .before .before .before .before .before .before .before .before .before .before .before .before .before .before .before .args in
+    names-fail (args .t .now) (args .i) (args .a) (held (c .before .before .before .before .before .before .before .before .before .before .before .before .before .head-right .ensures) (c .before .before .before .before .before .before .before .before .before .before .before .before .if1 .left)) (held (c .before .before .before .before .before .before .before .before .before .types-right .ensures) (c .before .before .before .before .before .before .before .before .if2 .left)) (omega arith)
+    (held (c .before .before .before .before .before .rows-right .ensures) (c .before .before .before .before .if4 .left))
+    (held (c .before .before .before .predecessors-kept .ensures) (c .before .before .if5 .left))
+    (fell (c .before .names-right .ensures) (c .if6 .taken)))
+    (λ c.
+    let args = c .before .before .before .before .before .before .before .before .before .before .before .before .before .before .before .args in
+    c .before .before .before .before .before .before .before .placed-rows .ensures
+    ∙ none-fails (args .t .now) (args .i) (args .a) (held (c .before .before .before .before .before .before .before .before .before .before .before .before .before .head-right .ensures) (c .before .before .before .before .before .before .before .before .before .before .before .before .if1 .left)) (held (c .before .before .before .before .before .before .before .before .before .types-right .ensures) (c .before .before .before .before .before .before .before .before .if2 .left)) (omega arith)
+    (held (c .before .before .before .before .before .rows-right .ensures) (c .before .before .before .before .if4 .left))
+    (held (c .before .before .before .predecessors-kept .ensures) (c .before .before .if5 .left))
+    (held (c .before .names-right .ensures) (c .if6 .left))))

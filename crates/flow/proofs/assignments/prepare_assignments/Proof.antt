@@ -29,7 +29,7 @@ prepare-assignments-spec =
     μ-loop
     (λ c κs. omega arith)
     (λ c κs. c .before .before .before .before .before .before .pre .0 .sized .within)
-    (λ c. (omega arith, none-noted _ _ (omega (arith, c .before .before .before .clear .kept .0, c .before .before .before .before .before .before .before .pre .1)) (c .before .before .before .clear .ensures .zero)))
+    (λ c. (omega arith, none-noted _ _ (omega (arith, c .before .before .before .clear .kept .0, c .before .before .before .before .before .before .before .pre .1)) (c .before .before .before .clear .ensures)))
     (λ c κs.
     let s = c .before .before .before .before .before .before .before .before .before .before in
     let l : c .before .before .loop .b < blockCount (s .args .t .now) (s .args .a) = omega arith in

@@ -1,11 +1,9 @@
--- `each_checked`: 21 for every argument, or the predecessors counted once and the runs.
+-- `each_checked`: 21 for every argument, or the runs.
 use mathlib.Core.Path.{refl}
-use Prim.Native.Nat.{_<_}
 use native.Mathlib.Omega.{arith}
 use lib.ListN.{length}
 use borrow.Author.Needs.{needs}
-use Rattle.language.specs.Table.{functionCount}
-use Rattle.flow.proofs.Accepted.{accepted-length, accepted-preparable}
+use Rattle.flow.proofs.Accepted.{accepted-length}
 use Rattle.ial.proofs.EachLaws.{all-missing}
 use Rattle.ial.proofs.many.each_checked.Statement.{statement}
 use Rattle.ial.proofs.many.each_checked.Tie as tie
@@ -23,18 +21,10 @@ each-checked-spec =
     (λ c.
     let s = c .before .before .before .before .before .before .before .before .before .before .before in
     all-missing (s .args .t .now) (s .args .function) (s .args .args .now) (s .args .budget) (length (s .args .registers .now)) (omega (arith, c .before .before .before .before .before .before .function-count .ensures .0, c .before .before .before .before .before .if1 .taken)) (c .before .before .before .before .verdict-numbers .ensures) (c .before .before .same-each .ensures))
-    (λ c κs. omega (arith, c .before .function-count .ensures .1, c .if1 .left))
     (λ c. search needs)
     (λ c κs.
-    let s = c .before .before .before .before .before .before .before .before in
-    let l : s .args .function < functionCount (s .args .t .now) = omega (arith, c .before .before .before .function-count .ensures .0, c .before .before .if1 .left) in
-    (rw (c .before .function-at .ensures) (accepted-preparable (s .args .t .now) (s .pre .0) (s .args .function) l), refl))
-    (λ c. search needs)
-    (λ c. search needs)
-    (λ c κs.
-    let s = c .before .before .before .before .before .before .before .before .before .before .before .before .before .before in
-    let l : s .args .function < functionCount (s .args .t .now) = omega (arith, c .before .before .before .before .before .before .before .before .before .function-count .ensures .0, c .before .before .before .before .before .before .before .before .if1 .left) in
-    (s .pre .0, (l, ((rw (c .before .before .before .before .before .before .before .function-at .ensures) at (c .before .before .before .before .before .prepare-predecessors .ensures .0), refl), s .pre .1))))
+    let s = c .before .before .before .before .before .before .before .before .before in
+    (s .pre .0, (omega (arith, c .before .before .before .before .function-count .ensures .0, c .before .before .before .if1 .left), (refl, s .pre .1))))
     (λ c. search needs)
     (λ c. search needs)
     (λ c. c .before .before .before .before .before .run-all .ensures))

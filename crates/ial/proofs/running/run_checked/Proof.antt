@@ -1,11 +1,10 @@
--- `run_checked`: a function that is there has its predecessors counted and is run.
+-- `run_checked`: a function that is there is run.
 use mathlib.Core.Path.{refl}
-use Prim.Native.Nat.{_<_}
 use native.Mathlib.Omega.{arith}
 use lib.ListN.{length}
 use borrow.Author.Needs.{needs}
-use Rattle.language.specs.Table.{functionCount, decode}
-use Rattle.flow.proofs.Accepted.{accepted-length, accepted-preparable}
+use Rattle.language.specs.Table.{decode}
+use Rattle.flow.proofs.Accepted.{accepted-length}
 use Rattle.ial.proofs.RunLaws.{run-missing, from-zeros}
 use Rattle.ial.proofs.running.run_checked.Statement.{statement}
 use Rattle.ial.proofs.running.run_checked.Tie as tie
@@ -20,19 +19,11 @@ run-checked-spec =
     (λ c.
     let s = c .before .before .before .before .before in
     run-missing (s .args .t .now) (s .args .function) (s .args .args .now) (s .args .budget) (length (s .args .registers .now)) (omega (arith, c .before .function-count .ensures .0, c .if1 .taken)) (s .pre .1))
-    (λ c κs. omega (arith, c .before .function-count .ensures .1, c .if1 .left))
     (λ c. search needs)
     (λ c κs.
     let s = c .before .before .before .before .before .before .before in
-    let l : s .args .function < functionCount (s .args .t .now) = omega (arith, c .before .before .before .function-count .ensures .0, c .before .before .if1 .left) in
-    (rw (c .before .function-at .ensures) (accepted-preparable (s .args .t .now) (s .pre .0) (s .args .function) l), refl))
-    (λ c. search needs)
-    (λ c. search needs)
-    (λ c κs.
-    let s = c .before .before .before .before .before .before .before .before .before .before .before .before in
-    let l : s .args .function < functionCount (s .args .t .now) = omega (arith, c .before .before .before .before .before .before .before .before .function-count .ensures .0, c .before .before .before .before .before .before .before .if1 .left) in
-    (s .pre .0, (l, (rw (c .before .before .before .before .before .before .function-at .ensures) at (c .before .before .before .before .prepare-predecessors .ensures .0), refl))))
+    (s .pre .0, (omega (arith, c .before .before .before .function-count .ensures .0, c .before .before .if1 .left), refl)))
     (λ c. search needs)
     (λ c.
-    let s = c .before .before .before .before .before .before .before .before .before .before .before .before .before .before .before .before in
-    from-zeros (decode (s .args .t .now)) (s .args .function) (s .args .args .now) (s .args .budget) (s .args .registers .now) _ (c .before .before .before .run-prepared .ensures) (s .pre .1)))
+    let s = c .before .before .before .before .before .before .before .before .before .before .before in
+    from-zeros (decode (s .args .t .now)) (s .args .function) (s .args .args .now) (s .args .budget) (s .args .registers .now) _ (c .before .before .before .run-within .ensures) (s .pre .1)))

@@ -67,7 +67,7 @@ add-n c =
 pairs-requires : tie.Need-pairs-requires Inv-loop μ-loop
 pairs-requires c κs =
     let h = c .before .before .before .before .before .before .before .before .before .before .before .before .pre in
-    (h .1 .0 .count, omega (arith, h .0 .sized .blocks))
+    (h .0 .sized .within, h .1 .0 .count, omega (arith, h .0 .sized .blocks))
 
 add-b : tie.Need-add-b Inv-loop μ-loop
 add-b c =

@@ -11,13 +11,13 @@ use Rattle.translator.proofs.edges.put_edges.Statement.{statement}
 use Rattle.translator.proofs.edges.put_edges.Tie as tie
 
 abbrev Inv-loop : tie.InvT-loop
-Inv-loop t a m y n b out₀ k e r₀ j₀ out r j = (e ≡ pairsIn m y) × (j ≤ e) × (b + e ≤ 64) × (r ≡ firstRow (translated t a) (b + j)) × (length out ≡ length out₀) × (out ≡ built t a (b + j) r)
+Inv-loop t a m y n b out₀ k e r₀ j₀ out r j = (e ≡ pairsIn t a m y) × (j ≤ e) × (b + e ≤ 64) × (r ≡ firstRow (translated t a) (b + j)) × (length out ≡ length out₀) × (out ≡ built t a (b + j) r)
 
 abbrev μ-loop : tie.MeasureT-loop
 μ-loop t a m y n b out₀ k e r₀ j₀ out r j = e - j
 
 pairs-requires : tie.Need-pairs-requires Inv-loop μ-loop
-pairs-requires c κs = let start = c .before .before .before in (start .pre .1 .0 .count, omega (arith, start .pre .0 .sized .blocks, start .pre .1 .1 .0 .0))
+pairs-requires c κs = let start = c .before .before .before in (start .pre .0 .sized .within, start .pre .1 .0 .count, omega (arith, start .pre .0 .sized .blocks, start .pre .1 .1 .0 .0))
 
 loop-holds : tie.Need-loop-holds Inv-loop μ-loop
 loop-holds c =
@@ -94,7 +94,7 @@ returns c =
     let t = args .t .now in
     let a = args .a in
     let v = l .loop .inv in
-    let done : l .loop .j ≡ pairsIn (args .m .now) (args .y) = omega (arith, v .0) in
+    let done : l .loop .j ≡ pairsIn t a (args .m .now) (args .y) = omega (arith, v .0) in
     (v .3 ∙ ap (λ j. firstRow (translated t a) (args .b + j)) done, v .5 ∙ ap (λ j. built t a (args .b + j) (l .loop .r)) done)
 
 pub put-edges-spec : {M : Type 1} → statement M

@@ -56,7 +56,7 @@ keep-row-requires c κs =
     let h = start .pre in
     let s = h .1 .1 .1 .0 in
     let b = c .before .loop-test .taken in (
-      (h .0 .sized .within, h .1 .0 .count, h .1 .1 .0 .count, omega (arith, s .block, h .0 .sized .blocks), keeps-row t a (h .0) m plan (h .1 .0) (h .1 .1 .0) (args .x) (args .r) (args .n) (args .k) (l .loop .i) s b),
+      (h .0 .sized .within, h .1 .0 .count, h .1 .1 .0 .count, keeps-row t a (h .0) m plan (h .1 .0) (h .1 .1 .0) (args .x) (args .r) (args .n) (args .k) (l .loop .i) s b),
       (
         keeps-naming t a (h .0) m plan (h .1 .0) (h .1 .1 .0) (args .x) (args .r) (args .n) (args .k) (l .loop .i) s b,
         (omega arith, keeps-place t a (h .0) m plan (h .1 .0) (h .1 .1 .0) (args .x) (args .r) (args .n) (args .k) (l .loop .i) s b),

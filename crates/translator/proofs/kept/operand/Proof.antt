@@ -1,4 +1,4 @@
--- Each kind is a case of `operandAs`.
+-- Each kind is a case of `keptOperand`.
 use borrow.Author.Needs.{needs}
 use native.Mathlib.Omega.{arith}
 use Rattle.translator.proofs.Lookups.{of-load, of-block, of-blocks, of-none}
@@ -13,18 +13,18 @@ operand-spec =
     (λ c κs. search needs)
     (λ c κs.
     let start = c .before .before .before .before .before in
-    let few = start .pre .1 .first (omega (arith, c .before .match .keys2)) in
-    (start .pre .0 .1, start .pre .0 .2, start .pre .0 .3, omega arith, omega (arith, c .jump-first .ensures .0)))
+    let names = start .pre .1 .first (omega (arith, c .before .match .keys2)) in
+    ((start .pre .0 .0, start .pre .0 .1, start .pre .0 .2, omega (arith, names .below, c .jump-first .ensures .0)), rw (c .jump-first .ensures .0) (names .ascends)))
     (λ c κs. search needs)
     (λ c κs.
     let start = c .before .before .before .before .before in
-    let few = start .pre .1 .first (omega (arith, c .before .match .keys3)) in
-    (start .pre .0 .1, start .pre .0 .2, start .pre .0 .3, omega arith, omega (arith, c .jump-first2 .ensures .0)))
+    let names = start .pre .1 .first (omega (arith, c .before .match .keys3)) in
+    ((start .pre .0 .0, start .pre .0 .1, start .pre .0 .2, omega (arith, names .below, c .jump-first2 .ensures .0)), rw (c .jump-first2 .ensures .0) (names .ascends)))
     (λ c κs. search needs)
     (λ c κs.
     let start = c .before .before .before .before .before .before .before in
-    let few = start .pre .1 .second (omega (arith, c .before .before .before .match .keys3)) in
-    (start .pre .0 .1, start .pre .0 .2, start .pre .0 .3, omega arith, omega (arith, c .jump-second .ensures .0)))
+    let names = start .pre .1 .second (omega (arith, c .before .before .before .match .keys3)) in
+    ((start .pre .0 .0, start .pre .0 .1, start .pre .0 .2, omega (arith, names .below, c .jump-second .ensures .0)), rw (c .jump-second .ensures .0) (names .ascends)))
     (λ c. search needs)
     (λ c. search needs)
     (λ c.

@@ -9,9 +9,13 @@ pairs-spec =
     tie.close
     (tie.spec
     (λ c κs. search needs)
-    (λ c. let args = c .before .before .before .args in pairs-none (args .m .now) (args .b) (c .before .phis .result) (c .before .phis .ensures .0) (c .if1 .taken))
+    (λ c.
+    let args = c .before .before .before .before .args in
+    pairs-none (args .t .now) (args .a) (args .m .now) (args .b) (c .before .phis .result) (c .before .phis .ensures .0) (c .if1 .taken))
     (λ c κs. search needs)
     (λ c.
     let s = c .before .before in
-    let args = s .before .before .args in
-    pairs-some (args .m .now) (args .b) (s .phis .result) (s .phis .ensures .0) (c .before .if1 .left) (c .incoming .ensures .0) (c .incoming .ensures .1)))
+    let start = s .before .before .before in
+    let args = start .args in
+    pairs-some (args .t .now) (args .a) (args .m .now) (args .b) (s .phis .result) (s .phis .ensures .0) (c .before .if1 .left) (start .pre .0) (start .pre .2)
+    (c .predecessor-count .ensures .0) (c .predecessor-count .ensures .1)))

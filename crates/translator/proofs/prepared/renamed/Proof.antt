@@ -11,8 +11,8 @@ renamed-spec =
     (tie.spec
     (λ c κs. search needs)
     (λ c.
-    let args = c .before .before .before .before .args in
-    renamed-not (args .m .now) (args .plan .now) (args .x) (args .k) (args .y) (c .before .phis .result) (c .before .phis .ensures .0) (c .if1 .taken) (omega arith))
+    let args = c .before .before .before .before .before .args in
+    renamed-not (args .t .now) (args .a) (args .m .now) (args .plan .now) (args .x) (args .y) (c .before .phis .result) (c .before .phis .ensures .0) (c .if1 .taken) (omega arith))
     (λ c. search needs)
     (λ c. search needs)
     (λ c κs. search needs)
@@ -21,6 +21,6 @@ renamed-spec =
     (λ c.
     let p = c .before in
     let s = p .before .before .before in
-    let args = s .before .before .before .args in
-    renamed-so (args .m .now) (args .plan .now) (args .x) (args .k) (args .y) (s .phis .result) (s .phis .ensures .0) (p .before .before .if1 .left)
+    let args = s .before .before .before .before .args in
+    renamed-so (args .t .now) (args .a) (args .m .now) (args .plan .now) (args .x) (args .y) (s .phis .result) (s .phis .ensures .0) (p .before .before .if1 .left)
     (p .wide-two .result) (c .rank .result) (p .wide-two .ensures .0) (p .wide-two .ensures .1) (c .rank .ensures .0) (c .rank .ensures .1)))

@@ -23,7 +23,7 @@ phis-requires : tie.Need-phis-requires Inv-loop μ-loop
 phis-requires c κs = let s = c .before .before .before .before .before .pre in (s .1 .0 .count, omega (arith, s .0 .blocks, c .before .loop .inv .0))
 
 pairs-requires : tie.Need-pairs-requires Inv-loop μ-loop
-pairs-requires c κs = let s = c .before .before .before .before .before .before .pre in (s .1 .0 .count, omega (arith, s .0 .blocks, c .before .before .loop .inv .0))
+pairs-requires c κs = let s = c .before .before .before .before .before .before .pre in (s .0 .within, s .1 .0 .count, omega (arith, s .0 .blocks, c .before .before .loop .inv .0))
 
 add-new : tie.Need-add-new Inv-loop μ-loop
 add-new c = omega arith
@@ -62,7 +62,7 @@ loop-again c =
     let p = c .before .before .phis in
     let e = c .before .pairs in (
       l .loop .inv .0,
-      measured-next (start .args .t .now) (start .args .a) (start .args .m .now) (start .pre .1 .0) (start .pre .1 .1) (l .before .block-count .result) (l .loop .new)
+      measured-next (start .args .t .now) (start .args .a) (start .args .m .now) (start .pre .0) (start .pre .1 .0) (start .pre .1 .1) (l .before .block-count .result) (l .loop .new)
           (l .loop .edges) (l .loop .rows) (l .loop .b) (p .result) (e .result) (c .block-rows .result) (l .loop .inv .0) (c .before .before .before .loop-test .taken)
           (l .loop .inv .1) (p .ensures .0) (p .ensures .1) (e .ensures .0) (e .ensures .1) (c .block-rows .ensures .0) (c .block-rows .ensures .1),
     )

@@ -39,7 +39,7 @@ slice-write-plan : tie.Need-slice-write-plan Inv-loop μ-loop
 slice-write-plan c = omega arith
 
 pairs-requires : tie.Need-pairs-requires Inv-loop μ-loop
-pairs-requires c κs = (c .before .before .before .before .before .before .pre .1 .0 .count, omega arith)
+pairs-requires c κs = let h = c .before .before .before .before .before .before .pre in (h .0 .sized .within, h .1 .0 .count, omega arith)
 
 add-next : tie.Need-add-next Inv-loop μ-loop
 add-next c =
@@ -63,7 +63,7 @@ loop-again c =
     let known : l .loop .y < blockCount t a = omega (arith, l .loop .inv .0) in (
       l .loop .inv .0,
       planning-next (decodeFunction t a) (l .loop .plan) (l .loop .next) (l .loop .y) (c .pairs .result) (l .loop .inv .1) (rw (block-count t a) known)
-          (rw (block-count t a) (start .pre .0 .sized .blocks)) (c .pairs .ensures .0 ∙ pairs-here t a (start .args .m .now) (start .pre .1 .0) (start .pre .0 .clean) (l .loop .y) known),
+          (rw (block-count t a) (start .pre .0 .sized .blocks)) (c .pairs .ensures .0 ∙ pairs-here t a (start .args .m .now) (start .pre .1 .0) (start .pre .0 .clean) (start .pre .0 .sized .placed) (l .loop .y) known),
     )
 
 same-length : tie.Need-same-length Inv-loop μ-loop

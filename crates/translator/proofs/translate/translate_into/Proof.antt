@@ -1,11 +1,13 @@
--- The head, the registers, the kept blocks and the edges, one section after the other.
+-- The head, the registers, the kept blocks and the edges, one section after the other; then the lists.
 use borrow.Author.Needs.{needs}
 use mathlib.Core.Path.{ap, _∙_}
 use lib.ListN.{length}
 use Rattle.language.specs.Table.{decodeFunction, tableLength}
 use Rattle.numbers.proofs.Zeros.{length-zeros}
+use Rattle.translator.specs.Source.{translated}
+use Rattle.translator.proofs.Filling.{unlisted-within, lists-put}
 use Rattle.translator.proofs.SizesLaws.{registers-are, blocks-are, blocks-few}
-use Rattle.translator.proofs.RegistersLaws.{name-short, head-declared}
+use Rattle.translator.proofs.RegistersLaws.{target-laid, name-short, head-declared}
 use Rattle.translator.proofs.translate.translate_into.Statement.{statement}
 use Rattle.translator.proofs.translate.translate_into.Tie as tie
 
@@ -59,11 +61,27 @@ put-all-edges-requires c κs =
     .before .pre in
     (h .0, (h .1 .0, u .keep-blocks .ensures))
 
+put-predecessors-requires : tie.Need-put-predecessors-requires
+put-predecessors-requires c κs =
+    let e = c .before .before .before in
+    let start = e .before .before .before .before .before .before .before .before .before .before .before .before .before .before .before .before .before .before .before .before .before
+    .before .before .before .before .before in
+    let t = start .args .t .now in
+    let a = start .args .a in
+    unlisted-within (translated t a) (target-laid t a (start .pre .0)) (e .put-all-edges .ensures)
+
 same-length : tie.Need-same-length
 same-length c = search needs
 
 returns : tie.Need-returns
-returns c = search needs
+returns c =
+    let p = c .before .before in
+    let e = p .before .before .before .before in
+    let start = e .before .before .before .before .before .before .before .before .before .before .before .before .before .before .before .before .before .before .before .before .before
+    .before .before .before .before .before in
+    let t = start .args .t .now in
+    let a = start .args .a in
+    lists-put (translated t a) (target-laid t a (start .pre .0)) (e .put-all-edges .ensures) (p .put-predecessors .ensures)
 
 pub translate-into-spec : {M : Type 1} → statement M
 translate-into-spec =
@@ -78,5 +96,6 @@ translate-into-spec =
     slice-aggregate-keep-blocks
     keep-blocks-requires
     put-all-edges-requires
+    put-predecessors-requires
     same-length
     returns)

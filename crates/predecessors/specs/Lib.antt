@@ -1,0 +1,4 @@
+pub mod Ends
+pub mod Ranked
+pub mod Comparing
+pub mod Listing
