@@ -52,7 +52,7 @@ def needed(lines):
 def put_predecessor(t, a, p, block):
     """"The blocks whose terminator names it, each once, in the order declared": a block with this last row, behind those declared before."""
     if p[2] in ('jump', 'jump.cond'):
-        for b in set(p[5].removeprefix('blocks ').split(',')):
+        for b in dict.fromkeys(p[5].removeprefix('blocks ').split(',')):
             k = predecessors_at(a, int(b))
             t[k] += 1
             t[k + t[k]] = block
