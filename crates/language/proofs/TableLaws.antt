@@ -10,7 +10,7 @@ use Rattle.laws.specs.Sections.{At, pad}
 use Rattle.laws.proofs.Sections.{at-right, at-cell, at-part, at-pad, length-pad}
 use Rattle.language.specs.Answers.{zeros}
 use Rattle.language.specs.Programs.{Register}
-use Rattle.language.specs.Table.{nameAt, listAt, Listed, nameCells, registerCells, predecessorCells, blockCells, blockLength, nameLength, predecessorsLength, registerLength}
+use Rattle.language.specs.Table.{nameAt, listAt, BlockRecord, nameCells, registerCells, predecessorCells, blockCells, blockLength, nameLength, predecessorsLength, registerLength}
 
 -- ---- lengths
 
@@ -26,7 +26,7 @@ pub length-predecessors : (list : List ℕ) → length list ≤ 64 → length (p
 unfolding predecessorCells
 length-predecessors list h = ap suc (length-pad 64 list h)
 
-pub length-block : (n : ℕ) (b : Listed) → length (b .block .name) ≤ 64 → length (b .list) ≤ 64 → length (blockCells n b) ≡ blockLength
+pub length-block : (n : ℕ) (b : BlockRecord) → length (b .block .name) ≤ 64 → length (b .list) ≤ 64 → length (blockCells n b) ≡ blockLength
 unfolding blockCells
 length-block n b h l =
     let parts : length (nameCells (b .block .name) ++ predecessorCells (b .list)) ≡ nameLength + predecessorsLength =

@@ -325,12 +325,12 @@ unfoldable pub predecessorCells : List ℕ → List ℕ
 predecessorCells list = length list ∷ pad maxBlocks list
 
 -- A block and the list of its predecessors.
-pub record Listed : Type 0 where
+pub record BlockRecord : Type 0 where
   pub block : Block
   pub list : List ℕ
 
 -- One whose first row is n.
-unfoldable pub blockCells : ℕ → Listed → List ℕ
+unfoldable pub blockCells : ℕ → BlockRecord → List ℕ
 blockCells n b =
     twoBytes n ++ (twoBytes (length (b .block .rows)) ++ (nameCells (b .block .name) ++ predecessorCells (b .list)))
 
@@ -357,11 +357,11 @@ unfoldable pub registerSection : Func → List ℕ
 registerSection f = pad registersLength (gather registerCells (f .registers))
 
 -- The blocks with these lists of predecessors.
-abbrev pub listed : List (List ℕ) → List Block → List Listed
-listed lists blocks = together (λ b list. record { block = b; list = list }) blocks lists
+abbrev pub blockRecords : List (List ℕ) → List Block → List BlockRecord
+blockRecords lists blocks = together (λ b list. record { block = b; list = list }) blocks lists
 
 unfoldable pub blockSection : List (List ℕ) → Func → List ℕ
-blockSection lists f = pad blocksLength (gatherFrom (λ b. length (b .block .rows)) blockCells 0 (listed lists (f .blocks)))
+blockSection lists f = pad blocksLength (gatherFrom (λ b. length (b .block .rows)) blockCells 0 (blockRecords lists (f .blocks)))
 
 unfoldable pub rowSection : Func → List ℕ
 rowSection f = pad rowsLength (gatherFrom (λ r. length (entriesOf r)) rowCells 0 (rowsOf f))

@@ -8,7 +8,7 @@ use lib.ListN.{length, replicate}
 use Rattle.laws.specs.Lists.{from}
 use Rattle.laws.specs.Sections.{pad, gatherFrom}
 use Rattle.language.specs.Programs.{Block, Func}
-use Rattle.language.specs.Table.{twoBytes, nameCells, blockCells, listed, blockSection, blockLength, blocksLength, predecessorsLength}
+use Rattle.language.specs.Table.{twoBytes, nameCells, blockCells, blockRecords, blockSection, blockLength, blocksLength, predecessorsLength}
 use Rattle.language.proofs.TableLaws.{length-block, no-predecessor-cells}
 use Rattle.theorems.proofs.TableFunction.{height}
 use Rattle.predecessors.specs.Ranked.{rankedBefore, listsBefore}
@@ -24,7 +24,7 @@ bare-cells n b = ap (λ list. twoBytes n ++ (twoBytes (length (b .rows)) ++ (nam
 
 -- no list for each block of some
 bare-from : (g : Func) (n k : ℕ) (blocks : List Block)
-    → gatherFrom height blockCells n (listed (map (rankedBefore g 0) (from k (length blocks))) blocks) ≡ gatherFrom (λ b. length (b .rows)) bareCells n blocks
+    → gatherFrom height blockCells n (blockRecords (map (rankedBefore g 0) (from k (length blocks))) blocks) ≡ gatherFrom (λ b. length (b .rows)) bareCells n blocks
 unfolding rankedBefore
 bare-from g n k [] = refl
 bare-from g n k (b ∷ blocks) = ap (λ rest. bareCells n b ++ rest) (bare-from g (n + length (b .rows)) (suc k) blocks)

@@ -11,10 +11,10 @@ use Rattle.laws.proofs.Indexing.{together-set}
 use Rattle.laws.proofs.Sections.{length-gatherFrom}
 use Rattle.laws.proofs.Storing.{Stored, stored-left, stored-right, stored-pad, element-stored}
 use Rattle.language.specs.Programs.{Func, noBlock}
-use Rattle.language.specs.Table.{Listed, twoBytes, nameCells, predecessorCells, blockCells, listed, headCells, registerSection, blockSection, rowSection, entrySection, cellsListing}
+use Rattle.language.specs.Table.{BlockRecord, twoBytes, nameCells, predecessorCells, blockCells, blockRecords, headCells, registerSection, blockSection, rowSection, entrySection, cellsListing}
 use Rattle.language.specs.Table.{nameLength, blockLength, predecessorsOffset, blocksLength}
 use Rattle.language.proofs.TableLaws.{length-name, length-predecessors}
-use Rattle.theorems.specs.TableLaw.{Laid, ListsFit, noListed}
+use Rattle.theorems.specs.TableLaw.{Laid, ListsFit, noBlockRecord}
 use Rattle.theorems.proofs.TableFunction.{height, listed-at, length-listed, blocks-stride, length-head, length-registers, length-blocks}
 
 -- ---- a list in its block's record
@@ -24,7 +24,7 @@ list-stored old new h l =
     record { cells = sym (sets-all (predecessorCells old) (predecessorCells new) (length-predecessors new l ∙ sym (length-predecessors old h))) }
 
 -- behind the name
-in-record : (n : ℕ) (b : Listed) (new : List ℕ) → length (b .block .name) ≤ 64 → length (b .list) ≤ 64 → length new ≤ 64
+in-record : (n : ℕ) (b : BlockRecord) (new : List ℕ) → length (b .block .name) ≤ 64 → length (b .list) ≤ 64 → length new ≤ 64
     → Stored (blockCells n b) 69 (predecessorCells new) (blockCells n (record { block = b .block; list = new }))
 unfolding blockCells
 in-record n b new h l m =
@@ -33,13 +33,13 @@ in-record n b new h l m =
     stored-right (stored-right behindName (twoBytes (length (b .block .rows))) {m = 2 + nameLength} refl) (twoBytes n) refl
 
 module _ (g : Func) (laid : Laid g) (lists : List (List ℕ)) (fit : ListsFit lists g) (y : ℕ) (l : y < length (g .blocks)) (new : List ℕ) (short : length new ≤ 64) where
-  abbrev items : List Listed
-  items = listed lists (g .blocks)
+  abbrev items : List BlockRecord
+  items = blockRecords lists (g .blocks)
 
-  item : getD items y noListed ≡ record { block = getD (g .blocks) y noBlock; list = getD lists y [] }
+  item : getD items y noBlockRecord ≡ record { block = getD (g .blocks) y noBlock; list = getD lists y [] }
   item = listed-at lists (g .blocks) y (fit .count) l
 
-  in-items : listed (set lists y new) (g .blocks) ≡ set items y (record { block = getD (g .blocks) y noBlock; list = new })
+  in-items : blockRecords (set lists y new) (g .blocks) ≡ set items y (record { block = getD (g .blocks) y noBlock; list = new })
   in-items = together-set (λ b list. record { block = b; list = list }) noBlock (g .blocks) lists y new l
 
   inside : y < length items
@@ -50,10 +50,10 @@ module _ (g : Func) (laid : Laid g) (lists : List (List ℕ)) (fit : ListsFit li
   in-section =
       rw in-items
       (stored-pad
-      (element-stored height blockCells blockLength noListed (record { block = getD (g .blocks) y noBlock; list = new }) 69 (predecessorCells new)
+      (element-stored height blockCells blockLength noBlockRecord (record { block = getD (g .blocks) y noBlock; list = new }) 69 (predecessorCells new)
       (omega (arith, length-predecessors new short)) 0 items (blocks-stride g laid lists fit) y inside (rw item refl)
       (λ m. rw item (in-record m (record { block = getD (g .blocks) y noBlock; list = getD lists y [] }) new (laid .blockNames y l) (fit .short y l) short)))
-      blocksLength (omega (arith, length-gatherFrom height blockCells blockLength noListed 0 items (blocks-stride g laid lists fit), length-listed lists (g .blocks) (fit .count), mul-le-mul-left blockLength l, length-predecessors new short)))
+      blocksLength (omega (arith, length-gatherFrom height blockCells blockLength noBlockRecord 0 items (blocks-stride g laid lists fit), length-listed lists (g .blocks) (fit .count), mul-le-mul-left blockLength l, length-predecessors new short)))
 
   -- in the function's cells
   pub list-in-cells : Stored (cellsListing lists g) (predecessorsOffset + blockLength * y) (predecessorCells new) (cellsListing (set lists y new) g)

@@ -28,7 +28,7 @@ use Rattle.theorems.proofs.TableFunction.{length-listing, list-at, predecessor-
 use Rattle.theorems.proofs.SimulationRows.{lastRow-at}
 use Rattle.predecessors.specs.Ends.{GoesOn}
 use Rattle.predecessors.specs.Ranked.{rankedBefore, listsBefore}
-use Rattle.predecessors.specs.Listing.{Stands, nextListed}
+use Rattle.predecessors.specs.Listing.{FunctionStands, nextListed}
 use Rattle.predecessors.proofs.RankedLaws.{ranked-suc, ranked-length, ranked-all}
 use Rattle.predecessors.proofs.ListedLaws.{list-in-cells}
 
@@ -79,7 +79,7 @@ list-grows-at t p list x h r at =
 abbrev pub grown : List (List ℕ) → (n y x : ℕ) → List (List ℕ)
 grown lists n y x = cond (leb n y) lists (set lists y (getD lists y [] ++ (x ∷ [])))
 
-module _ {t : List ℕ} {a : ℕ} {lists : List (List ℕ)} {g : Func} {before behind : List ℕ} (s : Stands t a lists g before behind) (fit : ListsFit lists g) where
+module _ {t : List ℕ} {a : ℕ} {lists : List (List ℕ)} {g : Func} {before behind : List ℕ} (s : FunctionStands t a lists g before behind) (fit : ListsFit lists g) where
   pub stands-at : At t a (cellsListing lists g)
   stands-at =
       at-left (cellsListing lists g) behind
@@ -121,7 +121,7 @@ module _ {t : List ℕ} {a : ℕ} {lists : List (List ℕ)} {g : Func} {before b
 
   -- ---- one number more
 
-  pub next-stands : (n y x : ℕ) → n ≡ length (g .blocks) → (y < n → length (getD lists y []) < 64) → Stands (nextListed t a n y x) a (grown lists n y x) g before behind
+  pub next-stands : (n y x : ℕ) → n ≡ length (g .blocks) → (y < n → length (getD lists y []) < 64) → FunctionStands (nextListed t a n y x) a (grown lists n y x) g before behind
   unfolding nextListed
   next-stands n y x e h = by (leb n y) refl
     where
@@ -132,7 +132,7 @@ module _ {t : List ℕ} {a : ℕ} {lists : List (List ℕ)} {g : Func} {before b
       c = predecessorCount t a y
 
       by : (b : Bool) → leb n y ≡ b
-          → Stands (cond b t (cond (leb maxBlocks c) t (set (set t (p + 1 + c) x) p (c + 1)))) a (cond b lists (set lists y (getD lists y [] ++ (x ∷ [])))) g before behind
+          → FunctionStands (cond b t (cond (leb maxBlocks c) t (set (set t (p + 1 + c) x) p (c + 1)))) a (cond b lists (set lists y (getD lists y [] ++ (x ∷ [])))) g before behind
       by true q = s
       by false q =
           let l : y < length (g .blocks) = omega (arith, leb-false n y q, e) in
@@ -265,7 +265,7 @@ next-count t a n y x = by (leb n y) (leb maxBlocks (predecessorCount t a y))
         getD-set-other (set t (p + 1 + c) x) p (a + blockCountOffset) (c + 1) 0 (λ e. absurd (omega arith))
         ∙ getD-set-other t (p + 1 + c) (a + blockCountOffset) x 0 (λ e. absurd (omega arith))
 
-module _ {t : List ℕ} {a x : ℕ} {g : Func} {before behind : List ℕ} (s : Stands t a (listsBefore g x) g before behind) {n : ℕ} (count : n ≡ blockCount t a) (few : n ≤ maxBlocks) (l : x < n) where
+module _ {t : List ℕ} {a x : ℕ} {g : Func} {before behind : List ℕ} (s : FunctionStands t a (listsBefore g x) g before behind) {n : ℕ} (count : n ≡ blockCount t a) (few : n ≤ maxBlocks) (l : x < n) where
   fit : ListsFit (listsBefore g x) g
   fit = before-fit g x (omega arith)
 
@@ -288,7 +288,7 @@ module _ {t : List ℕ} {a x : ℕ} {g : Func} {before behind : List ℕ} (s : S
   pub block-listed :
       {first second : ℕ} → GoesOn (decodeFunction t a) x first second
       → {u v : List ℕ} → u ≡ nextListed t a n first x → v ≡ nextListed u a n second x
-      → Stands v a (listsBefore g (x + 1)) g before behind
+      → FunctionStands v a (listsBefore g (x + 1)) g before behind
   block-listed {first} {second} found d f =
       let goes : GoesOn g x first second = goes-on s fit (omega (arith, blocks)) found in
       let once = next-stands s fit n first x blocks (first-room g x first second n blocks few goes (omega arith)) in

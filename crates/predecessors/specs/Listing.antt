@@ -16,7 +16,7 @@ abbrev pub noLists : Func → List (List ℕ)
 noLists g = listsBefore g 0
 
 -- Function g stands at cell a of t with these lists, `before` and `behind` being what stands around it.
-pub record Stands (t : List ℕ) (a : ℕ) (lists : List (List ℕ)) (g : Func) (before behind : List ℕ) : Type 0 where
+pub record FunctionStands (t : List ℕ) (a : ℕ) (lists : List (List ℕ)) (g : Func) (before behind : List ℕ) : Type 0 where
   pub laid : Laid g
   pub place : length before ≡ a
   pub cells : t ≡ before ++ (cellsListing lists g ++ behind)

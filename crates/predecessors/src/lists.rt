@@ -5,7 +5,7 @@ ghost use Prim.Native.Nat.{ℕ, _+_, _<_, _≤_};
 ghost use Rattle.language.specs.Programs.{Func, maxBlocks};
 ghost use Rattle.language.specs.Table.{blockCount, predecessorLists, InTable};
 ghost use Rattle.predecessors.specs.Ranked.{listsBefore};
-ghost use Rattle.predecessors.specs.Listing.{Stands, noLists, nextListed};
+ghost use Rattle.predecessors.specs.Listing.{FunctionStands, noLists, nextListed};
 use crate::ends::ends;
 use table::BLOCK_LENGTH;
 use table::MAX_BLOCKS;
@@ -38,7 +38,7 @@ fn list(t: &mut [u8], a: usize, n: usize, y: usize, x: usize)
 fn list_block(t: &mut [u8], a: usize, n: usize, x: usize)
     requires { ⌜ (InTable (now t) a) × (n ≡ blockCount (now t) a) × (n ≤ maxBlocks) × (x < n) ⌝ }
     ensures { λ _. ⌜ blockCount (now (t .exit)) a ≡ blockCount (now (t .entry)) a ⌝ }
-    ensures { λ _. ⌜ ((g : Func) (before behind : List ℕ) → Stands (now (t .entry)) a (listsBefore g x) g before behind → Stands (now (t .exit)) a (listsBefore g (x + 1)) g before behind) ⌝ }
+    ensures { λ _. ⌜ ((g : Func) (before behind : List ℕ) → FunctionStands (now (t .entry)) a (listsBefore g x) g before behind → FunctionStands (now (t .exit)) a (listsBefore g (x + 1)) g before behind) ⌝ }
 {
     if MAX_ROWS < block_first(t, a, x) + block_rows(t, a, x) {
         return;
@@ -51,7 +51,7 @@ fn list_block(t: &mut [u8], a: usize, n: usize, x: usize)
 // All lists of the function at a: of every function that stands there without lists, its own.
 pub fn put_predecessors(t: &mut [u8], a: usize)
     requires { ⌜ (InTable (now t) a) × (blockCount (now t) a ≤ maxBlocks) ⌝ }
-    ensures { λ _. ⌜ ((g : Func) (before behind : List ℕ) → Stands (now (t .entry)) a (noLists g) g before behind → Stands (now (t .exit)) a (predecessorLists g) g before behind) ⌝ }
+    ensures { λ _. ⌜ ((g : Func) (before behind : List ℕ) → FunctionStands (now (t .entry)) a (noLists g) g before behind → FunctionStands (now (t .exit)) a (predecessorLists g) g before behind) ⌝ }
 {
     let n = block_count(t, a);
     let mut x = 0;

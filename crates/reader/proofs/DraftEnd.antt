@@ -23,7 +23,7 @@ use Rattle.language.specs.Table.{blocksLength, functionLength, functionsLength}
 use Rattle.language.specs.Reading.{Draft, fresh, resolve, resolveRow, resolveBlock, blockNumber}
 use Rattle.theorems.specs.TableLaw.{Laid}
 use Rattle.theorems.proofs.TableFunction.{length-laid, length-listing}
-use Rattle.predecessors.specs.Listing.{Stands, bareCells, noLists}
+use Rattle.predecessors.specs.Listing.{FunctionStands, bareCells, noLists}
 use Rattle.predecessors.proofs.BareLaws.{bare-section}
 use Rattle.predecessors.proofs.ListingLaws.{before-fit}
 use Rattle.reader.specs.Draft.{WithinSizes, shortName, inForm, unlistedTable, openBlock, openHead, openRegisters, openBlocks, openRows, openEntries, closedTable, patchedRows, patchedTable, mentionedBlocks, headBytes}
@@ -105,7 +105,7 @@ module _ (fs : List Func) (g : Func) (less : length fs < maxFunctions) (whole : 
       (pad-is functionsLength (G ++ cs) (functionsLength - (functionLength * length fs + functionLength)) (simp length-append (omega (arith, length-functions fs whole)))
       ∙ append-assoc G cs (behindLast fs))
 
-  pub unlisted-stands : {a : ℕ} → a ≡ functionAt (length fs) → {t : List ℕ} → t ≡ unlistedTable fs g → Stands t a (noLists g) g (beforeLast fs) (behindLast fs)
+  pub unlisted-stands : {a : ℕ} → a ≡ functionAt (length fs) → {t : List ℕ} → t ≡ unlistedTable fs g → FunctionStands t a (noLists g) g (beforeLast fs) (behindLast fs)
   unfolding unlistedTable
   unlisted-stands e p =
       record {
@@ -114,7 +114,7 @@ module _ (fs : List Func) (g : Func) (less : length fs < maxFunctions) (whole : 
         cells = p ∙ last-of (cellsListing (noLists g) g) (length-listing g laid (noLists g) (before-fit g 0 (omega arith)));
       }
 
-  pub listed-closes : {a : ℕ} {t : List ℕ} → Stands t a (predecessorLists g) g (beforeLast fs) (behindLast fs) → t ≡ closedTable (fs ++ (g ∷ []))
+  pub listed-closes : {a : ℕ} {t : List ℕ} → FunctionStands t a (predecessorLists g) g (beforeLast fs) (behindLast fs) → t ≡ closedTable (fs ++ (g ∷ []))
   unfolding closedTable functionCells
   listed-closes s =
       s .cells ∙ sym (last-of (functionCells g) (length-laid g laid))

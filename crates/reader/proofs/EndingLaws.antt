@@ -21,7 +21,7 @@ use Rattle.laws.proofs.Keep.{keep-none, keep-first}
 use Rattle.laws.proofs.Cells.{at-sets}
 use Rattle.laws.proofs.Sections.{at-cell}
 use Rattle.table.specs.Named.{firstNamed}
-use Rattle.predecessors.specs.Listing.{Stands, noLists}
+use Rattle.predecessors.specs.Listing.{FunctionStands, noLists}
 use Rattle.language.specs.Programs.{Func, noBlock, rowsOf, entryCount, maxFunctions}
 use Rattle.language.specs.Table.{functionAt, nameAt, two, four, twoBytes, eightBytes, rowOp, blockCount, predecessorLists, InTable, blockLength, blockNamesOffset, operandsOffset, rowLength, nameLength}
 use Rattle.language.specs.Reading.{Draft, Mention, ActOutcome, blockNumber, undeclared, fresh, endFunction}
@@ -138,7 +138,7 @@ head-count s entry a t t′ h e = ap (λ (u : List ℕ). blockCount u a) e ∙ a
 
 -- What putting down the lists does to every function that stands at a.
 abbrev Lists : (a : ℕ) (t t′ : List ℕ) → Type 0
-Lists a t t′ = (g : Func) (before behind : List ℕ) → Stands t a (noLists g) g before behind → Stands t′ a (predecessorLists g) g before behind
+Lists a t t′ = (g : Func) (before behind : List ℕ) → FunctionStands t a (noLists g) g before behind → FunctionStands t′ a (predecessorLists g) g before behind
 
 abbrev noMention : Mention
 noMention = record { name = []; place = 0 }

@@ -54,7 +54,6 @@ pub use layout::NAME_LENGTH;
 pub use layout::NAME_OFFSET;
 pub use layout::OPERANDS_OFFSET;
 pub use layout::PARAMS_OFFSET;
-pub use layout::PREDECESSORS_LENGTH;
 pub use layout::PREDECESSORS_OFFSET;
 pub use layout::REGISTER_COUNT_OFFSET;
 pub use layout::REGISTER_LENGTH;

@@ -11,10 +11,10 @@ use Rattle.laws.proofs.Every.{Every, none, more, every-keep, every-below}
 use Rattle.laws.proofs.Sections.{bytes-append, bytes-pad, bytes-gatherFrom, gather-is-from}
 use Rattle.language.specs.Programs.{Row, Register, Func, entriesOf, rowsOf, noRegister, maxBlocks, maxEntries}
 use Rattle.language.specs.Checking.{goesTo, predecessors}
-use Rattle.language.specs.Table.{twoBytes, nameCells, registerCells, predecessorCells, Listed, blockCells, rowCells, headCells, registerSection, blockSection}
-use Rattle.language.specs.Table.{listed, rowSection, entrySection, cellsListing, predecessorLists, functionCells, blocksLength, registersLength, rowLength, rowsLength}
+use Rattle.language.specs.Table.{twoBytes, nameCells, registerCells, predecessorCells, BlockRecord, blockCells, rowCells, headCells, registerSection, blockSection}
+use Rattle.language.specs.Table.{blockRecords, rowSection, entrySection, cellsListing, predecessorLists, functionCells, blocksLength, registersLength, rowLength, rowsLength}
 use Rattle.language.specs.Instructions.{jumpCondOp, jumpOp, leaveOp, phiOp, returnOp}
-use Rattle.theorems.specs.TableLaw.{NameFits, RegisterFits, RowFits, FunctionFits, ListsFit, noListed}
+use Rattle.theorems.specs.TableLaw.{NameFits, RegisterFits, RowFits, FunctionFits, ListsFit, noBlockRecord}
 use Rattle.theorems.proofs.TableFunction.{height, length-listed, listedIn, listed-at, predecessor-list, laid-of, lists-fit}
 
 two-bytes : (n : ℕ) → Bytes (twoBytes n)
@@ -37,7 +37,7 @@ list-bytes : (f : Func) (b : ℕ) → length (f .blocks) ≤ maxBlocks → Bytes
 unfolding predecessors
 list-bytes f b l = bytes-under (omega arith) (every-keep (λ x. goesTo f x b) (λ x t h. h) (every-below (length (f .blocks)) (λ i h. h)))
 
-block-bytes : (n : ℕ) (b : Listed) → NameFits (b .block .name) → length (b .list) ≤ maxBlocks → Bytes (b .list) → Bytes (blockCells n b)
+block-bytes : (n : ℕ) (b : BlockRecord) → NameFits (b .block .name) → length (b .list) ≤ maxBlocks → Bytes (b .list) → Bytes (blockCells n b)
 unfolding blockCells predecessorCells
 block-bytes n b h l c =
     let count : List ℕ = twoBytes (length (b .block .rows)) in
@@ -79,8 +79,8 @@ module _ (f : Func) (fits : FunctionFits f) where
   blocks-bytes =
       let lists : List (List ℕ) = predecessorLists f in
       let fit : ListsFit lists f = lists-fit f (laid-of f fits) in
-      bytes-pad blocksLength (gatherFrom height blockCells 0 (listed lists (f .blocks)))
-      (bytes-gatherFrom height blockCells noListed 0 (listed lists (f .blocks))
+      bytes-pad blocksLength (gatherFrom height blockCells 0 (blockRecords lists (f .blocks)))
+      (bytes-gatherFrom height blockCells noBlockRecord 0 (blockRecords lists (f .blocks))
       (λ m i b.
       let c : i < length (f .blocks) = omega (arith, length-listed lists (f .blocks) (fit .count)) in
       rw (listed-at lists (f .blocks) i (fit .count) c)

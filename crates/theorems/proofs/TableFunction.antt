@@ -22,15 +22,15 @@ use Rattle.laws.proofs.Sections.{at-move, at-left, at-right, at-cell, at-pad, a
 use Rattle.laws.proofs.Sections.{length-gatherFrom, length-pad}
 use Rattle.language.specs.Programs.{Row, Block, Func, entriesOf, namedBy, opOf, rowsAt, rowsOf, firstRow, entryCount, blockAt, noRegister, noBlock, maxEntries}
 use Rattle.language.specs.Checking.{goesTo, predecessors}
-use Rattle.language.specs.Table.{twoBytes, nameCells, registerCells, predecessorCells, Listed, blockCells, rowCells, headCells, registerSection, blockSection}
-use Rattle.language.specs.Table.{listed, rowSection, entrySection, cellsListing, predecessorLists, functionCells, decodeRegister, decodeRow, decodeBlock}
+use Rattle.language.specs.Table.{twoBytes, nameCells, registerCells, predecessorCells, BlockRecord, blockCells, rowCells, headCells, registerSection, blockSection}
+use Rattle.language.specs.Table.{blockRecords, rowSection, entrySection, cellsListing, predecessorLists, functionCells, decodeRegister, decodeRow, decodeBlock}
 use Rattle.language.specs.Table.{blocksPlaced, phisPlaced, predecessorsKept, decodeAt, decodeFunction, functionName, functionSsa, functionResult, functionParams}
 use Rattle.language.specs.Table.{functionEntry, registerCount, blockCount, blockFirst, blockRows, rowsBefore, predecessorCount, storedPredecessors}
 use Rattle.language.specs.Table.{rowCount, rowOp, phiFirst, rowEntries, entriesBefore}
 use Rattle.language.specs.Table.{blockLength, blocksLength, blocksOffset, entriesOffset, functionLength, predecessorsOffset, registerLength, registersLength, registersOffset, rowLength, rowsLength, rowsOffset}
 use Rattle.language.specs.Instructions.{phiOp}
 use Rattle.language.proofs.TableLaws.{length-name, length-register, length-block, name-back, predecessor-count-back, predecessors-back}
-use Rattle.theorems.specs.TableLaw.{FunctionFits, Laid, ListsFit, noListed}
+use Rattle.theorems.specs.TableLaw.{FunctionFits, Laid, ListsFit, noBlockRecord}
 use Rattle.theorems.proofs.TableParts.{two-back, register-back, length-row, op-back, row-back, named-back, row-entries-back, phi-placed-back}
 use Rattle.theorems.proofs.TableParts.{block-first-back, block-rows-back, block-list-at, block-back}
 -- the rows of a block are rows of its function, and row j of block b is the one numbered `firstRow f b + j`
@@ -45,29 +45,29 @@ entries row = length (entriesOf row)
 abbrev pub entryStart : Func → ℕ → ℕ
 entryStart f r = 0 + sum (map entries (take r (rowsOf f)))
 
-abbrev pub height : Listed → ℕ
+abbrev pub height : BlockRecord → ℕ
 height b = length (b .block .rows)
 
 -- ---- blocks with their lists
 
-abbrev pub listedIn : List (List ℕ) → Func → ℕ → Listed
+abbrev pub listedIn : List (List ℕ) → Func → ℕ → BlockRecord
 listedIn lists f b = record { block = blockAt f b; list = getD lists b [] }
 
-pub length-listed : (lists : List (List ℕ)) (blocks : List Block) → length lists ≡ length blocks → length (listed lists blocks) ≡ length blocks
+pub length-listed : (lists : List (List ℕ)) (blocks : List Block) → length lists ≡ length blocks → length (blockRecords lists blocks) ≡ length blocks
 length-listed lists blocks e = length-together-le (λ b list. record { block = b; list = list }) blocks lists (omega arith) ∙ e
 
 pub listed-at : (lists : List (List ℕ)) (blocks : List Block) (b : ℕ) → length lists ≡ length blocks → b < length blocks
-    → getD (listed lists blocks) b noListed ≡ record { block = getD blocks b noBlock; list = getD lists b [] }
+    → getD (blockRecords lists blocks) b noBlockRecord ≡ record { block = getD blocks b noBlock; list = getD lists b [] }
 listed-at lists blocks b e c =
-    getD-together (λ b list. record { block = b; list = list }) noBlock [] noListed blocks lists b (omega arith) (omega arith)
+    getD-together (λ b list. record { block = b; list = list }) noBlock [] noBlockRecord blocks lists b (omega arith) (omega arith)
 
 -- lists do not move rows
 pub listed-first : (lists : List (List ℕ)) (f : Func) (b : ℕ) → length lists ≡ length (f .blocks) → b ≤ length (f .blocks)
-    → sum (map height (take b (listed lists (f .blocks)))) ≡ firstRow f b
+    → sum (map height (take b (blockRecords lists (f .blocks)))) ≡ firstRow f b
 unfolding firstRow
 listed-first lists f b e c =
     ap sum
-    (sym (map-from-take (λ i. length (rowsAt f i)) height noListed 0 (listed lists (f .blocks)) b (omega (arith, length-listed lists (f .blocks) e))
+    (sym (map-from-take (λ i. length (rowsAt f i)) height noBlockRecord 0 (blockRecords lists (f .blocks)) b (omega (arith, length-listed lists (f .blocks) e))
     (λ i d. rw (zero-add i, listed-at lists (f .blocks) i e (omega arith))))
     ∙ map-from-take (λ i. length (rowsAt f i)) (λ x. length (x .rows)) noBlock 0 (f .blocks) b c (λ i d. rw (zero-add i)))
 
@@ -130,13 +130,13 @@ module _ (f : Func) (laid : Laid f) where
       length-pad maxEntries (gather entriesOf (rowsOf f)) (rw (length-gather entriesOf (rowsOf f)) (omega (arith, laid .entryCount)))
 
 module _ (f : Func) (laid : Laid f) (lists : List (List ℕ)) (fit : ListsFit lists f) where
-  abbrev blocks : List Listed
-  blocks = listed lists (f .blocks)
+  abbrev blocks : List BlockRecord
+  blocks = blockRecords lists (f .blocks)
 
   block-count : length blocks ≡ length (f .blocks)
   block-count = length-listed lists (f .blocks) (fit .count)
 
-  pub blocks-stride : (m i : ℕ) → i < length (listed lists (f .blocks)) → length (blockCells m (getD (listed lists (f .blocks)) i noListed)) ≡ blockLength
+  pub blocks-stride : (m i : ℕ) → i < length (blockRecords lists (f .blocks)) → length (blockCells m (getD (blockRecords lists (f .blocks)) i noBlockRecord)) ≡ blockLength
   blocks-stride m i b =
       let c : i < length (f .blocks) = omega (arith, block-count) in
       rw (listed-at lists (f .blocks) i (fit .count) c) (length-block m (listedIn lists f i) (laid .blockNames i c) (fit .short i c))
@@ -145,7 +145,7 @@ module _ (f : Func) (laid : Laid f) (lists : List (List ℕ)) (fit : ListsFit li
   unfolding blockSection
   length-blocks =
       length-pad blocksLength (gatherFrom height blockCells 0 blocks)
-      (rw (length-gatherFrom height blockCells blockLength noListed 0 blocks blocks-stride) (omega (arith, block-count, laid .blockCount)))
+      (rw (length-gatherFrom height blockCells blockLength noBlockRecord 0 blocks blocks-stride) (omega (arith, block-count, laid .blockCount)))
 
   pub length-listing : length (cellsListing lists f) ≡ functionLength
   unfolding cellsListing
@@ -222,7 +222,7 @@ module _ (f : Func) (laid : Laid f) (lists : List (List ℕ)) (fit : ListsFit li
     block-at b c =
         let first : 0 + sum (map height (take b blocks)) ≡ firstRow f b = omega (arith, listed-first lists f b (fit .count) (le-of-lt c)) in
         rw (first, listed-at lists (f .blocks) b (fit .count) c) at
-        (at-stride height blockCells blockLength noListed 0 blocks blocks-stride b (omega (arith, block-count))
+        (at-stride height blockCells blockLength noBlockRecord 0 blocks blocks-stride b (omega (arith, block-count))
         (at-pad blocksLength (gatherFrom height blockCells 0 blocks) (at-left (blockSection lists f) behindBlocks from-blocks)))
 
     pub block-first-at : (b : ℕ) → b < length (f .blocks) → blockFirst t a b ≡ firstRow f b

@@ -15,7 +15,7 @@ use Rattle.laws.proofs.Ranges.{map-from}
 use Rattle.laws.proofs.Sections.{at-move, at-left, at-right, at-cell, at-pad}
 use Rattle.language.specs.Instructions.{Form, formOf, phiOp}
 use Rattle.language.specs.Programs.{Row, Register, entriesOf, namedBy, opOf, formIn, isPhi, maxName}
-use Rattle.language.specs.Table.{two, four, eight, twoBytes, fourBytes, eightBytes, nameCells, registerCells, predecessorCells, Listed, blockCells, rowCells}
+use Rattle.language.specs.Table.{two, four, eight, twoBytes, fourBytes, eightBytes, nameCells, registerCells, predecessorCells, BlockRecord, blockCells, rowCells}
 use Rattle.language.specs.Table.{decodeRegister, decodeRow, decodeAs, decodeBlock, registerType, registerName, blockFirst, blockRows}
 use Rattle.language.specs.Table.{blockName, rowEntries, rowOp, rowTarget, rowLeft, rowRight, loadNumber, jumpFirst, jumpSecond, phiFirst}
 use Rattle.language.specs.Table.{phiCount, phiEntry, blockLength, blockNamesOffset, blocksOffset, entriesOffset, predecessorsOffset, registerLength, registersOffset, rowLength, rowsOffset}
@@ -227,7 +227,7 @@ module _ {t : List ℕ} (a : ℕ) where
 
   -- ---- blocks
 
-  module _ {k : ℕ} (n : ℕ) (b : Listed) (i : ℕ) (h : At t k (blockCells n b)) (e : k ≡ a + blocksOffset + blockLength * i) where
+  module _ {k : ℕ} (n : ℕ) (b : BlockRecord) (i : ℕ) (h : At t k (blockCells n b)) (e : k ≡ a + blocksOffset + blockLength * i) where
     abbrev count : List ℕ
     count = twoBytes (length (b .block .rows))
 

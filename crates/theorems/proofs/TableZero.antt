@@ -14,10 +14,10 @@ use Rattle.laws.proofs.Sections.{at-right, gather-is-from, zero-or-append, zero
 use Rattle.laws.proofs.Sections.{zero-or-map}
 use Rattle.language.specs.Instructions.{formOf, jumpCondOp, jumpOp, leaveOp, phiOp, returnOp}
 use Rattle.language.specs.Programs.{Row, Register, Func, entriesOf, formIn, rowsAt, rowsOf, firstRow, blockAt, noRegister, maxEntries}
-use Rattle.language.specs.Table.{twoBytes, nameCells, registerCells, predecessorCells, Listed, blockCells, rowCells, headCells, registerSection, blockSection}
-use Rattle.language.specs.Table.{listed, rowSection, entrySection, cellsListing, rowOp, registerCount, blockCount, phiFirst, phiCount, nameLength, nameOffset}
+use Rattle.language.specs.Table.{twoBytes, nameCells, registerCells, predecessorCells, BlockRecord, blockCells, rowCells, headCells, registerSection, blockSection}
+use Rattle.language.specs.Table.{blockRecords, rowSection, entrySection, cellsListing, rowOp, registerCount, blockCount, phiFirst, phiCount, nameLength, nameOffset}
 use Rattle.language.specs.Table.{blockLength, blockNamesOffset, blocksLength, blocksOffset, entriesOffset, predecessorsOffset, registerLength, registerNamesOffset, registersLength, registersOffset, rowLength, rowsLength, rowsOffset}
-use Rattle.theorems.specs.TableLaw.{Laid, ListsFit, noListed}
+use Rattle.theorems.specs.TableLaw.{Laid, ListsFit, noBlockRecord}
 use Rattle.theorems.specs.TableNeeds.{usedCells, NeededRow, NeededIn}
 use Rattle.theorems.proofs.TableParts.{by-phi, length-row, phi-first-back, phi-count-back, block-name-at}
 use Rattle.language.proofs.TableLaws.{length-name, name-length-back}
@@ -106,9 +106,9 @@ module _ (f : Func) (laid : Laid f) (lists : List (List ℕ)) (fit : ListsFit li
   blocks-zero : ZeroOr P (a + blocksOffset) (blockSection lists f)
   unfolding blockSection
   blocks-zero =
-      let blocks : List Listed = listed lists (f .blocks) in
+      let blocks : List BlockRecord = blockRecords lists (f .blocks) in
       zero-or-pad P (a + blocksOffset) blocksLength (gatherFrom height blockCells 0 blocks)
-      (zero-or-stride P (a + blocksOffset) height blockCells blockLength noListed 0 blocks (blocks-stride f laid lists fit)
+      (zero-or-stride P (a + blocksOffset) height blockCells blockLength noBlockRecord 0 blocks (blocks-stride f laid lists fit)
       (λ m i b q e.
       let c : i < length (f .blocks) = omega (arith, length-listed lists (f .blocks) (fit .count)) in
       rw (listed-at lists (f .blocks) i (fit .count) c) (block-zero m i c q e)))

@@ -10,7 +10,7 @@ use Rattle.language.specs.Instructions.{formOf}
 use Rattle.language.specs.Programs.{Row, Register, Func, Program, opOf, formIn, targetsOf, sourcesOf, entriesOf, namedBy, rowsOf}
 use Rattle.language.specs.Programs.{entryCount, blockAt, noRegister, noBlock, noFunction, maxFunctions, maxRegisters, maxBlocks, maxRows, maxEntries}
 use Rattle.language.specs.Programs.{maxName}
-use Rattle.language.specs.Table.{Listed, tableLength, cells, decode}
+use Rattle.language.specs.Table.{BlockRecord, tableLength, cells, decode}
 
 -- The number a row loads.
 abbrev pub loadedNumber : Row → ℕ
@@ -75,8 +75,8 @@ pub record ListsFit (lists : List (List ℕ)) (f : Func) : Type 0 where
   pub short : (b : ℕ) → b < length (f .blocks) → length (getD lists b []) ≤ maxBlocks
 
 -- What stands at a number that is no block's.
-abbrev pub noListed : Listed
-noListed = record { block = noBlock; list = [] }
+abbrev pub noBlockRecord : BlockRecord
+noBlockRecord = record { block = noBlock; list = [] }
 
 pub record Fits (p : Program) : Type 0 where
   pub functionCount : length p ≤ maxFunctions

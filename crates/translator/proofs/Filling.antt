@@ -20,7 +20,7 @@ use Rattle.language.specs.Table.{registerLength, registersOffset}
 use Rattle.theorems.specs.TableLaw.{Laid, ListsFit}
 use Rattle.theorems.proofs.TableParts.{length-row}
 use Rattle.theorems.proofs.TableFunction.{length-head, length-entries, registers-stride, length-listing, lists-fit, block-count-at}
-use Rattle.predecessors.specs.Listing.{Stands, noLists, bareCells}
+use Rattle.predecessors.specs.Listing.{FunctionStands, noLists, bareCells}
 use Rattle.predecessors.proofs.BareLaws.{bare-section, length-bare}
 use Rattle.predecessors.proofs.ListingLaws.{before-fit, stands-at, stands-within}
 use Rattle.translator.specs.Filling.{filled, unlisted}
@@ -178,7 +178,7 @@ module _ (g : Func) (laid : Laid g) where
   none-fit : ListsFit (noLists g) g
   none-fit = before-fit g 0 (omega arith)
 
-  stands : (lists : List (List ℕ)) → ListsFit lists g → Stands (1 ∷ pad functionsLength (cellsListing lists g)) 1 lists g (1 ∷ []) behind
+  stands : (lists : List (List ℕ)) → ListsFit lists g → FunctionStands (1 ∷ pad functionsLength (cellsListing lists g)) 1 lists g (1 ∷ []) behind
   stands lists fit =
       record {
         laid = laid;
@@ -190,7 +190,7 @@ module _ (g : Func) (laid : Laid g) where
       }
 
   module _ {out : List ℕ} (o : out ≡ unlisted g) where
-    bare : Stands out 1 (noLists g) g (1 ∷ []) behind
+    bare : FunctionStands out 1 (noLists g) g (1 ∷ []) behind
     unfolding unlisted
     bare = rw o (stands (noLists g) none-fit)
 
@@ -199,7 +199,7 @@ module _ (g : Func) (laid : Laid g) where
         (stands-within bare none-fit, omega (arith, block-count-at g laid (noLists g) none-fit 1 (stands-at bare none-fit), laid .blockCount))
 
     pub lists-put : {next : List ℕ}
-        → ((f : Func) (before rest : List ℕ) → Stands out 1 (noLists f) f before rest → Stands next 1 (predecessorLists f) f before rest) → next ≡ cells (g ∷ [])
+        → ((f : Func) (before rest : List ℕ) → FunctionStands out 1 (noLists f) f before rest → FunctionStands next 1 (predecessorLists f) f before rest) → next ≡ cells (g ∷ [])
     unfolding cells functionCells
     lists-put put =
         put g (1 ∷ []) behind bare .cells ∙ sym (stands (predecessorLists g) (lists-fit g laid) .cells)

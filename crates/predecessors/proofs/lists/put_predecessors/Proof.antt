@@ -8,7 +8,7 @@ use Rattle.language.specs.Programs.{Func}
 use Rattle.language.specs.Table.{blockCount, cellsListing, predecessorLists}
 use Rattle.theorems.proofs.TableFunction.{block-count-at}
 use Rattle.predecessors.specs.Ranked.{listsBefore}
-use Rattle.predecessors.specs.Listing.{Stands, noLists}
+use Rattle.predecessors.specs.Listing.{FunctionStands, noLists}
 use Rattle.predecessors.proofs.ListingLaws.{stands-at, before-fit, before-all}
 use Rattle.predecessors.proofs.lists.put_predecessors.Statement.{statement}
 use Rattle.predecessors.proofs.lists.put_predecessors.Tie as tie
@@ -16,7 +16,7 @@ use Rattle.predecessors.proofs.lists.put_predecessors.Tie as tie
 abbrev Inv-loop : tie.InvT-loop
 Inv-loop t₀ a n x₀ t x =
     (x ≤ n) × (length t ≡ length t₀) × (blockCount t a ≡ n)
-    × ((g : Func) (before behind : List ℕ) → Stands t₀ a (noLists g) g before behind → Stands t a (listsBefore g x) g before behind)
+    × ((g : Func) (before behind : List ℕ) → FunctionStands t₀ a (noLists g) g before behind → FunctionStands t a (listsBefore g x) g before behind)
 
 abbrev μ-loop : tie.MeasureT-loop
 μ-loop t₀ a n x₀ t x = n - x
@@ -41,8 +41,8 @@ loop-again c =
     )
 
 -- all blocks are done
-whole : (t₀ : List ℕ) (a n x : ℕ) (t : List ℕ) → n ≡ blockCount t₀ a → x ≡ n → (g : Func) (before behind : List ℕ) → Stands t₀ a (noLists g) g before behind
-    → Stands t a (listsBefore g x) g before behind → Stands t a (predecessorLists g) g before behind
+whole : (t₀ : List ℕ) (a n x : ℕ) (t : List ℕ) → n ≡ blockCount t₀ a → x ≡ n → (g : Func) (before behind : List ℕ) → FunctionStands t₀ a (noLists g) g before behind
+    → FunctionStands t a (listsBefore g x) g before behind → FunctionStands t a (predecessorLists g) g before behind
 whole t₀ a n x t e d g before behind s end =
     let fit = before-fit g 0 (omega arith) in
     let all : x ≡ length (g .blocks) = d ∙ e ∙ block-count-at g (s .laid) (noLists g) fit a (stands-at s fit) in
