@@ -1,5 +1,5 @@
 -- `list_text`: the refusal of the text, or the lines of its program.
-use mathlib.Core.Path.{_∙_}
+use mathlib.Core.Path.{sym, _∙_}
 use Prim.Native.Nat.{ℕ}
 use native.Mathlib.Omega.{arith}
 use lib.ListN.{length-replicate}
@@ -37,7 +37,7 @@ list-text-spec =
     (λ c. search needs)
     (λ c κs. omega arith)
     (λ c. search needs)
-    (λ c. search needs)
+    (λ c. sym (c .before .before .before .t2 .given))
     list-program-requires
     (λ c. c .before .before .list-refusal .kept .1 .1 .0)
     returns

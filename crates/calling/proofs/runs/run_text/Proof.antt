@@ -1,4 +1,5 @@
 -- `run_text`: the refusal of the text, or the line of the run.
+use mathlib.Core.Path.{sym}
 use mathlib.Core.List.{List}
 use Prim.Native.Nat.{ℕ}
 use native.Mathlib.Omega.{arith}
@@ -44,7 +45,7 @@ run-text-spec =
     (λ c. search needs)
     (λ c κs. omega arith)
     (λ c. search needs)
-    (λ c. search needs)
+    (λ c. sym (c .before .before .before .t2 .given))
     run-checked-requires
     (λ c. c .before .before .list-refusal .kept .1 .1 .0)
     returns

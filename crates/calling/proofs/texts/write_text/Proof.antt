@@ -36,7 +36,7 @@ write-text-spec =
     (λ c. search needs)
     (λ c κs. omega arith)
     (λ c. search needs)
-    (λ c. search needs)
+    (λ c. sym (c .before .before .before .t2 .given))
     write-lines-requires
     (λ c. c .before .before .list-refusal .kept .1 .1 .0)
     returns

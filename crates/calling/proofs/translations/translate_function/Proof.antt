@@ -43,7 +43,7 @@ translate-function-spec =
     (λ c. search needs)
     list-refusal-requires
     (λ c. search needs)
-    (λ c. search needs)
+    (λ c. sym (c .before .before .before .x2 .given))
     write-lines-requires
     (λ c. search needs)
     returns
