@@ -66,8 +66,8 @@ fn race_script(other: &Interpreter, l: &Loop, t: &[u8], g: &mut [u64]) {
         println!("run, {}: the plain numbers of {} are doubles, left out", l.name, other.name);
         return;
     }
-    let result = verified_run(t, l.arguments, g).1;
-    let mut verified = || median((0..CALLS).map(|_| nanoseconds(&mut || { verified_run(t, l.arguments, g); })).collect());
+    let result = verified_run(t, l.arguments, u64::MAX, g).1;
+    let mut verified = || median((0..CALLS).map(|_| nanoseconds(&mut || { verified_run(t, l.arguments, u64::MAX, g); })).collect());
     let rounds: Vec<_> = (0..ROUNDS).map(|_| (verified(), script_time(other, l, result))).collect();
     report(&format!("run, {}", l.name), other.name, &rounds);
 }
@@ -80,11 +80,11 @@ pub fn run_loops() {
         let text = std::fs::read(format!("{FOLDER}/{}.ial", l.file)).unwrap();
         let mut t = vec![0u8; ial_baseline::TABLE];
         ial_baseline::read(&text, &mut t).unwrap();
-        let answer = verified_run(&t, l.arguments, &mut g);
-        assert_eq!(answer, plain_run(&t, l.arguments, &mut h));
+        let answer = verified_run(&t, l.arguments, u64::MAX, &mut g);
+        assert_eq!(answer, plain_run(&t, l.arguments, u64::MAX, &mut h));
         assert!(answer.0 == 0 && g == h);
         let name = format!("run, {}, {} steps", l.name, answer.2);
-        race(&name, ROUNDS * CALLS, || { verified_run(&t, l.arguments, &mut g); }, || { plain_run(&t, l.arguments, &mut h); });
+        race(&name, ROUNDS * CALLS, || { verified_run(&t, l.arguments, u64::MAX, &mut g); }, || { plain_run(&t, l.arguments, u64::MAX, &mut h); });
         others.iter().for_each(|other| race_script(other, l, &t, &mut g));
     }
 }

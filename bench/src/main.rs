@@ -14,13 +14,13 @@ fn verified_check(t: &[u8]) -> u64 {
     unsafe { ial_check(t.as_ptr(), t.len()) }.number
 }
 
-fn verified_run(t: &[u8], args: &[u64], g: &mut [u64]) -> (u64, u64, u64) {
-    let a = unsafe { ial_run(t.as_ptr(), t.len(), 0, args.as_ptr(), args.len(), u64::MAX, g.as_mut_ptr(), g.len()) };
+fn verified_run(t: &[u8], args: &[u64], budget: u64, g: &mut [u64]) -> (u64, u64, u64) {
+    let a = unsafe { ial_run(t.as_ptr(), t.len(), 0, args.as_ptr(), args.len(), budget, g.as_mut_ptr(), g.len()) };
     (a.number, a.value, a.steps)
 }
 
-fn plain_run(t: &[u8], args: &[u64], g: &mut [u64]) -> (u64, u64, u64) {
-    let a = ial_baseline::Answer::from(ial_baseline::run(t, 0, args, u64::MAX, g));
+fn plain_run(t: &[u8], args: &[u64], budget: u64, g: &mut [u64]) -> (u64, u64, u64) {
+    let a = ial_baseline::Answer::from(ial_baseline::run(t, 0, args, budget, g));
     (a.number, a.value, a.steps)
 }
 
@@ -28,23 +28,44 @@ fn verified_translate(t: &[u8], out: &mut [u8]) -> u64 {
     unsafe { ial_translate(t.as_ptr(), t.len(), 0, out.as_mut_ptr(), out.len()) }.number
 }
 
-/// 16 functions of 1,024 rows, 64 blocks and 256 registers: each block but the last has fifteen additions and goes on or back.
+/// A table of one function of 1,024 rows, 64 blocks and 256 registers: each block but the last has fourteen additions and a comparison and goes on or past
+/// the next one; the last ends like this.
+fn large_function(f: usize, end: &str) -> Vec<u8> {
+    let mut s = format!("function uint64 large_{f}(uint64 a, uint64 n) {{ register uint more;");
+    (0..253).for_each(|r| s += &format!("register uint64 r{r};"));
+    for b in 0..64 {
+        s += &if b == 0 { "block entry {".to_string() } else { format!("block b{b} {{") };
+        (0..14).for_each(|k| s += &format!("r{}=ari.add r{},a;", (b * 14 + k) % 253, (b * 7 + k * 3) % 253));
+        s += &if b == 63 { format!("r0=ari.add r1,a;{end};}}") } else { format!("more=cmp.lt r{},n;jump.cond more(b{},b{});}}", b, b + 1, (b + 2).min(63)) };
+    }
+    let mut cells = vec![0u8; ial_baseline::TABLE];
+    ial_baseline::read((s + "}").as_bytes(), &mut cells).unwrap();
+    cells
+}
+
+/// Sixteen of them.
 fn large_table() -> Vec<u8> {
     let mut cells = vec![0u8; ial_baseline::TABLE];
     for f in 0..FUNCTIONS {
-        let mut s = format!("function uint64 large_{f}(uint64 a, uint64 n) {{ register uint more;");
-        (0..253).for_each(|r| s += &format!("register uint64 r{r};"));
-        for b in 0..64 {
-            s += &if b == 0 { "block entry {".to_string() } else { format!("block b{b} {{") };
-            (0..14).for_each(|k| s += &format!("r{}=ari.add r{},a;", (b * 14 + k) % 253, (b * 7 + k * 3) % 253));
-            s += &if b == 63 { "r0=ari.add r1,a;return r0;}".to_string() } else { format!("more=cmp.lt r{},n;jump.cond more(b{},b{});}}", b, b + 1, (b + 2).min(63)) };
-        }
-        let mut one = vec![0u8; ial_baseline::TABLE];
-        ial_baseline::read((s + "}").as_bytes(), &mut one).unwrap();
-        cells[function_at(f)..][..FUNCTION].copy_from_slice(&one[function_at(0)..][..FUNCTION]);
+        cells[function_at(f)..][..FUNCTION].copy_from_slice(&large_function(f, "return r0")[function_at(0)..][..FUNCTION]);
     }
     cells[0] = FUNCTIONS as u8;
     cells
+}
+
+/// Short runs of a large function that goes through all its rows over and over: which of them pay for preparing it. The table's check is in each, and
+/// alone in the first.
+fn short_runs() {
+    let t = large_function(0, "jump(entry)");
+    let (mut g, mut h) = ([0u64; 256], [0u64; 256]);
+    for budget in [0, 1_024, 4_096, 8_192, 32_768] {
+        let args = [1, u64::MAX];
+        let answer = verified_run(&t, &args, budget, &mut g);
+        assert_eq!(answer, plain_run(&t, &args, budget, &mut h));
+        assert!(answer == (43, 0, budget) && g == h);
+        let name = format!("run, 1,024 rows and 64 blocks, {budget} steps, check included");
+        race(&name, 5000, || { verified_run(&t, &args, budget, &mut g); }, || { plain_run(&t, &args, budget, &mut h); });
+    }
 }
 
 /// Check, runs and the translation, each side's answers compared first.
@@ -57,8 +78,9 @@ fn judge_run_translate() {
         race(name, rounds, || { verified_check(t); }, || { ial_baseline::check(t).unwrap(); });
     }
     interpreters::run_loops();
+    short_runs();
     let (mut g, mut h) = ([0u64; 256], [0u64; 256]);
-    race("run, turn(7, 9, 2), check included", 20000, || { verified_run(&turn, &[7, 9, 2], &mut g); }, || { plain_run(&turn, &[7, 9, 2], &mut h); });
+    race("run, turn(7, 9, 2), check included", 20000, || { verified_run(&turn, &[7, 9, 2], u64::MAX, &mut g); }, || { plain_run(&turn, &[7, 9, 2], u64::MAX, &mut h); });
     let (mut a, mut b) = (vec![0u8; ial_baseline::TABLE], vec![0u8; ial_baseline::TABLE]);
     assert_eq!((verified_translate(&turn, &mut a), ial_baseline::translate(&turn, 0, &mut b).is_ok()), (0, true));
     assert!(a == b);

@@ -1,10 +1,13 @@
 //! A differential test: the verified libraries against the plain implementation on generated inputs. Every answer and every lent
 //! cell must agree; of stores that no merge left, only that they get an answer and are not harmed by a refusal.
+//! Now and then a round has a loop too, which is run by many budgets or by every one.
 //! `ial-differential [ROUNDS [FIRST]]`; a failure prints the round, and ROUNDS 1 FIRST that number repeats it.
 
+mod budgets;
 mod histories;
 mod library;
 mod lists;
+mod loops;
 mod rng;
 mod stores;
 mod texts;
@@ -17,12 +20,14 @@ use ial_baseline::{Answer, TABLE};
 use lists::Wrong;
 use rng::Rng;
 
-/// Two tables that hold the same rubbish, how often each number was answered, and how often a list was made wrong in each way.
+/// Two tables that hold the same rubbish, how often each number was answered, how often a list was made wrong in each way, and what was run by many
+/// budgets.
 struct Bench {
     one: Vec<u8>,
     two: Vec<u8>,
     seen: [u64; 64],
     lists: [u64; Wrong::ALL.len()],
+    budgets: budgets::Counts,
 }
 
 impl Bench {
@@ -138,6 +143,9 @@ impl Bench {
         if rng.once_in(8) {
             histories::history(rng, &mut self.seen).map_err(|what| format!("merge: {what}"))?;
         }
+        if rng.once_in(4) {
+            budgets::compare(rng, &mut self.budgets)?;
+        }
         Ok(())
     }
 }
@@ -215,7 +223,7 @@ fn disturb(table: &mut Vec<u8>, rng: &mut Rng) {
 
 /// These rounds, and what was counted. A difference ends the program.
 fn rounds(numbers: impl Iterator<Item = u64>) -> Bench {
-    let mut bench = Bench { one: vec![], two: vec![], seen: [0; 64], lists: [0; Wrong::ALL.len()] };
+    let mut bench = Bench { one: vec![], two: vec![], seen: [0; 64], lists: [0; Wrong::ALL.len()], budgets: Default::default() };
     for round in numbers {
         if let Err(what) = bench.round(&mut Rng::new(round + 1)) {
             println!("round {round}: {what}");
@@ -232,6 +240,7 @@ fn main() {
     let threads = std::thread::available_parallelism().map_or(1, usize::from);
     let mut seen = [0; 64];
     let mut lists = [0; Wrong::ALL.len()];
+    let mut budgets = budgets::Counts::default();
     std::thread::scope(|scope| {
         let part = |t: usize| scope.spawn(move || rounds((first..first + count).skip(t).step_by(threads)));
         let parts: Vec<_> = (0..threads).map(part).collect();
@@ -239,9 +248,11 @@ fn main() {
             let more = part.join().expect("no call panics");
             (0..64).for_each(|n| seen[n] += more.seen[n]);
             (0..lists.len()).for_each(|n| lists[n] += more.lists[n]);
+            budgets.add(&more.budgets);
         }
     });
     let seen: Vec<String> = (0..64).filter(|&n| seen[n] > 0).map(|n| format!("{n}: {}", seen[n])).collect();
     let lists: Vec<String> = Wrong::ALL.iter().zip(lists).map(|(wrong, n)| format!("{wrong:?}: {n}")).collect();
     println!("{count} rounds agree; answers by number: {}; lists of predecessors by what was wrong: {}", seen.join(", "), lists.join(", "));
+    println!("{budgets}");
 }

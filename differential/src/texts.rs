@@ -4,11 +4,11 @@
 use crate::rng::Rng;
 use std::fmt::Write;
 
-const TYPES: [&str; 10] = ["int8", "int16", "int32", "int64", "uint8", "uint16", "uint32", "uint64", "int", "uint"];
+pub const TYPES: [&str; 10] = ["int8", "int16", "int32", "int64", "uint8", "uint16", "uint32", "uint64", "int", "uint"];
 const BINARY: [&str; 9] = ["ari.add", "ari.sub", "ari.mul", "ari.div", "ari.rem", "bit.and", "bit.or", "bit.xor", "ari.add"];
-const SHIFTS: [&str; 4] = ["shl", "shr", "rol", "ror"];
-const COMPARES: [&str; 6] = ["cmp.eq", "cmp.neq", "cmp.gt", "cmp.lt", "cmp.gteq", "cmp.lteq"];
-const UINT: usize = 9;
+pub const SHIFTS: [&str; 4] = ["shl", "shr", "rol", "ror"];
+pub const COMPARES: [&str; 6] = ["cmp.eq", "cmp.neq", "cmp.gt", "cmp.lt", "cmp.gteq", "cmp.lteq"];
+pub const UINT: usize = 9;
 
 /// A function under construction: the type of each register, and the rows of each block.
 struct Function {

@@ -1,15 +1,41 @@
--- An instruction with two sources by its number: what is known of its second source, and a number that is none of theirs.
+-- An instruction by its number: what is known of its sources, and a number that is none of theirs.
 -- Assumes nothing.
-use mathlib.Core.Path.{_≡_, subst}
-use Prim.Native.Nat.{ℕ, _^_, _<_}
+use mathlib.Core.Path.{_≡_, ap, _∙_, subst}
+use mathlib.Core.Bool.{Bool, true}
+use Prim.Native.Nat.{ℕ, _-_, _^_, _<_}
 use borrow.Author.Tests.{ne-eqb}
 use Rattle.language.specs.Instructions.{width, secondType}
 use Rattle.language.specs.Instructions.{ariAddOp, ariDivOp, ariMulOp, ariRemOp, ariSubOp, bitAndOp, bitOrOp, bitXorOp, cmpEqOp, cmpGtOp, cmpGteqOp, cmpLtOp, cmpLteqOp, cmpNeqOp, rolOp, rorOp, shlOp, shrOp}
 use Rattle.language.specs.Arithmetic.{Computed, binaryOf}
+use Rattle.arithmetic.specs.Rooms.{signMatters, signFor, StandFor, Sources}
+use Rattle.arithmetic.proofs.Meanings.{width-is, room-below}
 
--- the second source of instruction k
-pub second-at : (t b : ℕ) {op : ℕ} (k : ℕ) → op ≡ k → b < 2 ^ width (secondType op t) → b < 2 ^ width (secondType k t)
-second-at t b k e h = subst (λ (n : ℕ). b < 2 ^ width (secondType n t)) e h
+-- a number of a type is one of 64 - s bits
+pub fits-in : (t : ℕ) {s x : ℕ} → s ≡ 64 - width t → x < 2 ^ width t → x < 2 ^ (64 - s)
+fits-in t h l = rw (width-is t h) l
+
+-- room and sign are the type's where the instruction is k, whose sign matters
+pub stands : {op k s t : ℕ} {sign : Bool} → op ≡ k → signMatters k ≡ true → s ≡ 64 - width t → sign ≡ signFor op t → StandFor s sign t
+stands e m h g = record { above = h; reads = g ∙ rw (e, m) }
+
+-- ---- two sources
+
+module _ {op s a b : ℕ} (q : Sources op s a b) where
+  pub room-in : s < 64
+  room-in = room-below (q .kind) (q .above)
+
+  pub first-in : a < 2 ^ (64 - s)
+  first-in = fits-in (q .kind) (q .above) (q .first)
+
+  -- of the first one's type, if that is what instruction k asks
+  pub second-in : {k : ℕ} → op ≡ k → ((t : ℕ) → secondType k t ≡ t) → b < 2 ^ (64 - s)
+  second-in e f =
+      fits-in (q .kind) (q .above)
+      (subst (λ (t : ℕ). b < 2 ^ width t) (ap (λ (n : ℕ). secondType n (q .kind)) e ∙ f (q .kind)) (q .second))
+
+-- instruction k
+pub arm : (t a b : ℕ) {op k : ℕ} {x : Computed} → op ≡ k → x ≡ binaryOf k t a b → x ≡ binaryOf op t a b
+arm t a b e f = rw e f
 
 -- what a `match` on these numbers leaves
 abbrev pub None : ℕ → Type 0

@@ -4,7 +4,6 @@ use mathlib.Core.Bool.{Bool, true, false, cond}
 use Prim.Native.Nat.{ℕ, _+_, _-_, _^_}
 use lib.Dec.{ltb}
 use lib.IntN.{ℤ, pos, negsuc}
-use Rattle.language.specs.Instructions.{width, signed}
 use Rattle.language.specs.Arithmetic as L
 use Rattle.arithmetic.specs.declared.Computed.{Computed}
 use Rattle.arithmetic.specs.declared.Computed.the-variants as answer
@@ -18,6 +17,6 @@ abbrev pub isNegative : ℤ → Bool
 isNegative (pos n) = false
 isNegative (negsuc n) = true
 
--- Where a number's meaning stands among those of the type t: for signed types the upper half comes first.
-unfoldable pub meaningRank : ℕ → ℕ → ℕ
-meaningRank t x = let h = 2 ^ (width t - 1) in cond (signed t) (cond (ltb x h) (x + h) (x - h)) x
+-- Where a number's meaning stands among the signed ones of w bits: the upper half comes first.
+unfoldable pub rankOf : ℕ → ℕ → ℕ
+rankOf w x = let h = 2 ^ (w - 1) in cond (ltb x h) (x + h) (x - h)

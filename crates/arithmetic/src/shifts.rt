@@ -1,57 +1,57 @@
-// Shifts and rotations. 41, "shift or rotation by w or more"
+// Shifts and rotations, at w = 64 - s bits. 41, "shift or rotation by w or more"
 use super::Computed;
 use super::signs::negative;
 use super::wrapping::flip;
 use super::wrapping::keep;
-use instructions::width;
 ghost use mathlib.Core.Path.{_≡_};
-ghost use Prim.Native.Nat.{_^_, _<_};
-ghost use Rattle.language.specs.Instructions.{width as widthOf};
+ghost use Prim.Native.Nat.{ℕ, _-_, _^_, _<_};
 ghost use Rattle.language.specs.Arithmetic.{within, shl as shlOf, shr as shrOf, rol as rolOf, ror as rorOf};
 ghost use Rattle.arithmetic.specs.Results.{resultOf};
+ghost use Rattle.arithmetic.specs.Rooms.{StandFor};
 
-pub fn shl(t: u8, a: u64, k: u64) -> Computed
-    ensures { λ r. ⌜ resultOf r ≡ within (widthOf t) k (shlOf (widthOf t) a k) ⌝ }
+pub fn shl(s: u64, a: u64, k: u64) -> Computed
+    requires { ⌜ s < 64 ⌝ }
+    ensures { λ r. ⌜ resultOf r ≡ within (64 - s) k (shlOf (64 - s) a k) ⌝ }
 {
-    if width(t) as u64 <= k {
+    if 64 - s <= k {
         return Computed::Stop(41);
     }
-    Computed::Value(keep(t, a << k))
+    Computed::Value(keep(s, a << k))
 }
 
 // "`shr` fills with the sign for signed types, else zero"
-pub fn shr(t: u8, a: u64, k: u64) -> Computed
-    requires { ⌜ a < 2 ^ widthOf t ⌝ }
-    ensures { λ r. ⌜ resultOf r ≡ within (widthOf t) k (shrOf t a k) ⌝ }
+pub fn shr(s: u64, sign: bool, a: u64, k: u64) -> Computed
+    requires { ⌜ (s < 64) × (a < 2 ^ (64 - s)) ⌝ }
+    ensures { λ r. ⌜ ((t : ℕ) → StandFor s sign t → resultOf r ≡ within (64 - s) k (shrOf t a k)) ⌝ }
 {
-    if width(t) as u64 <= k {
+    if 64 - s <= k {
         return Computed::Stop(41);
     }
-    if negative(t, a) {
-        return Computed::Value(flip(t, flip(t, a) >> k));
+    if negative(s, sign, a) {
+        return Computed::Value(flip(s, flip(s, a) >> k));
     }
     Computed::Value(a >> k)
 }
 
 // A shift by w - k, which may be 64, is one by w - 1 - k and one by 1.
-pub fn rol(t: u8, a: u64, k: u64) -> Computed
-    requires { ⌜ a < 2 ^ widthOf t ⌝ }
-    ensures { λ r. ⌜ resultOf r ≡ within (widthOf t) k (rolOf (widthOf t) a k) ⌝ }
+pub fn rol(s: u64, a: u64, k: u64) -> Computed
+    requires { ⌜ (s < 64) × (a < 2 ^ (64 - s)) ⌝ }
+    ensures { λ r. ⌜ resultOf r ≡ within (64 - s) k (rolOf (64 - s) a k) ⌝ }
 {
-    let w = width(t) as u64;
+    let w = 64 - s;
     if w <= k {
         return Computed::Stop(41);
     }
-    Computed::Value(keep(t, a << k) + ((a >> (w - 1 - k)) >> 1))
+    Computed::Value(keep(s, a << k) + ((a >> (w - 1 - k)) >> 1))
 }
 
-pub fn ror(t: u8, a: u64, k: u64) -> Computed
-    requires { ⌜ a < 2 ^ widthOf t ⌝ }
-    ensures { λ r. ⌜ resultOf r ≡ within (widthOf t) k (rorOf (widthOf t) a k) ⌝ }
+pub fn ror(s: u64, a: u64, k: u64) -> Computed
+    requires { ⌜ (s < 64) × (a < 2 ^ (64 - s)) ⌝ }
+    ensures { λ r. ⌜ resultOf r ≡ within (64 - s) k (rorOf (64 - s) a k) ⌝ }
 {
-    let w = width(t) as u64;
+    let w = 64 - s;
     if w <= k {
         return Computed::Stop(41);
     }
-    Computed::Value((a >> k) + keep(t, (a << (w - 1 - k)) << 1))
+    Computed::Value((a >> k) + keep(s, (a << (w - 1 - k)) << 1))
 }

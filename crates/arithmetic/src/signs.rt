@@ -1,127 +1,126 @@
-// What goes by meaning: signed types are read as two's complement.
+// What goes by meaning: signed types are read as two's complement. Shifted up by its room, a number has its sign at the highest of the 64
+// bits.
 use super::Computed;
 use super::wrapping::flip;
 use super::wrapping::keep;
 use super::wrapping::neg;
 use super::wrapping::ones;
-use instructions::signed;
-use instructions::width;
+use std::num::wrapping_add_u64;
 ghost use mathlib.Core.Path.{_≡_};
 ghost use mathlib.Core.Bool.{cond};
-ghost use Prim.Native.Nat.{_-_, _^_, _<_};
+ghost use Prim.Native.Nat.{ℕ, _-_, _*_, _^_, _<_};
 ghost use lib.IntN.{natAbs};
 ghost use lib.Signed.{ltZ};
-ghost use Rattle.language.specs.Instructions.{width as widthOf};
-ghost use Rattle.language.specs.Arithmetic.{meaning, neg as negOf, overflows as overflowsOf, div as divOf, rem as remOf, conv as convOf};
-ghost use Rattle.arithmetic.specs.Results.{resultOf, isNegative, meaningRank};
+ghost use Rattle.language.specs.Arithmetic.{meaning, wrap, neg as negOf, overflows as overflowsOf, div as divOf, rem as remOf};
+ghost use Rattle.arithmetic.specs.Results.{resultOf, isNegative, rankOf};
+ghost use Rattle.arithmetic.specs.Rooms.{StandFor, reading};
 
-// The least number of the type's width whose highest bit is set.
-fn half(t: u8) -> u64
-    ensures { λ r. ⌜ r ≡ 2 ^ (widthOf t - 1) ⌝ }
-{
-    1 << (width(t) as u64 - 1)
-}
+// 2^63, the highest of 64 bits.
+const HIGHEST: u64 = 0x8000_0000_0000_0000;
 
-// Whether a number of the type t means a negative one.
-pub fn negative(t: u8, x: u64) -> bool
-    requires { ⌜ x < 2 ^ widthOf t ⌝ }
-    ensures { λ r. ⌜ r ≡ isNegative (meaning t x) ⌝ }
+// Whether a number means a negative one.
+pub fn negative(s: u64, sign: bool, x: u64) -> bool
+    requires { ⌜ (s < 64) × (x < 2 ^ (64 - s)) ⌝ }
+    ensures { λ r. ⌜ r ≡ isNegative (reading s sign x) ⌝ }
 {
-    signed(t) && half(t) <= x
+    sign && HIGHEST <= x << s
 }
 
 // The meaning without its sign.
-fn magnitude(t: u8, x: u64) -> u64
-    requires { ⌜ x < 2 ^ widthOf t ⌝ }
-    ensures { λ r. ⌜ r ≡ natAbs (meaning t x) ⌝ }
+fn magnitude(s: u64, sign: bool, x: u64) -> u64
+    requires { ⌜ (s < 64) × (x < 2 ^ (64 - s)) ⌝ }
+    ensures { λ r. ⌜ r ≡ natAbs (reading s sign x) ⌝ }
 {
-    if negative(t, x) {
-        return neg(t, x);
+    if negative(s, sign, x) {
+        return neg(s, x);
     }
     x
 }
 
 // A magnitude, negated if it is to be.
-fn with_sign(t: u8, minus: bool, m: u64) -> u64
-    requires { ⌜ m < 2 ^ widthOf t ⌝ }
-    ensures { λ r. ⌜ r ≡ cond minus (negOf (widthOf t) m) m ⌝ }
+fn with_sign(s: u64, minus: bool, m: u64) -> u64
+    requires { ⌜ (s < 64) × (m < 2 ^ (64 - s)) ⌝ }
+    ensures { λ r. ⌜ r ≡ cond minus (negOf (64 - s) m) m ⌝ }
 {
     if minus {
-        return neg(t, m);
+        return neg(s, m);
     }
     m
 }
 
 // 42, "least signed number `ari.div` -1"
-fn overflows(t: u8, a: u64, b: u64) -> bool
-    ensures { λ r. ⌜ r ≡ overflowsOf t a b ⌝ }
+fn overflows(s: u64, sign: bool, a: u64, b: u64) -> bool
+    requires { ⌜ (s < 64) × (a < 2 ^ (64 - s)) ⌝ }
+    ensures { λ r. ⌜ ((t : ℕ) → StandFor s sign t → r ≡ overflowsOf t a b) ⌝ }
 {
-    if !signed(t) {
+    if !sign {
         return false;
     }
-    if a == half(t) {
-        return b == ones(t);
+    if a << s == HIGHEST {
+        return b == ones(s);
     }
     false
 }
 
 // "Division truncates toward zero"
-pub fn div(t: u8, a: u64, b: u64) -> Computed
-    requires { ⌜ (a < 2 ^ widthOf t) × (b < 2 ^ widthOf t) ⌝ }
-    ensures { λ r. ⌜ resultOf r ≡ divOf t a b ⌝ }
+pub fn div(s: u64, sign: bool, a: u64, b: u64) -> Computed
+    requires { ⌜ (s < 64) × (a < 2 ^ (64 - s)) × (b < 2 ^ (64 - s)) ⌝ }
+    ensures { λ r. ⌜ ((t : ℕ) → StandFor s sign t → resultOf r ≡ divOf t a b) ⌝ }
 {
     if b == 0 {
         return Computed::Stop(40);
     }
-    if overflows(t, a, b) {
+    if !sign {
+        return Computed::Value(a / b);
+    }
+    if overflows(s, sign, a, b) {
         return Computed::Stop(42);
     }
-    let q = magnitude(t, a) / magnitude(t, b);
-    Computed::Value(with_sign(t, negative(t, a) != negative(t, b), q))
+    let q = magnitude(s, sign, a) / magnitude(s, sign, b);
+    Computed::Value(with_sign(s, negative(s, sign, a) != negative(s, sign, b), q))
 }
 
 // "the remainder has the dividend's sign"
-pub fn rem(t: u8, a: u64, b: u64) -> Computed
-    requires { ⌜ (a < 2 ^ widthOf t) × (b < 2 ^ widthOf t) ⌝ }
-    ensures { λ r. ⌜ resultOf r ≡ remOf t a b ⌝ }
+pub fn rem(s: u64, sign: bool, a: u64, b: u64) -> Computed
+    requires { ⌜ (s < 64) × (a < 2 ^ (64 - s)) × (b < 2 ^ (64 - s)) ⌝ }
+    ensures { λ r. ⌜ ((t : ℕ) → StandFor s sign t → resultOf r ≡ remOf t a b) ⌝ }
 {
     if b == 0 {
         return Computed::Stop(40);
     }
-    let m = magnitude(t, a) % magnitude(t, b);
-    Computed::Value(with_sign(t, negative(t, a), m))
+    if !sign {
+        return Computed::Value(a % b);
+    }
+    let m = magnitude(s, sign, a) % magnitude(s, sign, b);
+    Computed::Value(with_sign(s, negative(s, sign, a), m))
 }
 
-// Where the meaning stands among those of the type: for signed types the upper half comes first.
-fn rank(t: u8, x: u64) -> u64
-    requires { ⌜ x < 2 ^ widthOf t ⌝ }
-    ensures { λ r. ⌜ r ≡ meaningRank t x ⌝ }
+// Where a signed number stands among those of its width, 2^s for each: the upper half comes first.
+fn rank(s: u64, x: u64) -> u64
+    requires { ⌜ (s < 64) × (x < 2 ^ (64 - s)) ⌝ }
+    ensures { λ r. ⌜ r ≡ rankOf (64 - s) x * 2 ^ s ⌝ }
 {
-    if signed(t) {
-        let h = half(t);
-        if x < h {
-            return x + h;
-        }
-        return x - h;
-    }
-    x
+    wrapping_add_u64(x << s, HIGHEST)
 }
 
 // a is less than b, "compared by meaning".
-pub fn less(t: u8, a: u64, b: u64) -> bool
-    requires { ⌜ (a < 2 ^ widthOf t) × (b < 2 ^ widthOf t) ⌝ }
-    ensures { λ r. ⌜ r ≡ ltZ (meaning t a) (meaning t b) ⌝ }
+pub fn less(s: u64, sign: bool, a: u64, b: u64) -> bool
+    requires { ⌜ (s < 64) × (a < 2 ^ (64 - s)) × (b < 2 ^ (64 - s)) ⌝ }
+    ensures { λ r. ⌜ ((t : ℕ) → StandFor s sign t → r ≡ ltZ (meaning t a) (meaning t b)) ⌝ }
 {
-    rank(t, a) < rank(t, b)
+    if sign {
+        return rank(s, a) < rank(s, b);
+    }
+    a < b
 }
 
-// "`conv`: any to any; the meaning of the source modulo 2^w of the target"
-pub fn conv(s: u8, t: u8, x: u64) -> u64
-    requires { ⌜ x < 2 ^ widthOf s ⌝ }
-    ensures { λ r. ⌜ r ≡ convOf s t x ⌝ }
+// "`conv`: any to any; the meaning of the source modulo 2^w of the target", whose room is r.
+pub fn conv(s: u64, r: u64, sign: bool, x: u64) -> u64
+    requires { ⌜ (s < 64) × (r < 64) × (x < 2 ^ (64 - s)) ⌝ }
+    ensures { λ v. ⌜ ((t : ℕ) → StandFor s sign t → v ≡ wrap (64 - r) (meaning t x)) ⌝ }
 {
-    if negative(s, x) {
-        return flip(t, keep(t, flip(s, x)));
+    if negative(s, sign, x) {
+        return flip(r, keep(r, flip(s, x)));
     }
-    keep(t, x)
+    keep(r, x)
 }

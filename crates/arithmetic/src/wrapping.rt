@@ -1,67 +1,61 @@
-// Numbers modulo 2^w, w the width of a type: what wraps, and what flips every bit.
-use instructions::width;
+// Numbers modulo 2^w, w = 64 - s: what wraps, and what flips every bit.
 use std::num::wrapping_add_u64;
 use std::num::wrapping_sub_u64;
 ghost use mathlib.Core.Path.{_≡_};
 ghost use Prim.Native.Nat.{_-_, _*_, _%_, _^_, _<_};
-ghost use Rattle.language.specs.Instructions.{width as widthOf};
 ghost use Rattle.language.specs.Arithmetic.{add as addOf, sub as subOf, mul as mulOf, neg as negOf, flip as flipOf};
 
-// How many of the 64 bits stand above those of the type t.
-fn room(t: u8) -> u64
-    ensures { λ r. ⌜ r ≡ 64 - widthOf t ⌝ }
-{
-    64 - width(t) as u64
-}
-
 // x modulo 2^w: two shifts drop the bits from w on.
-pub fn keep(t: u8, x: u64) -> u64
-    ensures { λ r. ⌜ r ≡ x % 2 ^ widthOf t ⌝ }
+pub fn keep(s: u64, x: u64) -> u64
+    requires { ⌜ s < 64 ⌝ }
+    ensures { λ r. ⌜ r ≡ x % 2 ^ (64 - s) ⌝ }
 {
-    let s = room(t);
     (x << s) >> s
 }
 
-// The greatest number of the type's width.
-pub fn ones(t: u8) -> u64
-    ensures { λ r. ⌜ r ≡ 2 ^ widthOf t - 1 ⌝ }
+// The greatest number of w bits.
+pub fn ones(s: u64) -> u64
+    requires { ⌜ s < 64 ⌝ }
+    ensures { λ r. ⌜ r ≡ 2 ^ (64 - s) - 1 ⌝ }
 {
-    u64::MAX >> room(t)
+    u64::MAX >> s
 }
 
 // "`bit.neg` flips every bit"
-pub fn flip(t: u8, a: u64) -> u64
-    requires { ⌜ a < 2 ^ widthOf t ⌝ }
-    ensures { λ r. ⌜ r ≡ flipOf (widthOf t) a ⌝ }
+pub fn flip(s: u64, a: u64) -> u64
+    requires { ⌜ (s < 64) × (a < 2 ^ (64 - s)) ⌝ }
+    ensures { λ r. ⌜ r ≡ flipOf (64 - s) a ⌝ }
 {
-    ones(t) - a
+    ones(s) - a
 }
 
 // "Add, subtract, multiply and negate wrap modulo 2^w."
-pub fn add(t: u8, a: u64, b: u64) -> u64
-    ensures { λ r. ⌜ r ≡ addOf (widthOf t) a b ⌝ }
+pub fn add(s: u64, a: u64, b: u64) -> u64
+    requires { ⌜ s < 64 ⌝ }
+    ensures { λ r. ⌜ r ≡ addOf (64 - s) a b ⌝ }
 {
-    keep(t, wrapping_add_u64(a, b))
+    keep(s, wrapping_add_u64(a, b))
 }
 
-pub fn sub(t: u8, a: u64, b: u64) -> u64
-    requires { ⌜ b < 2 ^ widthOf t ⌝ }
-    ensures { λ r. ⌜ r ≡ subOf (widthOf t) a b ⌝ }
+pub fn sub(s: u64, a: u64, b: u64) -> u64
+    requires { ⌜ (s < 64) × (b < 2 ^ (64 - s)) ⌝ }
+    ensures { λ r. ⌜ r ≡ subOf (64 - s) a b ⌝ }
 {
-    keep(t, wrapping_sub_u64(a, b))
+    keep(s, wrapping_sub_u64(a, b))
 }
 
-pub fn neg(t: u8, a: u64) -> u64
-    requires { ⌜ a < 2 ^ widthOf t ⌝ }
-    ensures { λ r. ⌜ r ≡ negOf (widthOf t) a ⌝ }
+pub fn neg(s: u64, a: u64) -> u64
+    requires { ⌜ (s < 64) × (a < 2 ^ (64 - s)) ⌝ }
+    ensures { λ r. ⌜ r ≡ negOf (64 - s) a ⌝ }
 {
-    keep(t, wrapping_sub_u64(0, a))
+    keep(s, wrapping_sub_u64(0, a))
 }
 
-pub fn mul(t: u8, a: u64, b: u64) -> u64
-    ensures { λ r. ⌜ r ≡ mulOf (widthOf t) a b ⌝ }
+pub fn mul(s: u64, a: u64, b: u64) -> u64
+    requires { ⌜ s < 64 ⌝ }
+    ensures { λ r. ⌜ r ≡ mulOf (64 - s) a b ⌝ }
 {
-    keep(t, product(a, b))
+    keep(s, product(a, b))
 }
 
 // The product modulo 2^64, from halves of 32 bits; that of the two high halves is a multiple of 2^64.

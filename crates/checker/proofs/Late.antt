@@ -5,7 +5,7 @@ use mathlib.Core.Path.{_≡_, sym, ap, _∙_}
 use mathlib.Core.List.{List, [], _∷_}
 use Prim.Native.Nat.{ℕ, suc, _≤_, _<_}
 use native.Mathlib.Omega.{arith}
-use lib.Dec.{T, eqb}
+use lib.Dec.{T, eqb, eqb→eq}
 use lib.ListN.{length, getD, drop}
 use borrow.Author.Tests.{ne-eqb, eq-eqb}
 use Rattle.laws.specs.Lists.{keep, position}
@@ -50,6 +50,10 @@ module _ (f : Func) (i : ℕ) where
         rw (first, number-of-spot f r noSpot inside)
 
 -- ---- in a table
+
+pub unmarked : (t : List ℕ) (a : ℕ) {n : ℕ} → n ≡ functionSsa t a → (n ≡ 1 → ⊥) → T (isSsa (decodeFunction t a)) → ⊥
+unfolding decodeFunction
+unmarked t a p q ssa = q (p ∙ eqb→eq (functionSsa t a) 1 ssa)
 
 module _ (t : List ℕ) (a i : ℕ) where
   pub is-ssa : {n : ℕ} → n ≡ functionSsa t a → n ≡ 1 → T (isSsa (decodeFunction t a))

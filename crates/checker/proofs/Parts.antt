@@ -21,7 +21,7 @@ use Rattle.language.specs.Checking.{inRange, spelledOrNone, distinct, sound}
 use Rattle.theorems.proofs.AcceptanceCheck.{sound-parts, sound-apart, parts-sound-among}
 use Rattle.language.proofs.TableView.{register-count, block-count, block-is, rows-count, sequence-rows, sequence-entries}
 use Rattle.flow.specs.Sized.{Sized, Preparable}
-use Rattle.flow.specs.Prepared.{Prepared}
+use Rattle.rules.specs.Cells.{SsaPrepared}
 use Rattle.paths.specs.Formed.{Formed}
 use Rattle.checker.specs.Notes.{RowsRanged, notedOf}
 use Rattle.spelling.specs.Names.{namesIn}
@@ -181,7 +181,7 @@ module _ (t : List ℕ) (a : ℕ) where
     pub preparable-right : InTable t a → Right → Preparable t a
     preparable-right w h = record { sized = sized-right w h; ranges = right-ranges h }
 
-    pub ready-right : {m : List ℕ} → InTable t a → Right → Prepared (decodeFunction t a) m → RowsRanged t a m
+    pub ready-right : {m : List ℕ} → InTable t a → Right → SsaPrepared (decodeFunction t a) m → RowsRanged t a m
     ready-right w h p =
         record { sized = sized-right w h; prepared = p; ranges = λ k l. every-below-at (rowCount t a) (every-all (λ k. inRange (decodeFunction t a) (decodeRow t a k)) (below (rowCount t a)) (h .ranges)) k l }
 

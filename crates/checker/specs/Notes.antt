@@ -10,7 +10,7 @@ use Rattle.language.specs.Programs.{Func, rowsAt, firstRow}
 use Rattle.language.specs.Table.{rowCount, decodeRow, decodeFunction}
 use Rattle.language.specs.Checking.{Spot, spotsIn, rowNumber, inRange}
 use Rattle.flow.specs.Sized.{Sized}
-use Rattle.flow.specs.Prepared.{Prepared}
+use Rattle.rules.specs.Cells.{SsaPrepared}
 use Rattle.rules.specs.Tests.{formFault}
 use Rattle.checker.specs.declared.forms.Lowest.{Lowest}
 
@@ -34,8 +34,8 @@ notedIn f s b = cond (empty (rowsAt f b)) (noted s 10 (firstRow f b)) (foldl (no
 unfoldable pub notedOf : Func → Lowest
 notedOf f = foldl (notedIn f) unbroken (below (length (f .blocks)))
 
--- What the tests of a function's rows take for granted: 9 does not hold of it, and m is prepared of it.
+-- What the tests of a function's rows take for granted: 9 does not hold of it, and m is prepared as they ask.
 pub record RowsRanged (t : List ℕ) (a : ℕ) (m : List ℕ) : Type 0 where
   pub sized : Sized t a
-  pub prepared : Prepared (decodeFunction t a) m
+  pub prepared : SsaPrepared (decodeFunction t a) m
   pub ranges : (k : ℕ) → k < rowCount t a → T (inRange (decodeFunction t a) (decodeRow t a k))

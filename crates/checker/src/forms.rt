@@ -1,12 +1,29 @@
 // 10 to 16 of a function's rows, in one pass: of each row the lowest number that it breaks, of all rows the lowest of those.
 ghost use mathlib.Core.Path.{_≡_};
 ghost use Prim.Native.Nat.{_<_, _≤_};
+ghost use lib.ListN.{length};
 ghost use Rattle.language.specs.Table.{blockCount, decodeFunction};
+ghost use Rattle.flow.specs.Layout.{flowLength};
+ghost use Rattle.flow.specs.Sized.{Preparable};
+ghost use Rattle.rules.specs.Cells.{SsaPrepared};
 ghost use Rattle.checker.specs.Notes.{RowsRanged, noted as notedᴸ, notedIn, notedOf};
 ghost use Rattle.language.specs.Programs.{maxRows};
+use flow::prepare;
 use rules::form_fault;
 use table::block_first;
 use table::block_rows;
+use table::function_ssa;
+
+// What the tests of rows ask for, whatever stood in m before: in functions that are not marked ssa nothing.
+pub fn prepare_ssa(t: &[u8], a: usize, m: &mut [u16])
+    requires { ⌜ Preparable (now t) a × (length (now m) ≡ flowLength) ⌝ }
+    ensures { λ _. ⌜ SsaPrepared (decodeFunction (now (t .entry)) a) (now (m .exit)) ⌝ }
+{
+    if function_ssa(t, a) != 1 {
+        return;
+    }
+    prepare(t, a, m);
+}
 
 // The lowest number noted so far and its earliest row; 17 while none of 10 to 16 is.
 pub struct Lowest {

@@ -11,7 +11,7 @@ ghost use Rattle.language.specs.Answers.{checkAnswer};
 ghost use Rattle.lexer.specs.Lexing.{classTable};
 ghost use Rattle.flow.specs.Layout.{flowLength};
 ghost use Rattle.flow.specs.Sized.{Sized};
-ghost use Rattle.flow.specs.Prepared.{Prepared};
+ghost use Rattle.rules.specs.Cells.{SsaPrepared};
 ghost use Rattle.paths.specs.Formed.{Formed};
 ghost use Rattle.answers.specs.Cases.{verdictOf};
 ghost use Rattle.checker.specs.Parts.{tableNamesBefore};
@@ -22,8 +22,8 @@ mod sound;
 use answers::Verdict;
 use answers::row_place;
 use flow::FLOW_LENGTH;
-use flow::prepare;
 use forms::note_blocks;
+use forms::prepare_ssa;
 use paths::first_late;
 use sound::sound_rows;
 use table::MAX_FUNCTIONS;
@@ -36,7 +36,7 @@ use table::function_ssa;
 
 // 17 of function i, where it breaks none of 9 to 16.
 fn check_paths(t: &[u8], i: usize, a: usize, m: &[u16], rows: usize) -> Verdict
-    requires { ⌜ Sized (now t) a × Prepared (decodeFunction (now t) a) (now m) × (i < maxFunctions) × (rows ≡ rowCount (now t) a) ⌝ }
+    requires { ⌜ Sized (now t) a × SsaPrepared (decodeFunction (now t) a) (now m) × (i < maxFunctions) × (rows ≡ rowCount (now t) a) ⌝ }
     requires { ⌜ (T (isSsa (decodeFunction (now t) a)) → Formed (decodeFunction (now t) a)) ⌝ }
     ensures { λ r. ⌜ verdictOf r ≡ firstFault i 17 (rowsThat (decodeFunction (now (t .entry)) a) (breaks17 (decodeFunction (now (t .entry)) a)) ∷ []) ⌝ }
 {
@@ -60,7 +60,7 @@ fn check_function(t: &[u8], i: usize, classes: &[u8; 256], m: &mut [u16]) -> Ver
     if MAX_ROWS < rows {
         return Verdict::Refused(9, i);
     }
-    prepare(t, a, m);
+    prepare_ssa(t, a, m);
     let low = note_blocks(t, a, m, block_count(t, a));
     if low.number != 17 {
         return Verdict::Refused(low.number, row_place(i, low.row));

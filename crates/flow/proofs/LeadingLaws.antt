@@ -1,10 +1,11 @@
--- The leading phi of a block, by the numbers of its rows, and of the blocks one by one.
+-- The leading phi of a block: all its phi, in a function that breaks no rule; by the numbers of its rows; and of the blocks one by one.
 -- Assumes nothing.
 use mathlib.Core.Path.{_≡_, refl, sym, ap, _∙_}
-use mathlib.Core.Bool.{true}
+use mathlib.Core.Bool.{true, false}
 use mathlib.Core.List.{List, map}
 use Prim.Native.Nat.{ℕ, _+_, _≤_, _<_}
-use native.Mathlib.Nat.{not-suc-le-zero}
+use native.Mathlib.Nat.{not-suc-le-zero, add-zero}
+use native.Mathlib.Decide.{decLt}
 use native.Mathlib.Omega.{arith}
 use lib.Dec.{eqb}
 use borrow.Author.Tests.{ne-eqb}
@@ -14,12 +15,35 @@ use lib.Seq.{getD-set-same, getD-set-other}
 use Rattle.laws.specs.Lists.{from, leading}
 use Rattle.laws.proofs.Ranges.{length-map-from, getD-map-from}
 use Rattle.language.specs.Instructions.{phiOp}
-use Rattle.language.specs.Programs.{Func, Row, isPhi, maxBlocks}
+use Rattle.language.specs.Programs.{Func, Row, rowsAt, isPhi, maxBlocks}
 use Rattle.language.specs.Table.{blockCount, blockFirst, blockRows, rowOp, decodeRow, decodeBlock, decodeFunction}
 use Rattle.language.proofs.TableView.{block-is, phi-row}
+use Rattle.theorems.specs.Clean.{Clean}
+use Rattle.theorems.proofs.SimulationRows.{rowOf, phisAt, rows-count, phi-at, phi-is, kept-at, kept-is}
 use Rattle.flow.specs.Layout.{phisOffset, flowLength}
 use Rattle.flow.specs.Leading.{leadingPhis, Led}
 use Rattle.flow.proofs.Firsts.{leading-to, leading-all}
+
+-- ---- all phi lead
+
+module _ (f : Func) (c : Clean f) (b : ℕ) where
+  abbrev n : ℕ
+  n = length (phisAt f b)
+
+  leads : (i : ℕ) → i < n → isPhi (rowOf f b i) ≡ true
+  leads i l = ap isPhi (phi-at f c b i l) ∙ phi-is f c b i l
+
+  past : n < length (rowsAt f b) → isPhi (rowOf f b n) ≡ false
+  past l = ap (λ i. isPhi (rowOf f b i)) (sym (add-zero n)) ∙ ap isPhi (kept-at f c b 0) ∙ kept-is f c b 0 (omega (arith, rows-count f c b))
+
+  pub leading-phis : leadingPhis f b ≡ length (phisAt f b)
+  unfolding leadingPhis
+  leading-phis =
+      elim (decLt n (length (rowsAt f b))) [
+        | yes l ↦ leading-to isPhi (rowsAt f b) n Row.nop l leads (past l)
+        | no l ↦ (let all : n ≡ length (rowsAt f b) = omega (arith, rows-count f c b) in
+            leading-all isPhi (rowsAt f b) Row.nop (λ i m. leads i (omega arith)) ∙ sym all)
+      ]
 
 -- ---- leading phi
 

@@ -17,7 +17,7 @@ use table::block_rows;
 use table::row_op;
 
 // How many of `rows` rows from `first` on are phi before the first other.
-fn leading_phis(t: &[u8], a: usize, first: usize, rows: usize) -> usize
+pub fn leading_phis(t: &[u8], a: usize, first: usize, rows: usize) -> usize
     requires { ⌜ (InTable (now t) a) × (first + rows ≤ maxRows) ⌝ }
     ensures { λ r. ⌜ (r ≡ length (leading isPhi (map (decodeRow (now (t .entry)) a) (from first rows)))) × (r ≤ rows) ⌝ }
 {

@@ -10,6 +10,7 @@ pub use accessors::assignment;
 pub use accessors::home;
 pub use accessors::phis;
 pub use layout::FLOW_LENGTH;
+pub use leading::leading_phis;
 ghost use mathlib.Core.Path.{_≡_};
 ghost use lib.ListN.{length};
 ghost use Rattle.language.specs.Table.{decodeFunction};

@@ -11,7 +11,6 @@ ghost use Rattle.language.specs.Answers.{checkAnswer, ranNumbers, runFunction, 
 ghost use Rattle.answers.specs.Numbers.{numbersOf};
 ghost use Rattle.ial.specs.Runs.{cellsFrom};
 ghost use Rattle.ial.specs.Calls.{RunEachCalled};
-ghost use Rattle.language.specs.Programs.{maxRows};
 use crate::running::run_within;
 use answers::Answer;
 use answers::Verdict;
@@ -19,8 +18,8 @@ use answers::put_numbers;
 use answers::run_numbers;
 use answers::verdict_numbers;
 use checker::check_table;
+use machine::STAGED;
 use machine::start;
-use table::MAX_ROWS;
 use table::function_count;
 
 // One answer for every argument.
@@ -47,7 +46,7 @@ fn run_all(
 )
     requires { ⌜ checkAnswer (now t) ≡ Verdictᴸ.accepted ⌝ }
     requires { ⌜ i < functionCount (now t) ⌝ }
-    requires { ⌜ length (now taken) ≡ maxRows ⌝ }
+    requires { ⌜ 0 < length (now taken) ⌝ }
     requires { ⌜ length (now out) ≡ 4 * length (now args) ⌝ }
     ensures { λ _. ⌜ now (out .exit) ≡ cellsFrom (λ a. ranNumbers (runFunction (decode (now (t .entry))) i (a ∷ []) budget (length (now (registers .entry))) .answer)) (now (args .entry)) ⌝ }
 {
@@ -78,7 +77,7 @@ fn each_checked(
         return;
     }
     let i = function as usize;
-    let mut taken = [0u64; MAX_ROWS];
+    let mut taken = [0u64; STAGED];
     run_all(t, i, args, budget, &mut taken, registers, out);
 }
 

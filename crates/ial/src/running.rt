@@ -10,17 +10,16 @@ ghost use Rattle.answers.specs.Cases.{ranOf};
 ghost use Rattle.answers.specs.Lent.{finishedOf};
 ghost use Rattle.ial.specs.Runs.{stopPlace, RunsTo};
 ghost use Rattle.ial.specs.Calls.{RunCalled};
-ghost use Rattle.language.specs.Programs.{maxRows};
 use answers::Ran;
 use answers::Verdict;
 use answers::row_place;
 use checker::check_table;
+use interpreter::run_on;
 use machine::Outcome;
 use machine::Run;
+use machine::STAGED;
 use machine::first_unfit;
-use machine::run_on;
 use machine::start;
-use table::MAX_ROWS;
 use table::function_at;
 use table::function_count;
 use table::function_params;
@@ -53,7 +52,7 @@ pub fn run_within(
 ) -> Ran
     requires { ⌜ checkAnswer (now t) ≡ Verdictᴸ.accepted ⌝ }
     requires { ⌜ i < functionCount (now t) ⌝ }
-    requires { ⌜ length (now taken) ≡ maxRows ⌝ }
+    requires { ⌜ 0 < length (now taken) ⌝ }
     ensures { λ r. ⌜ RunsTo (decode (now (t .entry))) i (now (args .entry)) budget (now (registers .entry)) r (now (registers .exit)) ⌝ }
 {
     let a = function_at(i);
@@ -80,7 +79,7 @@ fn run_checked(t: &[u8], function: u64, args: &[u64], budget: u64, registers: &m
         return Ran::Refused(21, 0);
     }
     let i = function as usize;
-    let mut taken = [0u64; MAX_ROWS];
+    let mut taken = [0u64; STAGED];
     run_within(t, i, args, budget, &mut taken, registers)
 }
 

@@ -1,9 +1,12 @@
 pub mod Here
 pub mod PhiLoops
+pub mod PhiCells
+pub mod FewPhis
 pub mod PhiSteps
 pub mod StartsLaws
 pub mod Values
 pub mod StepLaws
+pub mod Chains
+pub mod FirstPlace
 pub mod Midway
 pub mod Passing
-pub mod RunsLaws

@@ -2,4 +2,3 @@ pub mod Places
 pub mod Standing
 pub mod Phis
 pub mod Runs
-pub mod Passing

@@ -4,10 +4,12 @@ mod places;
 mod runs;
 mod starts;
 
+pub use phis::STAGED;
+pub use phis::take_phis;
 pub use places::Outcome;
 pub use places::Place;
 pub use runs::Run;
-pub use runs::run_function;
-pub use runs::run_on;
+pub use runs::first_place;
+pub use runs::run_from;
 pub use starts::first_unfit;
 pub use starts::start;

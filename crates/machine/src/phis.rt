@@ -1,13 +1,17 @@
 // The phi of a block: "All phi of a block read before any writes".
 ghost use mathlib.Core.Path.{_≡_};
+ghost use Prim.Native.Nat.{_≤_};
 ghost use lib.ListN.{length};
 ghost use Rattle.language.specs.Table.{InTable};
 ghost use Rattle.machine.specs.Phis.{Readable, Taken, phisWritten};
-ghost use Rattle.language.specs.Programs.{maxRows};
+use table::MAX_REGISTERS;
 use table::phi_count;
 use table::phi_entry;
 use table::phi_first;
 use table::row_target;
+
+// The places of a run's scratch: so few that clearing them costs a short run little, and more than the phi of nearly every block.
+pub const STAGED: usize = 128;
 
 // What entry k of each phi holds, in row order. Every phi of a block has as many entries as the block has predecessors, so those of the next one
 // are so many further on.
@@ -20,7 +24,7 @@ fn read_phis(
     registers: &[u64],
     taken: &mut [u64],
 )
-    requires { ⌜ (InTable (now t) a) × (length (now taken) ≡ maxRows) ⌝ }
+    requires { ⌜ (InTable (now t) a) × (n ≤ length (now taken)) ⌝ }
     requires { ⌜ Readable (now t) a first n k (now registers) ⌝ }
     ensures { λ _. ⌜ Taken (now (t .entry)) a first n k (now (registers .entry)) (now (taken .exit)) ⌝ }
 {
@@ -44,7 +48,7 @@ fn write_phis(
     taken: &[u64],
     registers: &mut [u64],
 )
-    requires { ⌜ (InTable (now t) a) × (length (now taken) ≡ maxRows) ⌝ }
+    requires { ⌜ (InTable (now t) a) × (n ≤ length (now taken)) ⌝ }
     requires { ⌜ Readable (now t) a first n k (now registers) ⌝ }
     requires { ⌜ Taken (now t) a first n k (now registers) (now taken) ⌝ }
     ensures { λ _. ⌜ now (registers .exit) ≡ phisWritten (now (t .entry)) a first k (now (registers .entry)) n ⌝ }
@@ -56,7 +60,18 @@ fn write_phis(
     }
 }
 
-// All n phi from row `first` on take their entry k.
+// All n phi by a scratch that is enough for any block. Apart from `take_phis`, so that it is cleared only where the lent one is too short.
+fn take_many(t: &[u8], a: usize, first: usize, n: usize, k: usize, registers: &mut [u64])
+    requires { ⌜ InTable (now t) a ⌝ }
+    requires { ⌜ Readable (now t) a first n k (now registers) ⌝ }
+    ensures { λ _. ⌜ now (registers .exit) ≡ phisWritten (now (t .entry)) a first k (now (registers .entry)) n ⌝ }
+{
+    let mut taken = [0u64; MAX_REGISTERS];
+    read_phis(t, a, first, n, k, registers, &mut taken);
+    write_phis(t, a, first, n, k, &taken, registers);
+}
+
+// All n phi from row `first` on take their entry k; what they read goes to `taken` if it has a place for each.
 pub fn take_phis(
     t: &[u8],
     a: usize,
@@ -66,10 +81,14 @@ pub fn take_phis(
     taken: &mut [u64],
     registers: &mut [u64],
 )
-    requires { ⌜ (InTable (now t) a) × (length (now taken) ≡ maxRows) ⌝ }
+    requires { ⌜ InTable (now t) a ⌝ }
     requires { ⌜ Readable (now t) a first n k (now registers) ⌝ }
     ensures { λ _. ⌜ now (registers .exit) ≡ phisWritten (now (t .entry)) a first k (now (registers .entry)) n ⌝ }
 {
+    if taken.len() < n {
+        take_many(t, a, first, n, k, registers);
+        return;
+    }
     read_phis(t, a, first, n, k, registers, taken);
     write_phis(t, a, first, n, k, taken, registers);
 }

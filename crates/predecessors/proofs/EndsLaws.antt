@@ -25,11 +25,11 @@ module _ (t : List ℕ) (a k op : ℕ) (fetched : op ≡ rowOp t a k) where
   unfolding decodeRow
   named-as g e = ap (λ g. namedBy (decodeAs g t a k)) (ap formOf (sym fetched) ∙ e)
 
-  jump-names : op ≡ jumpOp → namedBy (decodeRow t a k) ≡ jumpFirst t a k ∷ []
+  pub jump-names : op ≡ jumpOp → namedBy (decodeRow t a k) ≡ jumpFirst t a k ∷ []
   unfolding formOf decodeAs
   jump-names e = named-as Form.jump (ap formOf e)
 
-  branch-names : op ≡ jumpCondOp → namedBy (decodeRow t a k) ≡ jumpFirst t a k ∷ jumpSecond t a k ∷ []
+  pub branch-names : op ≡ jumpCondOp → namedBy (decodeRow t a k) ≡ jumpFirst t a k ∷ jumpSecond t a k ∷ []
   unfolding formOf decodeAs
   branch-names e = named-as Form.branch (ap formOf e)
 
@@ -89,7 +89,7 @@ module _ (t : List ℕ) (a x : ℕ) (l : x < blockCount t a) (rows : ℕ) (q : r
   bare-goes z = goes-nowhere f x (ap namedBy (last-none (rowsAt f x) (block-rows-count t a x l ∙ sym q ∙ z)))
 
   module _ (first : ℕ) (p : first ≡ blockFirst t a x) (z : rows ≡ 0 → ⊥) where
-    last-named : named f x ≡ namedBy (decodeRow t a (first + rows - 1))
+    pub last-named : named f x ≡ namedBy (decodeRow t a (first + rows - 1))
     last-named =
         let n : ℕ = rows - 1 in
         let d : blockFirst t a x + n ≡ first + rows - 1 = omega arith in

@@ -8,7 +8,7 @@ use native.Mathlib.Numerals.{add-one}
 use native.Mathlib.Omega.{arith}
 use native.Mathlib.Decide.{decLt}
 use borrow.Author.Tests.{lt-ltb, le-ltb, le-leb, lt-leb, eq-eqb}
-use lib.Dec.{eqb, leb, ltb, eqb·suc-suc, eqb·suc-zero}
+use lib.Dec.{T, eqb, leb, ltb, eqb·suc-suc, eqb·suc-zero}
 use lib.ListN.{length, getD, take}
 use Rattle.laws.specs.Lists.{any, member, position}
 use Rattle.laws.proofs.Agreeing.{any-every}
@@ -64,6 +64,11 @@ param-is : (t : List ℕ) (a u : ℕ) → isParameter (decodeFunction t a) u ≡
 unfolding decodeFunction
 param-is t a u = refl
 
+-- a test that is asked only where s holds
+under : (s : Bool) {x y : Bool} → (T s → x ≡ y) → (s && x) ≡ (s && y)
+under true e = e tt
+under false e = refl
+
 not-either : (a c : Bool) → not (a || not c) ≡ (not a && c)
 not-either true c = refl
 not-either false true = refl
@@ -84,12 +89,14 @@ module _ (t : List ℕ) (a : ℕ) (m : List ℕ) (b j k : ℕ) (h : RowStands t 
   breaks12-at r u e g l =
       let here : member u (targetsOf (getD (rowsOf f) k Row.nop)) ≡ true =
       ap (λ r. member u (targetsOf r)) (row-of t a m b j k h ∙ e) ∙ ap (member u) g ∙ ap (λ c. c || false) (eq-eqb u u refl) in
-      rw (g, number-here t a m b j k h r, ssa-is t a, param-is t a u, assigned-before f m (h .prepared) u k l (row-in t a m b j k h) here, or-false)
+      rw (g, number-here t a m b j k h r, ← ssa-is t a, param-is t a u, or-false)
+      (under (isSsa f) (λ s. ap (λ x. ltb u (functionParams t a) || x) (assigned-before f m (h .prepared .inSsa s) u k l (row-in t a m b j k h) here)))
 
   unset-is : (u : ℕ) → u < maxRegisters → (isSsa f && not (isParameter f u || assignedIn (rowsOf f) u)) ≡ unset t a m u
   unfolding unset
   unset-is u l =
-      rw (ssa-is t a, param-is t a u, assigned-any f m (h .prepared) u l, not-either (ltb u (functionParams t a)) (eqb (assignmentIn m u) 0), not-ltb)
+      rw (← ssa-is t a, param-is t a u)
+      (under (isSsa f) (λ s. rw (assigned-any f m (h .prepared .inSsa s) u l, not-either (ltb u (functionParams t a)) (eqb (assignmentIn m u) 0), not-ltb)))
 
   pub breaks16-at : (r : Row) → Every (λ u. u < maxRegisters) (sourcesOf r ++ entriesOf r) → breaks16 f (spot b j r) ≡ any (unset t a m) (sourcesOf r ++ entriesOf r)
   unfolding breaks16

@@ -1,6 +1,6 @@
 -- 11 to 16 of a row of each form: its tests by cells are the tests of the language.
 -- Assumes nothing.
-use mathlib.Core.Path.{_≡_, refl, sym, ap, ap₂, _∙_}
+use mathlib.Core.Path.{_≡_, refl, sym, ap, ap₂, _∙_, subst}
 use mathlib.Core.Bool.{Bool, true, false, cond, not, _&&_, _||_, and-false, or-false}
 use mathlib.Core.List.{List, [], _∷_, _++_, map}
 use Prim.Native.Nat.{ℕ, zero, suc, _≤_, _<_}
@@ -37,6 +37,20 @@ found :
     → lowest 11 (b₁ ∷ b₂ ∷ b₃ ∷ b₄ ∷ b₅ ∷ b₆ ∷ []) ≡ lowest 11 (laterTests f s)
 unfolding laterTests
 found f s p q r u v w = sym (λ i. lowest 11 (p i ∷ q i ∷ r i ∷ u i ∷ v i ∷ w i ∷ []))
+
+-- the same of a phi: outside ssa it breaks 13, whatever else it breaks
+found-phi :
+    (f : Func) (s : Spot) {b₁ b₂ b₄ b₅ b₆ : Bool} (ssa : Bool)
+    → breaks11 f s ≡ b₁
+    → breaks12 f s ≡ b₂
+    → breaks13 f s ≡ not ssa
+    → (T ssa → breaks14 f s ≡ b₄)
+    → breaks15 f s ≡ b₅
+    → breaks16 f s ≡ b₆
+    → lowest 11 (b₁ ∷ b₂ ∷ not ssa ∷ b₄ ∷ b₅ ∷ b₆ ∷ []) ≡ lowest 11 (laterTests f s)
+unfolding laterTests
+found-phi f s true p q r u v w = found f s p q r (u tt) v w
+found-phi f s false p q r u v w = sym (λ i. lowest 11 (p i ∷ q i ∷ r i ∷ breaks14 f s ∷ breaks15 f s ∷ breaks16 f s ∷ []))
 
 cond-false : (b : Bool) → cond b false false ≡ false
 cond-false true = refl
@@ -211,12 +225,13 @@ module _ (t : List ℕ) (a : ℕ) (m : List ℕ) (b j k : ℕ) (h : RowStands t 
 
   phi-14 :
       (u : ℕ) (es : List ℕ)
+      → T (isSsa f)
       → breaks14 f (spot b j (Row.phi u es)) ≡ (eqb b (functionEntry t a) || ltb (phisIn m b) j)
   unfolding breaks14
-  phi-14 u es =
+  phi-14 u es ssa =
       let l : b < length (f .blocks) = rw (block-count t a) (h .block) in
       let n : j ≤ length (rowsAt f b) = rw (block-rows-count t a b (h .block)) (let i : j < blockRows t a b = h .index in omega arith) in
-      ap₂ (λ x y. eqb b x || y) entry-is (led f m (h .prepared) b j l n)
+      ap₂ (λ x y. eqb b x || y) entry-is (led f m (h .prepared .inSsa ssa) b j l n)
 
   phi-15 :
       (u first count : ℕ)
@@ -252,13 +267,13 @@ module _ (t : List ℕ) (a : ℕ) (m : List ℕ) (b j k : ℕ) (h : RowStands t 
       let r : Row = Row.phi x es in
       let l : x < registerCount t a = every-at (ranged r n) 0 0 (zero-lt-suc (length es)) in
       let ls : Every (λ u. u < registerCount t a) es = every-right (x ∷ []) es (ranged r n) in
-      found f (spot b j r)
+      found-phi f (spot b j r) (eqb (functionSsa t a) 1)
       (ap not
       (ap (λ y. all (λ u. eqb (typeAt f u) y) es) (type-is t a x l)
       ∙ all-agree {q = λ u. eqb (registerType t a u) (registerType t a x)} (every-imp (λ u i. ap (λ y. eqb y (registerType t a x)) (type-is t a u i)) ls)))
       (breaks12-at t a m b j k h r x (row-as Form.phi e) refl (few x l))
       (cond-not (isSsa f) ∙ ap not (ssa-is t a))
-      (phi-14 x es)
+      (λ ssa. phi-14 x es (subst T (sym (ssa-is t a)) ssa))
       (phi-15 x (phiFirst t a k) (phiCount t a k) c)
       (breaks16-at t a m b j k h r (every-imp few ls) ∙ any-not-all (unset t a m) es)
 

@@ -6,19 +6,26 @@ use mathlib.Core.Path.{_≡_}
 use mathlib.Core.List.{List}
 use Prim.Native.Nat.{ℕ, _+_, _<_}
 use lib.Dec.{T, eqb, leb, ltb}
+use lib.ListN.{length}
 use Rattle.language.specs.Instructions.{Form, formOf, uint, cmpEqOp, shlOp}
-use Rattle.language.specs.Programs.{Row}
+use Rattle.language.specs.Programs.{Func, Row, isSsa}
 use Rattle.language.specs.Table.{functionSsa, functionParams, blockCount, blockFirst, blockRows, rowOp, decodeAs, decodeFunction}
 use Rattle.language.specs.Checking.{Spot, inRange}
-use Rattle.flow.specs.Layout.{assignmentIn}
+use Rattle.flow.specs.Layout.{flowLength, assignmentIn}
 use Rattle.flow.specs.Sized.{Sized}
 use Rattle.flow.specs.Prepared.{Prepared}
 use Rattle.rules.specs.Tests.{lowest, laterTests}
 
--- Row k of the function at cell a stands at place j of block b, and m is prepared of that function.
+-- m is prepared of a function that is marked ssa. Of others nothing that is prepared is asked: 12 and 16 are of ssa alone, and where a phi would
+-- break 14 it breaks 13.
+pub record SsaPrepared (f : Func) (m : List ℕ) : Type 0 where
+  pub count : length m ≡ flowLength
+  pub inSsa : T (isSsa f) → Prepared f m
+
+-- Row k of the function at cell a stands at place j of block b, and m is prepared as the tests of that function ask.
 pub record RowStands (t : List ℕ) (a : ℕ) (m : List ℕ) (b j k : ℕ) : Type 0 where
   pub sized : Sized t a
-  pub prepared : Prepared (decodeFunction t a) m
+  pub prepared : SsaPrepared (decodeFunction t a) m
   pub block : b < blockCount t a
   pub index : j < blockRows t a b
   pub row : k ≡ blockFirst t a b + j

@@ -44,7 +44,10 @@ fn retaken(t: &[u8], a: usize, m: &[u16], u: usize, k: usize) -> bool
     requires { ⌜ (InTable (now t) a) × (length (now m) ≡ flowLength) × (u < maxRegisters) × (k < maxRows) ⌝ }
     ensures { λ r. ⌜ r ≡ retakenBy (now (t .entry)) a (now (m .entry)) u k ⌝ }
 {
-    (function_ssa(t, a) == 1) & ((u < function_params(t, a)) | (assignment(m, u) != k + 1))
+    if function_ssa(t, a) != 1 {
+        return false;
+    }
+    (u < function_params(t, a)) | (assignment(m, u) != k + 1)
 }
 
 // 16 of a row that uses register u.
@@ -52,7 +55,10 @@ fn unset(t: &[u8], a: usize, m: &[u16], u: usize) -> bool
     requires { ⌜ (InTable (now t) a) × (length (now m) ≡ flowLength) × (u < maxRegisters) ⌝ }
     ensures { λ r. ⌜ r ≡ unsetBy (now (t .entry)) a (now (m .entry)) u ⌝ }
 {
-    (function_ssa(t, a) == 1) & ((function_params(t, a) <= u) & (assignment(m, u) == 0))
+    if function_ssa(t, a) != 1 {
+        return false;
+    }
+    (function_params(t, a) <= u) & (assignment(m, u) == 0)
 }
 
 // The lowest number of those from 11 on whose test holds. A row that is right is tested for all of them, so none is spared.

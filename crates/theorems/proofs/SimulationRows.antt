@@ -140,8 +140,11 @@ module _ (f : Func) (c : Clean f) where
   pub more-rows : (b j : ℕ) → j < length (rowsAt f b) → isTerminator (rowOf f b j) ≡ false → suc j < length (rowsAt f b)
   more-rows b j l e = omega (arith, eqb-false (suc j) (length (rowsAt f b)) (sym (last-ends b j l) ∙ e))
 
+  pub last-place : (b j : ℕ) → j < length (rowsAt f b) → isTerminator (rowOf f b j) ≡ true → suc j ≡ length (rowsAt f b)
+  last-place b j l e = eqb-true (suc j) (length (rowsAt f b)) (sym (last-ends b j l) ∙ e)
+
   pub last-row : (b j : ℕ) → j < length (rowsAt f b) → isTerminator (rowOf f b j) ≡ true → lastRow (rowsAt f b) ≡ rowOf f b j
-  last-row b j l e = lastRow-at (rowsAt f b) j (eqb-true (suc j) (length (rowsAt f b)) (sym (last-ends b j l) ∙ e))
+  last-row b j l e = lastRow-at (rowsAt f b) j (last-place b j l e)
 
   -- 14: a phi is not in entry, and no other row stands before it
   phi-fits :

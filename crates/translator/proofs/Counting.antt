@@ -1,6 +1,6 @@
 -- The counts that a translation goes by: phi, pairs and rows, block by block.
 -- Assumes nothing.
-use mathlib.Core.Path.{_≡_, refl, sym, ap, _∙_}
+use mathlib.Core.Path.{_≡_, refl, sym, _∙_}
 use mathlib.Core.Bool.{Bool, true, false, cond}
 use mathlib.Core.List.{map}
 use Prim.Native.Nat.{ℕ, suc, _+_, _*_, _≤_, _<_}
@@ -16,14 +16,12 @@ use Rattle.laws.proofs.Gather.{keep-gather, length-gather, sum-take-suc}
 use Rattle.laws.proofs.Keep.{any-none, any-keep}
 use Rattle.laws.proofs.Sums.{sum-keep, sum-same, sum-below-le, length-keeps}
 use Rattle.laws.proofs.OneMore.{sum-below-suc}
-use Rattle.language.specs.Programs.{Row, Block, Func, noBlock, rowsAt, rowsOf, firstRow, isPhi, hasPhi}
+use Rattle.language.specs.Programs.{Block, Func, noBlock, rowsAt, rowsOf, firstRow, isPhi, hasPhi}
 use Rattle.language.specs.Checking.{predecessors}
 use Rattle.language.specs.Running.{phisOf}
-use Rattle.language.specs.Translating.{keptOf, phiBlocks, phisBefore, pairsBefore, phiTotal, pairCount, sizeOfEdges, translatedBlocks, translationFits}
+use Rattle.language.specs.Translating.{phiBlocks, phisBefore, pairsBefore, phiTotal, pairCount, sizeOfEdges, translatedBlocks, translationFits}
 use Rattle.theorems.specs.Clean.{Clean}
-use Rattle.theorems.proofs.SimulationRows.{phisAt, rows-split}
-use Rattle.flow.specs.Leading.{leadingPhis}
-use Rattle.translator.proofs.Running.{leading-keep}
+use Rattle.theorems.proofs.SimulationRows.{phisAt}
 
 -- The pairs whose phi block is block y, and the rows of their edge blocks.
 abbrev pub pairsAt : Func → ℕ → ℕ
@@ -102,10 +100,6 @@ module _ (f : Func) (h : T (translationFits f)) where
 -- ---- what is prepared
 
 module _ (f : Func) (c : Clean f) where
-  pub leading-phis : (y : ℕ) → leadingPhis f y ≡ length (phisAt f y)
-  unfolding leadingPhis phisOf keptOf
-  leading-phis y = ap length (leading-keep isPhi Row.nop (rowsAt f y) (rows-split f c y))
-
   -- a block has phi exactly if it has some number of them
   pub by-count : {A : Type 0} (y p : ℕ) (u v : A) → p ≡ length (phisAt f y) → cond (eqb p 0) u v ≡ cond (hasPhi f y) v u
   unfolding phisOf

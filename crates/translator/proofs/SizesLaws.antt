@@ -22,10 +22,11 @@ use Rattle.theorems.proofs.Spots.{first-next}
 use Rattle.flow.specs.Layout.{phisIn}
 use Rattle.flow.specs.Prepared.{Prepared}
 use Rattle.flow.specs.Sized.{Sized}
+use Rattle.flow.proofs.LeadingLaws.{leading-phis}
 use Rattle.translator.specs.Sizes.{sizesOf}
 use Rattle.translator.specs.Source.{Planned, pairsIn}
 use Rattle.translator.specs.declared.sizes.Sizes.{Sizes}
-use Rattle.translator.proofs.Counting.{pairsAt, edgesAt, edgesBefore, pairs-next, edges-next, phis-next, phis-all, pairs-all, first-all, edges-all, phis-fewer, blocks-fit, leading-phis, by-count}
+use Rattle.translator.proofs.Counting.{pairsAt, edgesAt, edgesBefore, pairs-next, edges-next, phis-next, phis-all, pairs-all, first-all, edges-all, phis-fewer, blocks-fit, by-count}
 
 -- ---- what is prepared, by block
 

@@ -51,7 +51,7 @@ check-function-spec =
     let i = s .args .i in
     let here = c .before .before .before .before .before .before .before .before .function-at .ensures in
     let rows = rw here at (c .before .before .before .before .before .before .before .sound-rows .ensures) in
-    (rw here (ready-right t (functionAt i) i (omega arith) (right t i rows (omega arith)) (rw here at (c .before .before .before .before .prepare .ensures))), c .block-count .ensures .0))
+    (rw here (ready-right t (functionAt i) i (omega arith) (right t i rows (omega arith)) (rw here at (c .before .before .before .before .prepare-ssa .ensures))), c .block-count .ensures .0))
     (λ c κs.
     let s = c .before .before .before .before .before .before .before .before .before .before .before .before .before .before in
     (s .pre .1, omega (arith, c .before .before .note-blocks .ensures .1)))
@@ -73,7 +73,7 @@ check-function-spec =
     let rows = rw here at (c .before .before .before .before .before .before .before .before .before .before .before .sound-rows .ensures) in
     let r = right t i rows (omega arith) in
     let none = ap (λ (x : Lowest). x .number) (sym (rw here at (c .before .before .before .note-blocks .ensures .0))) ∙ c .before .if2 .left in
-    ((rw here (sized-right t (functionAt i) i (omega arith) r), c .before .before .before .before .before .before .before .before .prepare .ensures, s .pre .1, rw here (sounds t i rows (omega arith) .1)), rw here (formed-right t (functionAt i) i r none)))
+    ((rw here (sized-right t (functionAt i) i (omega arith) r), c .before .before .before .before .before .before .before .before .prepare-ssa .ensures, s .pre .1, rw here (sounds t i rows (omega arith) .1)), rw here (formed-right t (functionAt i) i r none)))
     (λ c. search needs)
     (λ c.
     let s = c .before .before .before .before .before .before .before .before .before .before .before .before .before .before .before .before in

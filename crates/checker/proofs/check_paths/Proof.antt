@@ -14,7 +14,8 @@ check-paths-spec =
     (λ c. let args = c .before .before .before .before .args in not-ssa (args .t .now) (args .a) (args .i) (c .before .function-ssa .ensures) (c .if1 .taken))
     (λ c κs.
     let s = c .before .before .before .before in
-    (s .pre .0 .0, (s .pre .0 .1, s .pre .1 (is-ssa (s .args .t .now) (s .args .a) (s .args .i) (c .before .function-ssa .ensures) (c .if1 .left)))))
+    let ssa = is-ssa (s .args .t .now) (s .args .a) (s .args .i) (c .before .function-ssa .ensures) (c .if1 .left) in
+    (s .pre .0 .0, (s .pre .0 .1 .inSsa ssa, s .pre .1 ssa)))
     (λ c κs. let s = c .before .before .before .before .before .before in (s .pre .0 .2, omega (arith, s .pre .0 .0 .rows)))
     (λ c.
     let s = c .before .before .before .before .before .before .before in

@@ -1,11 +1,10 @@
 -- `shifts::ror`: the bits shifted out at the bottom come in at the top; the two parts do not overlap, so the sum is below 2^w.
+use Prim.Native.Nat.{_-_}
 use borrow.Author.Needs.{needs}
 use native.Mathlib.Omega.{arith}
 use native.Mathlib.Nat.{lt-of-lt-of-le}
-use Rattle.language.specs.Instructions.{width}
-use Rattle.language.proofs.Widths.{powers}
 use Rattle.language.proofs.Fitting.{ror-below}
-use Rattle.arithmetic.proofs.Words.{turned-right, runs, stops}
+use Rattle.arithmetic.proofs.Words.{all-bits, turned-right, runs, stops}
 use Rattle.arithmetic.proofs.shifts.ror.Statement.{statement}
 use Rattle.arithmetic.proofs.shifts.ror.Tie as tie
 
@@ -13,17 +12,18 @@ pub ror-spec : {M : Type 1} → statement M
 ror-spec =
     tie.close
     (tie.spec
-    (λ c κs. search needs)
-    (λ c. search needs)
-    (λ c. stops (c .before .before .args .t) (c .before .before .args .k) _ (c .before .width .ensures) (c .if1 .taken))
-    (λ c. omega (arith, powers (c .before .before .args .t)))
-    (λ c. search needs)
-    (λ c. search needs)
-    (λ c. omega (arith, powers (c .before .before .args .t)))
+    (λ c. omega arith)
+    (λ c. stops (64 - c .before .args .s) (c .before .args .k) _ (c .if1 .taken))
+    (λ c. omega arith)
+    (λ c. omega arith)
+    (λ c. omega arith)
+    (λ c. omega arith)
     (λ c κs. search needs)
     (λ c.
-    let s = c .before .before .before .args in
-    record { fits = rw (turned-right (s .t) (s .a) (s .k) (c .before .before .width .ensures) (c .before .if1 .left) (c .keep .ensures)) (lt-of-lt-of-le (ror-below (width (s .t)) (s .a) (s .k) (c .before .before .before .pre) (omega arith)) (powers (s .t) .high)) })
+    let e = c .before .before in
+    let v = e .args in
+    record { fits = rw (turned-right (v .s) (v .a) (v .k) (e .pre .0) (c .before .if1 .left) (c .keep .ensures)) (lt-of-lt-of-le (ror-below (64 - v .s) (v .a) (v .k) (e .pre .1) (omega arith)) (all-bits (v .s) (e .pre .0))) })
     (λ c.
-    let s = c .before .before .before .args in
-    runs (s .t) (s .k) _ (c .before .before .width .ensures) (c .before .if1 .left) (turned-right (s .t) (s .a) (s .k) (c .before .before .width .ensures) (c .before .if1 .left) (c .keep .ensures))))
+    let e = c .before .before in
+    let v = e .args in
+    runs (64 - v .s) (v .k) _ (c .before .if1 .left) (turned-right (v .s) (v .a) (v .k) (e .pre .0) (c .before .if1 .left) (c .keep .ensures))))

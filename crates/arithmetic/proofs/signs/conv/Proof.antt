@@ -2,8 +2,8 @@
 use mathlib.Core.Path.{sym, _∙_}
 use borrow.Author.Needs.{needs}
 use native.Mathlib.Nat.{mod-lt}
+use Prim.Native.Nat.{_-_}
 use lib.Pow.{pow-pos}
-use Rattle.language.specs.Instructions.{width}
 use Rattle.arithmetic.proofs.Meanings.{converted-negative, converted-positive}
 use Rattle.arithmetic.proofs.signs.conv.Statement.{statement}
 use Rattle.arithmetic.proofs.signs.conv.Tie as tie
@@ -15,11 +15,11 @@ conv-spec =
     (λ c κs. search needs)
     (λ c κs. search needs)
     (λ c κs. search needs)
-    (λ c κs. rw (c .keep .ensures) (mod-lt (c .before .flip .result) (pow-pos (width (c .before .before .before .before .args .t)))))
-    (λ c.
-    converted-negative (c .before .before .before .before .before .args .s) (c .before .before .before .before .before .args .t) (c .before .before .before .before .before .args .x) (c .before .before .before .before .before .pre)
-    (sym (c .before .before .before .before .negative .ensures) ∙ c .before .before .before .if1 .taken) (c .before .before .flip .ensures) (c .before .keep .ensures) (c .flip2 .ensures))
+    (λ c κs. let e = c .before .before .before .before in (e .pre .1, rw (c .keep .ensures) (mod-lt (c .before .flip .result) (pow-pos (64 - e .args .r)))))
+    (λ c t k.
+    let e = c .before .before .before .before .before in
+    converted-negative k (e .args .x) (e .pre .2) (64 - e .args .r) (sym (c .before .before .before .before .negative .ensures) ∙ c .before .before .before .if1 .taken) (c .before .before .flip .ensures) (c .before .keep .ensures) (c .flip2 .ensures))
     (λ c κs. search needs)
-    (λ c.
-    converted-positive (c .before .before .before .args .s) (c .before .before .before .args .t) (c .before .before .before .args .x) (c .before .before .before .pre)
-    (sym (c .before .before .negative .ensures) ∙ c .before .if1 .left) (c .keep2 .ensures)))
+    (λ c t k.
+    let e = c .before .before .before in
+    converted-positive k (e .args .x) (e .pre .2) (64 - e .args .r) (sym (c .before .before .negative .ensures) ∙ c .before .if1 .left) (c .keep2 .ensures)))

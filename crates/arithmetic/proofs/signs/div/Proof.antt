@@ -3,9 +3,9 @@ use mathlib.Core.Path.{sym, _∙_}
 use borrow.Author.Needs.{needs}
 use native.Mathlib.Omega.{arith}
 use native.Mathlib.Nat.{div-le-self}
-use borrow.Author.Tests.{eq-eqb, ne-eqb}
+use borrow.Author.Tests.{eq-eqb, ne-eqb, not-true}
 use Rattle.language.specs.Arithmetic.{div}
-use Rattle.arithmetic.proofs.Meanings.{magnitude-below, magnitude-positive, divided}
+use Rattle.arithmetic.proofs.Meanings.{magnitude-below, magnitude-positive, divided, divided-unsigned}
 use Rattle.arithmetic.proofs.signs.div.Statement.{statement}
 use Rattle.arithmetic.proofs.signs.div.Tie as tie
 
@@ -14,18 +14,23 @@ unfolding div
 div-spec =
     tie.close
     (tie.spec
-    (λ c. rw (eq-eqb (c .before .args .b) 0 (c .if1 .taken)))
+    (λ c t k. rw (eq-eqb (c .before .args .b) 0 (c .if1 .taken)))
+    (λ c. omega arith)
+    (λ c t k.
+    let e = c .before .before in
+    divided-unsigned k (e .args .a) (e .args .b) (e .pre .1) (e .pre .2) (c .before .if1 .left) (not-true (e .args .sign) (c .if2 .taken)))
     (λ c κs. search needs)
-    (λ c. rw (ne-eqb (c .before .before .before .args .b) 0 (c .before .before .if1 .left), sym (c .before .overflows .ensures) ∙ c .if2 .taken))
+    (λ c t k. rw (ne-eqb (c .before .before .before .before .args .b) 0 (c .before .before .before .if1 .left), sym (c .before .overflows .ensures t k) ∙ c .if3 .taken))
     (λ c κs. search needs)
     (λ c κs. search needs)
-    (λ c. rw (c .magnitude2 .ensures) (magnitude-positive (c .before .before .before .before .before .args .t) (c .before .before .before .before .before .args .b) (c .before .before .before .before .before .pre .1) (c .before .before .before .before .if1 .left)))
+    (λ c. let e = c .before .before .before .before .before .before in rw (c .magnitude2 .ensures) (magnitude-positive (e .args .s) (e .args .sign) (e .args .b) (c .before .before .before .before .before .if1 .left)))
     (λ c κs. search needs)
     (λ c κs. search needs)
     (λ c κs.
+    let e = c .before .before .before .before .before .before .before .before in
     let h = div-le-self (c .before .before .before .magnitude .result) (c .before .before .magnitude2 .result) in
-    omega (arith, c .before .before .before .magnitude .ensures, magnitude-below (c .before .before .before .before .before .before .before .args .t) (c .before .before .before .before .before .before .before .args .a) (c .before .before .before .before .before .before .before .pre .0)))
-    (λ c.
-    divided (c .before .before .before .before .before .before .before .before .args .t) (c .before .before .before .before .before .before .before .before .args .a) (c .before .before .before .before .before .before .before .before .args .b) (c .before .before .before .before .before .before .before .before .pre .0) (c .before .before .before .before .before .before .before .if1 .left)
-    (sym (c .before .before .before .before .before .before .overflows .ensures) ∙ c .before .before .before .before .before .if2 .left)
+    (e .pre .0, omega (arith, c .before .before .before .magnitude .ensures, magnitude-below (e .args .s) (e .args .sign) (e .args .a) (e .pre .0) (e .pre .1))))
+    (λ c t k.
+    let e = c .before .before .before .before .before .before .before .before .before in
+    divided k (e .args .a) (e .args .b) (e .pre .1) (e .pre .2) (c .before .before .before .before .before .before .before .before .if1 .left) (sym (c .before .before .before .before .before .before .overflows .ensures t k) ∙ c .before .before .before .before .before .if3 .left)
     (c .before .before .before .before .magnitude .ensures) (c .before .before .before .magnitude2 .ensures) (c .before .before .negative .ensures) (c .before .negative2 .ensures) (c .with-sign .ensures)))

@@ -1,7 +1,10 @@
--- `signs::less`: ranks stand as the meanings do.
-use mathlib.Core.Path.{sym}
+-- `signs::less`: signed numbers stand as their ranks do, the others are their own meanings.
+use mathlib.Core.Path.{sym, _∙_}
 use borrow.Author.Needs.{needs}
-use Rattle.arithmetic.proofs.Meanings.{less-by-rank}
+use Prim.Native.Nat.{_-_}
+use Rattle.arithmetic.specs.Results.{rankOf}
+use Rattle.arithmetic.proofs.Words.{shifted-less}
+use Rattle.arithmetic.proofs.Meanings.{less-by-rank, less-unsigned}
 use Rattle.arithmetic.proofs.signs.less.Statement.{statement}
 use Rattle.arithmetic.proofs.signs.less.Tie as tie
 
@@ -11,4 +14,9 @@ less-spec =
     (tie.spec
     (λ c κs. search needs)
     (λ c κs. search needs)
-    (λ c. rw (c .before .rank .ensures, c .rank2 .ensures) (sym (less-by-rank (c .before .before .args .t) (c .before .before .args .a) (c .before .before .args .b) (c .before .before .pre .0) (c .before .before .pre .1)))))
+    (λ c t k.
+    let e = c .before .before .before in
+    rw (c .before .rank .ensures, c .rank2 .ensures)
+    (shifted-less (rankOf (64 - e .args .s) (e .args .a)) (rankOf (64 - e .args .s) (e .args .b)) (e .args .s)
+    ∙ sym (less-by-rank k (e .args .a) (e .args .b) (e .pre .1) (e .pre .2) (c .before .before .if1 .taken))))
+    (λ c t k. let e = c .before in sym (less-unsigned k (e .args .a) (e .args .b) (e .pre .1) (e .pre .2) (c .if1 .left))))

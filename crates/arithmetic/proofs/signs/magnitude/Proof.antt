@@ -2,7 +2,7 @@
 use mathlib.Core.Path.{sym, ap, _∙_}
 use borrow.Author.Needs.{needs}
 use lib.IntN.{natAbs}
-use Rattle.arithmetic.proofs.Meanings.{meaning-positive, magnitude-negative}
+use Rattle.arithmetic.proofs.Meanings.{reading-positive, magnitude-negative}
 use Rattle.arithmetic.proofs.signs.magnitude.Statement.{statement}
 use Rattle.arithmetic.proofs.signs.magnitude.Tie as tie
 
@@ -12,5 +12,9 @@ magnitude-spec =
     (tie.spec
     (λ c κs. search needs)
     (λ c κs. search needs)
-    (λ c. c .neg .ensures ∙ magnitude-negative (c .before .before .before .args .t) (c .before .before .before .args .x) (c .before .before .before .pre) (sym (c .before .before .negative .ensures) ∙ c .before .if1 .taken))
-    (λ c. sym (ap natAbs (meaning-positive (c .before .before .args .t) (c .before .before .args .x) (c .before .before .pre) (sym (c .before .negative .ensures) ∙ c .if1 .left)))))
+    (λ c.
+    let e = c .before .before .before in
+    c .neg .ensures ∙ magnitude-negative (e .args .s) (e .args .sign) (e .args .x) (e .pre .0) (e .pre .1) (sym (c .before .before .negative .ensures) ∙ c .before .if1 .taken))
+    (λ c.
+    let e = c .before .before in
+    sym (ap natAbs (reading-positive (e .args .s) (e .args .sign) (e .args .x) (sym (c .before .negative .ensures) ∙ c .if1 .left)))))

@@ -11,4 +11,4 @@ add-spec =
     (tie.spec
     (λ c κs. search needs)
     (λ c κs. search needs)
-    (λ c. let s = c .before .before .args in reduced (s .t) (s .a + s .b) (c .before .wrapping-add-u64 .ensures) (c .keep .ensures)))
+    (λ c. let e = c .before .before in reduced (e .args .s) (e .pre) (e .args .a + e .args .b) (c .before .wrapping-add-u64 .ensures) (c .keep .ensures)))

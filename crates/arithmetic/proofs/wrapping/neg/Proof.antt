@@ -10,4 +10,6 @@ neg-spec =
     (tie.spec
     (λ c κs. search needs)
     (λ c κs. search needs)
-    (λ c. negated (c .before .before .args .t) (c .before .wrapping-sub-u64 .result) (c .before .before .pre) (c .before .wrapping-sub-u64 .ensures) (c .keep .ensures)))
+    (λ c.
+    let e = c .before .before in
+    negated (e .args .s) (e .pre .0) (c .before .wrapping-sub-u64 .result) (e .pre .1) (c .before .wrapping-sub-u64 .ensures) (c .keep .ensures)))

@@ -1,5 +1,4 @@
 -- `each_checked`: 21 for every argument, or the runs.
-use mathlib.Core.Path.{refl}
 use native.Mathlib.Omega.{arith}
 use lib.ListN.{length}
 use borrow.Author.Needs.{needs}
@@ -24,7 +23,7 @@ each-checked-spec =
     (λ c. search needs)
     (λ c κs.
     let s = c .before .before .before .before .before .before .before .before .before in
-    (s .pre .0, (omega (arith, c .before .before .before .before .function-count .ensures .0, c .before .before .before .if1 .left), (refl, s .pre .1))))
+    (s .pre .0, (omega (arith, c .before .before .before .before .function-count .ensures .0, c .before .before .before .if1 .left), (omega arith, s .pre .1))))
     (λ c. search needs)
     (λ c. search needs)
     (λ c. c .before .before .before .before .before .run-all .ensures))

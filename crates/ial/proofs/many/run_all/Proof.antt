@@ -37,7 +37,7 @@ run-all-spec =
     (λ c. omega arith)
     (λ c κs.
     let s = c .before .before .before .before .before .before .before .before .before .before in
-    (s .pre .0, (s .pre .1 .0, c .before .before .before .before .loop .inv .1 ∙ s .pre .1 .1 .0)))
+    (s .pre .0, (s .pre .1 .0, omega (arith, c .before .before .before .before .loop .inv .1, s .pre .1 .1 .0))))
     (λ c. omega arith)
     (λ c κs. search needs)
     (λ c κs.

@@ -1,5 +1,4 @@
 -- `run_checked`: a function that is there is run.
-use mathlib.Core.Path.{refl}
 use native.Mathlib.Omega.{arith}
 use lib.ListN.{length}
 use borrow.Author.Needs.{needs}
@@ -22,7 +21,7 @@ run-checked-spec =
     (λ c. search needs)
     (λ c κs.
     let s = c .before .before .before .before .before .before .before in
-    (s .pre .0, (omega (arith, c .before .before .before .function-count .ensures .0, c .before .before .if1 .left), refl)))
+    (s .pre .0, (omega (arith, c .before .before .before .function-count .ensures .0, c .before .before .if1 .left), omega arith)))
     (λ c. search needs)
     (λ c.
     let s = c .before .before .before .before .before .before .before .before .before .before .before in

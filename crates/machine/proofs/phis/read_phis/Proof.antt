@@ -36,7 +36,7 @@ loop-again c =
     let e = c .before .phi-entry .ensures .0 ∙ ap (phiEntry (s .args .t .now) (s .args .a)) here in (
       omega arith,
       simp length-set (l .inv .1),
-      taken-more (s .args .t .now) (s .args .a) (s .args .first) (s .args .k) (s .args .registers .now) (l .i) (l .taken) (c .before .phi-entry .result) (omega (arith, s .pre .1 .rows)) e (l .inv .2),
+      taken-more (s .args .t .now) (s .args .a) (s .args .first) (s .args .k) (s .args .registers .now) (l .i) (l .taken) (c .before .phi-entry .result) (omega arith) e (l .inv .2),
       further (s .pre .1) (l .i) (l .e) _ test here (c .before .before .before .before .before .phi-count .ensures .0),
     )
 
@@ -66,7 +66,7 @@ read-phis-spec =
     let e = c .before .phi-entry .ensures .0 ∙ ap (phiEntry (s .args .t .now) (s .args .a)) (l .inv .3 test) in
     rw e (s .pre .1 .source (l .i) test))
     (λ c. omega arith)
-    (λ c. let s = c .before .before .before .before .before .before .before .before .before in omega (arith, s .pre .1 .rows, s .pre .0, c .before .before .before .loop .inv .1))
+    (λ c. let s = c .before .before .before .before .before .before .before .before .before in omega (arith, s .pre .0 .1, c .before .before .before .loop .inv .1))
     (λ c.
     let s = c .before .before .before .before .before .before .before .before .before in
     let l = c .before .before .before .loop in

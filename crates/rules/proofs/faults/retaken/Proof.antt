@@ -1,5 +1,6 @@
--- The definition's tests, of the same cells.
+-- The definition's tests, of the same cells: `ssa` first, for no other function needs the rest.
 use borrow.Author.Needs.{needs}
+use borrow.Author.Tests.{eq-eqb, ne-eqb}
 use Rattle.rules.specs.Cells.{retaken}
 use Rattle.rules.proofs.faults.retaken.Statement.{statement}
 use Rattle.rules.proofs.faults.retaken.Tie as tie
@@ -10,7 +11,8 @@ retaken-spec =
     tie.close
     (tie.spec
     (λ c κs. search needs)
+    (λ c. rw (← c .before .function-ssa .ensures, ne-eqb _ _ (c .if1 .taken)))
     (λ c κs. search needs)
     (λ c κs. search needs)
     (λ c. search needs)
-    (λ c. rw (c .before .before .function-ssa .ensures, c .before .function-params .ensures .0, c .assignment .ensures .0)))
+    (λ c. rw (← c .before .before .before .function-ssa .ensures, eq-eqb _ _ (c .before .before .if1 .left), c .before .function-params .ensures .0, c .assignment .ensures .0)))
