@@ -177,6 +177,26 @@ fn long_text() -> String {
     s
 }
 
+/// A text of nearly as many bytes whose names are quoted: 12 functions of 32 registers and 8 blocks.
+fn quoted_text() -> String {
+    let mut s = String::new();
+    for f in 0..12 {
+        s += &format!("function uint64 'limit no. {f}'(uint64 'a reading', uint64 bound) {{\n");
+        (0..30).for_each(|r| s += &format!(" register uint64 'client\\'s value {r}';\n"));
+        for b in 0..8 {
+            s += &if b == 0 { " block entry {\n".to_string() } else { format!(" block 'step no. {b}' {{\n") };
+            for i in 0..7 {
+                let (t, l) = ((b * 7 + i) % 30, (b * 7 + i + 29) % 30);
+                s += &format!("  'client\\'s value {t}' = ari.add 'a reading', 'client\\'s value {l}';\n");
+            }
+            s += &if b < 7 { format!("  jump ('step no. {}');\n }}\n", b + 1) } else { "  return 'client\\'s value 0';\n }\n".to_string() };
+        }
+        s += "}\n";
+    }
+    assert!(s.len() <= 65536, "{}", s.len());
+    s
+}
+
 fn median(mut times: Vec<f64>) -> f64 {
     times.sort_by(f64::total_cmp);
     times[times.len() / 2]
@@ -234,21 +254,26 @@ fn report(name: &str, other: &str, rounds: &[(f64, f64)]) -> f64 {
 }
 
 fn main() {
-    let long = long_text();
+    let (long, quoted) = (long_text(), quoted_text());
+    let comment = format!("//{}", "lexed and never taken ".repeat(2978));
     let (mut a, mut b) = (vec![255u8; ial_baseline::TABLE], vec![255u8; ial_baseline::TABLE]);
-    for text in [long.as_bytes(), TURN.as_bytes(), b"", b"function void f() {"] {
+    for text in [long.as_bytes(), quoted.as_bytes(), comment.as_bytes(), TURN.as_bytes(), b"", b"function void f() {"] {
         assert_eq!(verified_read(text, &mut a), plain_read(text, &mut b));
         assert!(a == b);
     }
-    println!("text of {} bytes", long.len());
-    let works = [("read, 64 KB", long.as_bytes(), 2000), ("read, turn", TURN.as_bytes(), 10000), ("read, nothing (a table cleared)", &b""[..], 10000)];
-    for (name, text, rounds) in works {
-        race(name, rounds, || { verified_read(text, &mut a); }, || { plain_read(text, &mut b); });
-    }
-    let comment = format!("//{}", "lexed and never taken ".repeat(2978));
-    let empty = median((0..4000).map(|_| nanoseconds(&mut || { verified_read(b"", &mut a); })).collect());
-    let lexed = median((0..4000).map(|_| nanoseconds(&mut || { verified_read(comment.as_bytes(), &mut a); })).collect());
-    println!("lex, a comment of {} bytes: verified {:.0} MB/s", comment.len(), comment.len() as f64 * 1000.0 / (lexed - empty));
+    println!("texts of {} and, with quoted names, {} bytes", long.len(), quoted.len());
+    let works = [
+        ("read, 64 KB", long.as_bytes(), 2000),
+        ("read, 64 KB of quoted names", quoted.as_bytes(), 2000),
+        ("read, a comment of 64 KB", comment.as_bytes(), 4000),
+        ("read, turn", TURN.as_bytes(), 10000),
+        ("read, nothing (a table cleared)", &b""[..], 10000),
+    ];
+    let times = works.map(|(name, text, rounds)| {
+        assert_eq!(verified_read(text, &mut a), (0, 0));
+        race(name, rounds, || { verified_read(text, &mut a); }, || { plain_read(text, &mut b); })
+    });
+    println!("lex, a comment of {} bytes: verified {:.0} MB/s", comment.len(), comment.len() as f64 * 1000.0 / (times[2] - times[4]));
     judge_run_translate();
     write_texts(&long);
     merging::merge_and_join();

@@ -39,9 +39,9 @@ extern "C" {
 
 /* The stack that must be free at a call, in bytes: the library has no heap and no memory of its own. A call with less crashes
  * at the end of the stack. The numbers are those of the compiled library, for all inputs, with at least 8 KiB to
- * spare, in whole 16 KiB; a thread needs some KiB more for itself. */
-#define IAL_READ_STACK (160 * 1024)
-#define IAL_READ_SHORT_STACK (768 * 1024) /* ial_read with an output of less than IAL_TABLE bytes */
+ * spare, in whole 16 KiB; a thread needs some KiB more for itself, and one of 192 KiB in all can make every call. */
+#define IAL_READ_STACK (64 * 1024)
+#define IAL_READ_SHORT_STACK IAL_READ_STACK /* an output of another length needs no more */
 #define IAL_CHECK_STACK (16 * 1024)
 #define IAL_SIGNATURE_STACK (16 * 1024)
 #define IAL_RUN_STACK (32 * 1024)

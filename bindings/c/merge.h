@@ -41,7 +41,7 @@ extern "C" {
 
 /* The stack that must be free at a call, in bytes: the library has no heap and no memory of its own. A call with less crashes
  * at the end of the stack. The numbers are those of the compiled library, for all inputs, with at least 8 KiB to
- * spare, in whole 16 KiB; a thread needs some KiB more for itself. */
+ * spare, in whole 16 KiB; a thread needs some KiB more for itself, and one of 192 KiB in all can make every call. */
 #define MERGE_RECORD_STACK (32 * 1024)
 #define MERGE_RECORDS_STACK (80 * 1024)
 #define MERGE_STORE_STACK (64 * 1024)

@@ -48,12 +48,15 @@ static int status_on(const struct entry *e, size_t stack) {
     return child > 0 && waitpid(child, &status, 0) == child ? status : -1;
 }
 
-/* The stated stack suffices, and a quarter of it does not where much is used: so the number says something. */
+/* A thread of so many bytes in all can make every call. */
+enum { EVERY = 192 * 1024 };
+
+/* The stated stack suffices and is less than that, and a quarter of it does not suffice where much is used: so the number says something. */
 static int stacks(const struct entry *entries, size_t count) {
     int wrong = 0;
     for (const struct entry *e = entries; e < entries + count; e++) {
         int enough = status_on(e, e->stack), short_of = e->least ? status_on(e, e->stack / 4) : SIGSEGV;
-        if (enough != 0 || !WIFSIGNALED(short_of) || WTERMSIG(short_of) != SIGSEGV) {
+        if (EVERY <= e->stack || enough != 0 || !WIFSIGNALED(short_of) || WTERMSIG(short_of) != SIGSEGV) {
             printf("%s: status %d on %zu bytes of stack, %d on a quarter\n", e->name, enough, e->stack, short_of);
             wrong = 1;
         }

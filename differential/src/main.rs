@@ -8,6 +8,7 @@ mod histories;
 mod library;
 mod lists;
 mod loops;
+mod readings;
 mod rng;
 mod stores;
 mod texts;
@@ -20,12 +21,13 @@ use ial_baseline::{Answer, TABLE};
 use lists::Wrong;
 use rng::Rng;
 
-/// Two tables that hold the same rubbish, how often each number was answered, how often a list was made wrong in each way, and what was run by many
-/// budgets.
+/// Two tables that hold the same rubbish, how often each number was answered, of all calls and of texts for reading alone, how often a list was made wrong in
+/// each way, and what was run by many budgets.
 struct Bench {
     one: Vec<u8>,
     two: Vec<u8>,
     seen: [u64; 64],
+    read: [u64; 64],
     lists: [u64; Wrong::ALL.len()],
     budgets: budgets::Counts,
 }
@@ -146,6 +148,23 @@ impl Bench {
         if rng.once_in(4) {
             budgets::compare(rng, &mut self.budgets)?;
         }
+        if rng.once_in(2) {
+            self.reads(rng)?;
+        }
+        Ok(())
+    }
+
+    /// What both make of a text for outputs of many lengths.
+    fn reads(&mut self, rng: &mut Rng) -> Result<(), String> {
+        let text = readings::text(rng);
+        for length in readings::OUTPUTS {
+            for lent in [&mut self.one, &mut self.two] {
+                lent.clear();
+                lent.resize(length, 0xa5);
+            }
+            let a = library::read(&text, &mut self.one, &mut self.two)?;
+            self.read[a.number as usize] += 1;
+        }
         Ok(())
     }
 }
@@ -223,7 +242,7 @@ fn disturb(table: &mut Vec<u8>, rng: &mut Rng) {
 
 /// These rounds, and what was counted. A difference ends the program.
 fn rounds(numbers: impl Iterator<Item = u64>) -> Bench {
-    let mut bench = Bench { one: vec![], two: vec![], seen: [0; 64], lists: [0; Wrong::ALL.len()], budgets: Default::default() };
+    let mut bench = Bench { one: vec![], two: vec![], seen: [0; 64], read: [0; 64], lists: [0; Wrong::ALL.len()], budgets: Default::default() };
     for round in numbers {
         if let Err(what) = bench.round(&mut Rng::new(round + 1)) {
             println!("round {round}: {what}");
@@ -238,7 +257,7 @@ fn main() {
     let count = words.next().unwrap_or(6_000);
     let first = words.next().unwrap_or(0);
     let threads = std::thread::available_parallelism().map_or(1, usize::from);
-    let mut seen = [0; 64];
+    let (mut seen, mut read) = ([0; 64], [0; 64]);
     let mut lists = [0; Wrong::ALL.len()];
     let mut budgets = budgets::Counts::default();
     std::thread::scope(|scope| {
@@ -247,12 +266,14 @@ fn main() {
         for part in parts {
             let more = part.join().expect("no call panics");
             (0..64).for_each(|n| seen[n] += more.seen[n]);
+            (0..64).for_each(|n| read[n] += more.read[n]);
             (0..lists.len()).for_each(|n| lists[n] += more.lists[n]);
             budgets.add(&more.budgets);
         }
     });
-    let seen: Vec<String> = (0..64).filter(|&n| seen[n] > 0).map(|n| format!("{n}: {}", seen[n])).collect();
+    let numbers = |counts: [u64; 64]| (0..64).filter(|&n| counts[n] > 0).map(|n| format!("{n}: {}", counts[n])).collect::<Vec<_>>().join(", ");
     let lists: Vec<String> = Wrong::ALL.iter().zip(lists).map(|(wrong, n)| format!("{wrong:?}: {n}")).collect();
-    println!("{count} rounds agree; answers by number: {}; lists of predecessors by what was wrong: {}", seen.join(", "), lists.join(", "));
+    println!("{count} rounds agree; answers by number: {}; lists of predecessors by what was wrong: {}", numbers(seen), lists.join(", "));
+    println!("texts of many names read for outputs of {} lengths each; answers by number: {}", readings::OUTPUTS.len(), numbers(read));
     println!("{budgets}");
 }

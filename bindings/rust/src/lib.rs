@@ -31,7 +31,7 @@ pub const TEXT: usize = 65_536;
 
 /// The bytes of stack that must be free when [`Table::read`] is called, for any text. This and the next six are those of the
 /// compiled library, with at least 8 KiB to spare, in whole 16 KiB; a call with less crashes at the end of the stack.
-pub const READ_STACK: usize = 160 * 1024;
+pub const READ_STACK: usize = 64 * 1024;
 
 /// The same for [`Table::check`], and for [`Table::from_cells`] with another length.
 pub const CHECK_STACK: usize = 16 * 1024;

@@ -1,6 +1,7 @@
 """Texts made by document 01: each size at its limit and one past, and outputs of other lengths than a table's."""
 from .layout import TABLE
 from .programs import Function, Row, dump, text
+from .reading import reading, small
 from .runs import LEAVE
 from .script import Script
 from .tables import cells
@@ -10,10 +11,6 @@ def at_limit(script, label, functions, past):
     """Read, or 5 at the last place of this word: "the first token of the item beyond"."""
     t = text(functions)
     script.read(label + ' ', t, {} if past else cells(dump(functions)), past and (5, t.rindex(past.encode())))
-
-
-def small(i):
-    return Function(f'f{i}', blocks=[('entry', [LEAVE])])
 
 
 def wide(params, registers):
@@ -85,6 +82,7 @@ def sizes():
     items(script)
     names(script)
     outputs(script)
+    reading(script)
     return script
 
 

@@ -15,7 +15,7 @@ use Rattle.language.specs.Table.{nameAt, functionAt, functionName, registerCoun
 use Rattle.language.specs.Table.{blockLength, blockNamesOffset, functionLength, functionNamesOffset, registerLength, registerNamesOffset}
 use Rattle.language.specs.Checking.{spelledOrNone, distinct}
 use Rattle.table.specs.Named.{isNamed, firstNamed}
-use Rattle.spelling.specs.Names.{namesIn}
+use Rattle.name_index.specs.Names.{namesIn}
 use Rattle.checker.specs.Parts.{tableNamesBefore, listedRight, allNamesRight}
 
 -- ---- among the names before

@@ -24,7 +24,7 @@ use Rattle.flow.specs.Sized.{Sized, Preparable}
 use Rattle.rules.specs.Cells.{SsaPrepared}
 use Rattle.paths.specs.Formed.{Formed}
 use Rattle.checker.specs.Notes.{RowsRanged, notedOf}
-use Rattle.spelling.specs.Names.{namesIn}
+use Rattle.name_index.specs.Names.{namesIn}
 use Rattle.checker.proofs.Faults.{formed}
 use Rattle.checker.specs.Parts.{tableNamesBefore, headRight, typesRight, blocksRight, rowsRight, listedRight, allNamesRight, soundAt}
 

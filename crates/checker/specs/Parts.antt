@@ -11,7 +11,7 @@ use Rattle.language.specs.Names.{spelled}
 use Rattle.language.specs.Table.{functionAt, functionSsa, functionResult, functionParams, registerCount, blockCount, functionEntry, functionName, registerType, blockName, rowOp, phiFirst, phiCount, rowCount, entriesBefore, blocksPlaced, phisPlaced, predecessorsKept, decodeRow, decodeFunction}
 use Rattle.language.specs.Table.{blockLength, blockNamesOffset, registerLength, registerNamesOffset}
 use Rattle.language.specs.Checking.{inRange, spelledOrNone, distinct}
-use Rattle.spelling.specs.Names.{namesIn}
+use Rattle.name_index.specs.Names.{namesIn}
 
 -- The names of the functions before number i, the last first.
 unfoldable pub tableNamesBefore : List ℕ → ℕ → List (List ℕ)

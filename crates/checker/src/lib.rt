@@ -8,7 +8,7 @@ ghost use Rattle.language.specs.Programs.{isSsa, maxFunctions};
 ghost use Rattle.language.specs.Table.{functionAt, rowCount, decodeFunction, tableLength};
 ghost use Rattle.language.specs.Checking.{breaks17, rowsThat, firstFault, judge};
 ghost use Rattle.language.specs.Answers.{checkAnswer};
-ghost use Rattle.lexer.specs.Lexing.{classTable};
+ghost use Rattle.vocabulary.specs.Classes.{classTable};
 ghost use Rattle.flow.specs.Layout.{flowLength};
 ghost use Rattle.flow.specs.Sized.{Sized};
 ghost use Rattle.rules.specs.Cells.{SsaPrepared};
@@ -79,7 +79,7 @@ pub fn check_table(t: &[u8]) -> Verdict
     if MAX_FUNCTIONS < n {
         return Verdict::Refused(9, 0);
     }
-    let classes = lexer::classes();
+    let classes = vocabulary::classes();
     let mut m = [0u16; FLOW_LENGTH];
     let mut i = 0;
     while i < n {

@@ -4,7 +4,7 @@ ghost use Prim.Native.Nat.{_<_, _≤_};
 ghost use lib.ListN.{length};
 ghost use Rattle.laws.specs.Lists.{any, same};
 ghost use Rattle.language.specs.Table.{registerCount, blockCount, functionName, rowCount, InTable, tableLength};
-ghost use Rattle.lexer.specs.Lexing.{classTable};
+ghost use Rattle.vocabulary.specs.Classes.{classTable};
 ghost use Rattle.checker.specs.Parts.{tableNamesBefore, headRight, typesRight, placedRows, entriesAfter, rowsRight, listedRight, allNamesRight, soundRows};
 ghost use Rattle.language.specs.Programs.{maxRows, maxBlocks, maxRegisters, maxFunctions};
 ghost use Rattle.table.specs.Named.{NamesWithin};

@@ -3,21 +3,23 @@ use mathlib.Core.Path.{_≡_, refl, ap, _∙_, sym}
 use mathlib.Core.Bool.{Bool, true, false, cond, not, _&&_}
 use Prim.Native.Nat.{ℕ, zero, suc, _-_, _≤_}
 use native.Mathlib.Omega.{arith}
-use lib.Dec.{leb, ltb}
-use borrow.Author.Tests.{leb-true, not-true, not-false}
+use lib.Dec.{leb, ltb, leb→le}
+use lib.Ieee.Fits.{and-l}
+use borrow.Author.Tests.{not-true, not-false}
+use Rattle.laws.proofs.Tests.{of-true}
 use Rattle.language.specs.Words.{isType, isInstruction, firstType, firstInstruction, instructionOf, wordCount}
 use Rattle.language.specs.Instructions.{Operand}
 use Rattle.language.specs.Grammar.{Stage as Stageᴸ, Act as Actᴸ, Move as Moveᴸ, to, wrongMove, afterWord, wordAlone, wordWithTarget, afterSources, afterSource, afterMention, sources, inOperand}
 use Rattle.instructions.specs.Shapes.{operandNumber, shapeOf}
 use Rattle.instructions.specs.declared.Shape.{Shape}
-use Rattle.lexer.proofs.Keys.{and-left}
-use Rattle.grammar.specs.Meaning.{operandFrom}
+use Rattle.grammar.specs.Meaning.{operandFrom, bracketedFrom, stageOf}
 
+-- What a word is that is found to be a type or an instruction.
 pub type-word : (w : ℕ) (r : Bool) → r ≡ isType w → r ≡ true → firstType ≤ w
-type-word w r e h = leb-true firstType w (and-left (leb firstType w) (ltb w firstInstruction) (sym e ∙ h))
+type-word w r e h = leb→le firstType w (and-l (leb firstType w) (ltb w firstInstruction) (of-true (isType w) (sym e ∙ h)))
 
 pub instruction-word : (w : ℕ) (r : Bool) → r ≡ isInstruction w → r ≡ true → firstInstruction ≤ w
-instruction-word w r e h = leb-true firstInstruction w (and-left (leb firstInstruction w) (ltb w wordCount) (sym e ∙ h))
+instruction-word w r e h = leb→le firstInstruction w (and-l (leb firstInstruction w) (ltb w wordCount) (of-true (isInstruction w) (sym e ∙ h)))
 
 pub operand-number : (o : Operand) → operandFrom (operandNumber o) ≡ o
 operand-number Operand.none = refl
@@ -31,7 +33,7 @@ module _ (x : Stageᴸ) where
   pub after-sources-none : (d : ℕ) → d ≡ 0 → x ≡ Stageᴸ.instructionEnd → x ≡ afterSources (operandFrom d)
   after-sources-none d e p = rw e p
 
-  pub after-sources-some : (d : ℕ) → (d ≡ 0 → ⊥) → x ≡ Stageᴸ.operand (operandFrom d) → x ≡ afterSources (operandFrom d)
+  pub after-sources-some : (d : ℕ) → (d ≡ 0 → ⊥) → x ≡ Stageᴸ.operand (bracketedFrom d) → x ≡ afterSources (operandFrom d)
   after-sources-some zero n p = absurd (n refl)
   after-sources-some (suc zero) n p = p
   after-sources-some (suc (suc zero)) n p = p
@@ -52,6 +54,10 @@ module _ (x : Stageᴸ) where
   sources-more zero o n p = absurd (n refl)
   sources-more (suc k) o n p = p ∙ ap (λ (j : ℕ). Stageᴸ.source j o) (omega arith)
 
+  -- the numbers as they are widened
+  pub sources-wide : (k k' d d' : ℕ) → x ≡ sources k (operandFrom d) → k ≡ k' → d ≡ d' → x ≡ sources k' (operandFrom d')
+  sources-wide k k' d d' p e f = p ∙ rw (e, f)
+
   pub after-mention-none : (k : ℕ) → k ≡ 0 → x ≡ Stageᴸ.operandEnd → x ≡ afterMention k
   after-mention-none k e p = rw e p
 
@@ -59,15 +65,18 @@ module _ (x : Stageᴸ) where
   after-mention-more zero n p = absurd (n refl)
   after-mention-more (suc k) n p = p ∙ ap Stageᴸ.mentionComma (omega arith)
 
-  pub in-operand : (d j : ℕ) → d ≡ j → x ≡ inOperand (operandFrom j) → x ≡ inOperand (operandFrom d)
+  pub in-operand : (d j : ℕ) → d ≡ j → x ≡ inOperand (bracketedFrom j) → x ≡ inOperand (bracketedFrom d)
   in-operand d j e p = rw e p
 
-  pub in-operand-blocks : (d : ℕ) → (d ≡ 0 → ⊥) → (d ≡ 1 → ⊥) → (d ≡ 2 → ⊥) → (d ≡ 3 → ⊥) → x ≡ Stageᴸ.mention 1 → x ≡ inOperand (operandFrom d)
-  in-operand-blocks zero a b c e p = absurd (a refl)
-  in-operand-blocks (suc zero) a b c e p = absurd (b refl)
-  in-operand-blocks (suc (suc zero)) a b c e p = absurd (c refl)
-  in-operand-blocks (suc (suc (suc zero))) a b c e p = absurd (e refl)
-  in-operand-blocks (suc (suc (suc (suc d)))) a b c e p = p
+  pub in-operand-blocks : (d : ℕ) → (d ≡ 1 → ⊥) → (d ≡ 2 → ⊥) → (d ≡ 3 → ⊥) → x ≡ Stageᴸ.mention 1 → x ≡ inOperand (bracketedFrom d)
+  in-operand-blocks zero a b c p = p
+  in-operand-blocks (suc zero) a b c p = absurd (a refl)
+  in-operand-blocks (suc (suc zero)) a b c p = absurd (b refl)
+  in-operand-blocks (suc (suc (suc zero))) a b c p = absurd (c refl)
+  in-operand-blocks (suc (suc (suc (suc d)))) a b c p = p
+
+pub detail-wide : (k m d d' : ℕ) (x : Stageᴸ) → d ≡ d' → stageOf k m d' ≡ x → stageOf k m d ≡ x
+detail-wide k m d d' x e p = ap (stageOf k m) e ∙ p
 
 -- An instruction word, by what it is and by the shape of its instruction.
 module _ (w : ℕ) (r : Bool) (e : r ≡ isInstruction w) where
@@ -103,4 +112,4 @@ module _ (w : ℕ) (r : Bool) (e : r ≡ isInstruction w) where
       pub alone-no : h .target ≡ true → x ≡ wrongMove → x ≡ wordAlone w
       alone-no t p = p ∙ sym (alone h q ∙ simp (not-false r n, t))
 
-pub ruleset numbers = (type-word, instruction-word, not-false, after-sources-none, after-sources-some, after-source-none, after-source-more, sources-none, sources-more, after-mention-none, after-mention-more, in-operand, in-operand-blocks, with-target-none, with-target-yes, with-target-no, alone-none, alone-yes, alone-no)
+pub ruleset numbers = (type-word, instruction-word, not-false, after-sources-none, after-sources-some, after-source-none, after-source-more, sources-none, sources-more, sources-wide, detail-wide, after-mention-none, after-mention-more, in-operand, in-operand-blocks, with-target-none, with-target-yes, with-target-no, alone-none, alone-yes, alone-no)

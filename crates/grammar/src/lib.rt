@@ -6,23 +6,31 @@ use instructions::shape_of;
 use instructions::types;
 use instructions::words;
 use kinds::*;
-use lexer::Token;
 ghost use mathlib.Core.Path.{_≡_};
-ghost use mathlib.Core.List.{List};
-ghost use Prim.Native.Nat.{ℕ};
 ghost use Rattle.language.specs.Words.{isType, isInstruction};
-ghost use Rattle.language.specs.Grammar.{gram as gramOf, aResult, wordWithTarget, wordAlone, inOperand, onMark, onWord, onBlock, isWord, afterSources, afterSource, afterMention, Stage as Stageᴸ, Move as Moveᴸ, sources as sourcesᴸ};
-ghost use Rattle.grammar.specs.Meaning.{TokenSpot, Moves, moveOf, tokenOf, moveTo, stageIs, stageFrom, operandFrom, isMark, endsBlock, instructionAt, namedMove};
+ghost use Rattle.language.specs.Grammar.{nextMove, aResult, wordWithTarget, wordAlone, inOperand, onMark, onWord, isWord, afterSources, afterSource, afterMention, Stage as Stageᴸ, sources as sourcesᴸ};
+ghost use Rattle.grammar.specs.Ready.{isTop};
+ghost use Rattle.grammar.specs.Meaning.{TokenSpot, Moves, moveOf, spotOf, tokenOf, moveTo, stageIs, stageFrom, operandFrom, bracketedFrom, isMark, namesBlock, endsBlock, instructionAt};
 
 // What comes next: a kind, how many sources or blocks come after the next one, and a type or an operand's number.
 pub struct Stage {
-    pub kind: u8,
-    pub more: u8,
-    pub detail: u8,
+    pub kind: u64,
+    pub more: u64,
+    pub detail: u64,
 }
 
-// What is to be done about a token. A name is given by its length, since its bytes begin at the token's place; where a block is
-// named, length 0 stands for the word `entry`. A number is given as in the token.
+// A token without the bytes of a name, which come beside it. A number: whether it is negative, its value, and whether it is
+// 2^64 or more, so that the value is not all of it.
+pub enum Token {
+    Name,
+    Word(u8),
+    Number(bool, u64, bool),
+    Mark(u8),
+    End,
+}
+
+// What is to be done about a token. What is named gets the bytes beside the token; where a block is named, no bytes stand for the
+// word `entry`. Of a register: whether it is a parameter, and its type. A number is given as in the token.
 pub enum Act {
     Wrong,
     Pass,
@@ -31,16 +39,15 @@ pub enum Act {
     BeginRegister,
     BeginBlock,
     SetResult(u8),
-    NameFunction(usize),
-    NameBlock(usize),
-    NameParameter(u8, usize),
-    NameRegister(u8, usize),
+    NameFunction,
+    NameBlock,
+    NameRegister(bool, u64),
     BeginInstruction(u8),
     SetInstruction(u8),
-    SetTarget(usize),
-    AddSource(usize),
-    AddEntry(usize),
-    AddMention(usize),
+    SetTarget,
+    AddSource,
+    AddEntry,
+    AddMention,
     SetNumber(bool, u64, bool),
     EndInstruction,
     EndBlock,
@@ -53,7 +60,7 @@ pub struct Move {
 }
 
 impl Stage {
-    fn new(kind: u8, more: u8, detail: u8) -> Self
+    fn new(kind: u64, more: u64, detail: u64) -> Self
         ensures { λ r. ⌜ r ≡ stageFrom kind more detail ⌝ }
     {
         Self { kind, more, detail }
@@ -61,7 +68,7 @@ impl Stage {
 }
 
 impl Move {
-    fn to(kind: u8, act: Act) -> Self
+    fn to(kind: u64, act: Act) -> Self
         ensures { λ r. ⌜ r ≡ moveTo kind act ⌝ }
     {
         Self {
@@ -82,6 +89,13 @@ impl Move {
     }
 }
 
+// A byte as a number of a stage: a caller has no cast to show.
+fn wide(x: u8) -> u64
+    ensures { λ r. ⌜ r ≡ x ⌝ }
+{
+    x as u64
+}
+
 // Whether the token is this mark.
 fn is_mark(token: Token, byte: u8) -> bool
     ensures { λ r. ⌜ r ≡ isMark byte token ⌝ }
@@ -94,7 +108,7 @@ fn is_mark(token: Token, byte: u8) -> bool
 
 // This mark and no other token.
 fn mark(token: Token, byte: u8, next: Move) -> Move
-    ensures { λ r. ⌜ ((s : TokenSpot) → moveOf s r ≡ onMark byte (moveOf s next) (tokenOf s token)) ⌝ }
+    ensures { λ r. ⌜ ((s : TokenSpot) → moveOf (spotOf token s) r ≡ onMark byte (moveOf (spotOf token s) next) (tokenOf s token)) ⌝ }
 {
     let Token::Mark(b) = token else {
         return Move::wrong();
@@ -107,7 +121,7 @@ fn mark(token: Token, byte: u8, next: Move) -> Move
 
 // This word and no other token.
 fn word(token: Token, number: u8, next: Move) -> Move
-    ensures { λ r. ⌜ ((s : TokenSpot) → moveOf s r ≡ onWord (isWord number (moveOf s next)) (tokenOf s token)) ⌝ }
+    ensures { λ r. ⌜ ((s : TokenSpot) → moveOf (spotOf token s) r ≡ onWord (isWord number (moveOf (spotOf token s) next)) (tokenOf s token)) ⌝ }
 {
     let Token::Word(w) = token else {
         return Move::wrong();
@@ -134,7 +148,7 @@ fn is_instruction(w: u8) -> bool
 
 // "A text is any number of functions, none included"
 fn top(token: Token) -> Move
-    ensures { λ r. ⌜ Moves (gramOf Stageᴸ.top) token r ⌝ }
+    ensures { λ r. ⌜ Moves (nextMove Stageᴸ.top) token r ⌝ }
 {
     if let Token::End = token {
         return Move::to(TOP, Act::Pass);
@@ -157,7 +171,7 @@ fn result_word(w: u8) -> Move
 
 // "`function`, optional `ssa`, return type or `void`, name"
 fn header(token: Token) -> Move
-    ensures { λ r. ⌜ Moves (gramOf Stageᴸ.header) token r ⌝ }
+    ensures { λ r. ⌜ Moves (nextMove Stageᴸ.header) token r ⌝ }
 {
     let Token::Word(w) = token else {
         return Move::wrong();
@@ -170,7 +184,7 @@ fn header(token: Token) -> Move
 
 // The return type after `ssa`.
 fn result(token: Token) -> Move
-    ensures { λ r. ⌜ Moves (gramOf Stageᴸ.result) token r ⌝ }
+    ensures { λ r. ⌜ Moves (nextMove Stageᴸ.result) token r ⌝ }
 {
     let Token::Word(w) = token else {
         return Move::wrong();
@@ -180,23 +194,23 @@ fn result(token: Token) -> Move
 
 // The function's name.
 fn function_name(token: Token) -> Move
-    ensures { λ r. ⌜ Moves (gramOf Stageᴸ.functionName) token r ⌝ }
+    ensures { λ r. ⌜ Moves (nextMove Stageᴸ.functionName) token r ⌝ }
 {
-    let Token::Name(n) = token else {
+    let Token::Name = token else {
         return Move::wrong();
     };
-    Move::to(PARAMETERS, Act::NameFunction(n))
+    Move::to(PARAMETERS, Act::NameFunction)
 }
 
 // "parameters in parentheses (type and name, parted by commas; house rule)": the type.
 fn parameter(token: Token) -> Move
-    ensures { λ r. ⌜ Moves (gramOf Stageᴸ.parameter) token r ⌝ }
+    ensures { λ r. ⌜ Moves (nextMove Stageᴸ.parameter) token r ⌝ }
 {
     let Token::Word(w) = token else {
         return Move::wrong();
     };
     if is_type(w) {
-        let stage = Stage::new(PARAMETER_NAME, 0, w - words::FIRST_TYPE);
+        let stage = Stage::new(PARAMETER_NAME, 0, wide(w - words::FIRST_TYPE));
         return Move {
             stage,
             act: Act::BeginRegister,
@@ -207,7 +221,7 @@ fn parameter(token: Token) -> Move
 
 // The first parameter's type, or no parameter.
 fn first_parameter(token: Token) -> Move
-    ensures { λ r. ⌜ Moves (gramOf Stageᴸ.firstParameter) token r ⌝ }
+    ensures { λ r. ⌜ Moves (nextMove Stageᴸ.firstParameter) token r ⌝ }
 {
     if is_mark(token, b')') {
         return Move::to(BODY, Act::Pass);
@@ -216,18 +230,18 @@ fn first_parameter(token: Token) -> Move
 }
 
 // A parameter's name.
-fn parameter_name(token: Token, detail: u8) -> Move
-    ensures { λ r. ⌜ Moves (gramOf (Stageᴸ.parameterName detail)) token r ⌝ }
+fn parameter_name(token: Token, detail: u64) -> Move
+    ensures { λ r. ⌜ Moves (nextMove (Stageᴸ.parameterName detail)) token r ⌝ }
 {
-    let Token::Name(n) = token else {
+    let Token::Name = token else {
         return Move::wrong();
     };
-    Move::to(PARAMETER_END, Act::NameParameter(detail, n))
+    Move::to(PARAMETER_END, Act::NameRegister(true, detail))
 }
 
 // A comma or the closing parenthesis.
 fn parameter_end(token: Token) -> Move
-    ensures { λ r. ⌜ Moves (gramOf Stageᴸ.parameterEnd) token r ⌝ }
+    ensures { λ r. ⌜ Moves (nextMove Stageᴸ.parameterEnd) token r ⌝ }
 {
     if is_mark(token, b',') {
         return Move::to(PARAMETER, Act::Pass);
@@ -237,7 +251,7 @@ fn parameter_end(token: Token) -> Move
 
 // "`{`, register declarations (`register` type name `;`)", a block or the end of the function.
 fn declarations(token: Token) -> Move
-    ensures { λ r. ⌜ Moves (gramOf Stageᴸ.declarations) token r ⌝ }
+    ensures { λ r. ⌜ Moves (nextMove Stageᴸ.declarations) token r ⌝ }
 {
     if is_mark(token, b'}') {
         return Move::to(TOP, Act::EndFunction);
@@ -256,13 +270,13 @@ fn declarations(token: Token) -> Move
 
 // A register's type.
 fn register_type(token: Token) -> Move
-    ensures { λ r. ⌜ Moves (gramOf Stageᴸ.registerType) token r ⌝ }
+    ensures { λ r. ⌜ Moves (nextMove Stageᴸ.registerType) token r ⌝ }
 {
     let Token::Word(w) = token else {
         return Move::wrong();
     };
     if is_type(w) {
-        let stage = Stage::new(REGISTER_NAME, 0, w - words::FIRST_TYPE);
+        let stage = Stage::new(REGISTER_NAME, 0, wide(w - words::FIRST_TYPE));
         return Move {
             stage,
             act: Act::Pass,
@@ -272,18 +286,18 @@ fn register_type(token: Token) -> Move
 }
 
 // A register's name.
-fn register_name(token: Token, detail: u8) -> Move
-    ensures { λ r. ⌜ Moves (gramOf (Stageᴸ.registerName detail)) token r ⌝ }
+fn register_name(token: Token, detail: u64) -> Move
+    ensures { λ r. ⌜ Moves (nextMove (Stageᴸ.registerName detail)) token r ⌝ }
 {
-    let Token::Name(n) = token else {
+    let Token::Name = token else {
         return Move::wrong();
     };
-    Move::to(REGISTER_END, Act::NameRegister(detail, n))
+    Move::to(REGISTER_END, Act::NameRegister(false, detail))
 }
 
 // "then blocks (`block`, `entry` or a name, `{`, one or more instructions, `}`), `}`"
 fn blocks(token: Token) -> Move
-    ensures { λ r. ⌜ Moves (gramOf Stageᴸ.blocks) token r ⌝ }
+    ensures { λ r. ⌜ Moves (nextMove Stageᴸ.blocks) token r ⌝ }
 {
     if is_mark(token, b'}') {
         return Move::to(TOP, Act::EndFunction);
@@ -291,40 +305,31 @@ fn blocks(token: Token) -> Move
     word(token, words::BLOCK, Move::to(BLOCK_NAME, Act::BeginBlock))
 }
 
-// A block's name by its length, 0 for `entry`, or no name.
-enum Named {
-    Bytes(usize),
-    Nothing,
-}
-
 // "`entry` or a name"
-fn block(token: Token) -> Named
-    ensures { λ r. ⌜ ((s : TokenSpot) (k : List ℕ → Moveᴸ) → namedMove s k r ≡ onBlock k (tokenOf s token)) ⌝ }
+fn names_block(token: Token) -> bool
+    ensures { λ r. ⌜ r ≡ namesBlock token ⌝ }
 {
-    if let Token::Name(n) = token {
-        return Named::Bytes(n);
+    if let Token::Name = token {
+        return true;
     }
     let Token::Word(w) = token else {
-        return Named::Nothing;
+        return false;
     };
-    if w == words::ENTRY {
-        return Named::Bytes(0);
-    }
-    Named::Nothing
+    w == words::ENTRY
 }
 
 // The name of the block that begins.
 fn block_name(token: Token) -> Move
-    ensures { λ r. ⌜ Moves (gramOf Stageᴸ.blockName) token r ⌝ }
+    ensures { λ r. ⌜ Moves (nextMove Stageᴸ.blockName) token r ⌝ }
 {
-    let Named::Bytes(n) = block(token) else {
-        return Move::wrong();
-    };
-    Move::to(BLOCK_BODY, Act::NameBlock(n))
+    if names_block(token) {
+        return Move::to(BLOCK_BODY, Act::NameBlock);
+    }
+    Move::wrong()
 }
 
 // What follows the sources: the operand, or the end.
-fn after_sources(operand: u8) -> Stage
+fn after_sources(operand: u64) -> Stage
     ensures { λ r. ⌜ stageIs r ≡ afterSources (operandFrom operand) ⌝ }
 {
     if operand == 0 {
@@ -334,7 +339,7 @@ fn after_sources(operand: u8) -> Stage
 }
 
 // What follows the instruction word: "Which of these must be present comes from the next section".
-fn after_word(sources: u8, operand: u8) -> Stage
+fn after_word(sources: u64, operand: u64) -> Stage
     ensures { λ r. ⌜ stageIs r ≡ sourcesᴸ sources (operandFrom operand) ⌝ }
 {
     if sources == 0 {
@@ -355,7 +360,7 @@ fn word_alone(w: u8) -> Move
     if shape.target {
         return Move::wrong();
     }
-    let stage = after_word(shape.sources, shape.operand);
+    let stage = after_word(wide(shape.sources), wide(shape.operand));
     Move {
         stage,
         act: Act::BeginInstruction(op),
@@ -372,7 +377,7 @@ fn word_with_target(w: u8) -> Move
     let op = w - words::FIRST_INSTRUCTION;
     let shape = shape_of(op);
     if shape.target {
-        let stage = after_word(shape.sources, shape.operand);
+        let stage = after_word(wide(shape.sources), wide(shape.operand));
         return Move {
             stage,
             act: Act::SetInstruction(op),
@@ -383,10 +388,10 @@ fn word_with_target(w: u8) -> Move
 
 // "An instruction is optional target and `=`, instruction word": its first token.
 fn first_instruction(token: Token) -> Move
-    ensures { λ r. ⌜ Moves (gramOf Stageᴸ.firstInstruction) token r ⌝ }
+    ensures { λ r. ⌜ Moves (nextMove Stageᴸ.firstInstruction) token r ⌝ }
 {
-    if let Token::Name(n) = token {
-        return Move::to(ASSIGNMENT, Act::SetTarget(n));
+    if let Token::Name = token {
+        return Move::to(ASSIGNMENT, Act::SetTarget);
     }
     let Token::Word(w) = token else {
         return Move::wrong();
@@ -395,7 +400,7 @@ fn first_instruction(token: Token) -> Move
 }
 
 // Whether the token ends the block at a stage of this kind: not before an instruction has stood in it.
-fn ends_block(kind: u8, token: Token) -> bool
+fn ends_block(kind: u64, token: Token) -> bool
     ensures { λ r. ⌜ r ≡ endsBlock kind token ⌝ }
 {
     if kind == NEXT_INSTRUCTION {
@@ -405,8 +410,8 @@ fn ends_block(kind: u8, token: Token) -> bool
 }
 
 // An instruction, or the end of the block.
-fn next_instruction(kind: u8, token: Token) -> Move
-    ensures { λ r. ⌜ Moves (gramOf (instructionAt kind)) token r ⌝ }
+fn next_instruction(kind: u64, token: Token) -> Move
+    ensures { λ r. ⌜ Moves (nextMove (instructionAt kind)) token r ⌝ }
 {
     if ends_block(kind, token) {
         return Move::to(BLOCKS, Act::EndBlock);
@@ -416,7 +421,7 @@ fn next_instruction(kind: u8, token: Token) -> Move
 
 // The instruction word after its target.
 fn instruction(token: Token) -> Move
-    ensures { λ r. ⌜ Moves (gramOf Stageᴸ.instruction) token r ⌝ }
+    ensures { λ r. ⌜ Moves (nextMove Stageᴸ.instruction) token r ⌝ }
 {
     let Token::Word(w) = token else {
         return Move::wrong();
@@ -425,7 +430,7 @@ fn instruction(token: Token) -> Move
 }
 
 // What follows a source: a comma and so many more, or the rest.
-fn after_source(more: u8, operand: u8) -> Stage
+fn after_source(more: u64, operand: u64) -> Stage
     ensures { λ r. ⌜ stageIs r ≡ afterSource more (operandFrom operand) ⌝ }
 {
     if more == 0 {
@@ -435,22 +440,22 @@ fn after_source(more: u8, operand: u8) -> Stage
 }
 
 // "source registers parted by commas"
-fn source(token: Token, more: u8, operand: u8) -> Move
-    ensures { λ r. ⌜ Moves (gramOf (Stageᴸ.source more (operandFrom operand))) token r ⌝ }
+fn source(token: Token, more: u64, operand: u64) -> Move
+    ensures { λ r. ⌜ Moves (nextMove (Stageᴸ.source more (operandFrom operand))) token r ⌝ }
 {
-    let Token::Name(n) = token else {
+    let Token::Name = token else {
         return Move::wrong();
     };
     let stage = after_source(more, operand);
     Move {
         stage,
-        act: Act::AddSource(n),
+        act: Act::AddSource,
     }
 }
 
 // The comma before a source.
-fn source_comma(token: Token, more: u8, operand: u8) -> Move
-    ensures { λ r. ⌜ Moves (gramOf (Stageᴸ.sourceComma more (operandFrom operand))) token r ⌝ }
+fn source_comma(token: Token, more: u64, operand: u64) -> Move
+    ensures { λ r. ⌜ Moves (nextMove (Stageᴸ.sourceComma more (operandFrom operand))) token r ⌝ }
 {
     let stage = Stage::new(SOURCE, more, operand);
     let act = Act::Pass;
@@ -458,11 +463,10 @@ fn source_comma(token: Token, more: u8, operand: u8) -> Move
 }
 
 // "optional operand in parentheses": what the parenthesis opens.
-fn in_operand(operand: u8) -> Stage
-    ensures { λ r. ⌜ stageIs r ≡ inOperand (operandFrom operand) ⌝ }
+fn in_operand(operand: u64) -> Stage
+    ensures { λ r. ⌜ stageIs r ≡ inOperand (bracketedFrom operand) ⌝ }
 {
     match operand {
-        0 => Stage::new(OPERAND_END, 0, 0),
         1 => Stage::new(NUMBER, 0, 0),
         2 => Stage::new(ENTRY, 0, 0),
         3 => Stage::new(MENTION, 0, 0),
@@ -471,8 +475,8 @@ fn in_operand(operand: u8) -> Stage
 }
 
 // The parenthesis before the operand.
-fn operand(token: Token, detail: u8) -> Move
-    ensures { λ r. ⌜ Moves (gramOf (Stageᴸ.operand (operandFrom detail))) token r ⌝ }
+fn operand(token: Token, detail: u64) -> Move
+    ensures { λ r. ⌜ Moves (nextMove (Stageᴸ.operand (bracketedFrom detail))) token r ⌝ }
 {
     let stage = in_operand(detail);
     let act = Act::Pass;
@@ -481,7 +485,7 @@ fn operand(token: Token, detail: u8) -> Move
 
 // The operand that is a number.
 fn number(token: Token) -> Move
-    ensures { λ r. ⌜ Moves (gramOf Stageᴸ.number) token r ⌝ }
+    ensures { λ r. ⌜ Moves (nextMove Stageᴸ.number) token r ⌝ }
 {
     let Token::Number(negative, value, over) = token else {
         return Move::wrong();
@@ -491,17 +495,17 @@ fn number(token: Token) -> Move
 
 // A register in the list of a phi.
 fn entry(token: Token) -> Move
-    ensures { λ r. ⌜ Moves (gramOf Stageᴸ.entry) token r ⌝ }
+    ensures { λ r. ⌜ Moves (nextMove Stageᴸ.entry) token r ⌝ }
 {
-    let Token::Name(n) = token else {
+    let Token::Name = token else {
         return Move::wrong();
     };
-    Move::to(ENTRY_END, Act::AddEntry(n))
+    Move::to(ENTRY_END, Act::AddEntry)
 }
 
 // A comma or the closing parenthesis of that list.
 fn entry_end(token: Token) -> Move
-    ensures { λ r. ⌜ Moves (gramOf Stageᴸ.entryEnd) token r ⌝ }
+    ensures { λ r. ⌜ Moves (nextMove Stageᴸ.entryEnd) token r ⌝ }
 {
     if is_mark(token, b',') {
         return Move::to(ENTRY, Act::Pass);
@@ -510,7 +514,7 @@ fn entry_end(token: Token) -> Move
 }
 
 // What follows a block: a comma and so many more, or the closing parenthesis.
-fn after_mention(more: u8) -> Stage
+fn after_mention(more: u64) -> Stage
     ensures { λ r. ⌜ stageIs r ≡ afterMention more ⌝ }
 {
     if more == 0 {
@@ -520,31 +524,38 @@ fn after_mention(more: u8) -> Stage
 }
 
 // A block that the operand names.
-fn mention(token: Token, more: u8) -> Move
-    ensures { λ r. ⌜ Moves (gramOf (Stageᴸ.mention more)) token r ⌝ }
+fn mention(token: Token, more: u64) -> Move
+    ensures { λ r. ⌜ Moves (nextMove (Stageᴸ.mention more)) token r ⌝ }
 {
-    let Named::Bytes(n) = block(token) else {
-        return Move::wrong();
-    };
-    let stage = after_mention(more);
-    Move {
-        stage,
-        act: Act::AddMention(n),
+    if names_block(token) {
+        let stage = after_mention(more);
+        return Move {
+            stage,
+            act: Act::AddMention,
+        };
     }
+    Move::wrong()
 }
 
 // The comma before a block.
-fn mention_comma(token: Token, more: u8) -> Move
-    ensures { λ r. ⌜ Moves (gramOf (Stageᴸ.mentionComma more)) token r ⌝ }
+fn mention_comma(token: Token, more: u64) -> Move
+    ensures { λ r. ⌜ Moves (nextMove (Stageᴸ.mentionComma more)) token r ⌝ }
 {
     let stage = Stage::new(MENTION, more, 0);
     let act = Act::Pass;
     mark(token, b',', Move { stage, act })
 }
 
+// Whether a stage is between two functions, where alone a text may end.
+pub fn is_top(stage: Stage) -> bool
+    ensures { λ r. ⌜ r ≡ isTop (stageIs stage) ⌝ }
+{
+    stage.kind == TOP
+}
+
 // The stage that comes after a token, and what is to be done about the token.
-pub fn gram(stage: Stage, token: Token) -> Move
-    ensures { λ r. ⌜ Moves (gramOf (stageIs stage)) token r ⌝ }
+pub fn next_move(stage: Stage, token: Token) -> Move
+    ensures { λ r. ⌜ Moves (nextMove (stageIs stage)) token r ⌝ }
 {
     let kind = stage.kind;
     let more = stage.more;

@@ -1,11 +1,10 @@
--- A text read into a table, and one read for an output that has no room for a table. Assumes nothing.
+-- A text read into a table, and one read for an output of another length than a table's. Assumes nothing.
 use mathlib.Core.Path.{_≡_}
 use mathlib.Core.List.{List}
 use Prim.Native.Nat.{ℕ}
 use Rattle.language.specs.Programs.{Program}
 use Rattle.language.specs.Table.{tableLength, cells}
 use Rattle.language.specs.Reading.{Reading}
-use Rattle.language.specs.Checking.{Verdict as Verdictᴸ}
 use Rattle.language.specs.Answers.{filledFrom, zeros}
 use Rattle.answers.specs.declared.Verdict.{Verdict}
 use Rattle.answers.specs.declared.Verdict.the-variants as verdicts
@@ -16,11 +15,6 @@ pub data Into (t : List ℕ) : Reading → Verdict → Type 0 where
   refused : (n p : ℕ) → Into t (Reading.refused n p) (verdicts.Refused n p)
   program : (p : Program) → t ≡ cells p → Into t (Reading.program p) verdicts.Accepted
 
--- The answer for an output of n cells, which is another length than a table's.
+-- The answer for an output of n cells, which is another length than a table's: "reading gives 22 last".
 abbrev pub Aside : Reading → Verdict → Type 0
 Aside x r = (n : ℕ) → (n ≡ tableLength → ⊥) → filledOf r (zeros n) ≡ filledFrom n x
-
--- What the answer of a text becomes where the output has another length than a table's: "reading gives 22 last".
-abbrev pub otherLength : Verdictᴸ → Verdictᴸ
-otherLength Verdictᴸ.accepted = Verdictᴸ.refused 22 0
-otherLength (Verdictᴸ.refused n p) = Verdictᴸ.refused n p

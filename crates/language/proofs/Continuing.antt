@@ -9,7 +9,7 @@ use Rattle.language.specs.Bytes.{bytesOf, leftParen, rightParen, leftBra
 use Rattle.language.specs.Words.{voidWord, firstType, firstInstruction}
 use Rattle.language.specs.Instructions.{Operand, formOf}
 use Rattle.language.specs.Tokens.{Token}
-use Rattle.language.specs.Grammar.{Stage, Act, afterSources, afterWord, inOperand, wordWithTarget, wordAlone, gram}
+use Rattle.language.specs.Grammar.{Bracketed, Stage, Act, afterSources, afterWord, inOperand, wordWithTarget, wordAlone, nextMove}
 use Rattle.language.specs.Refusals.{Leads, EveryStageLeads}
 
 clash : _≡_ {A = ℕ} 0 1 → ⊥
@@ -51,133 +51,132 @@ abbrev Leading : Stage → Type 0
 Leading s = (ts : List Token) × Leads s ts
 
 -- One token more, before those that lead on from the stage it leads to.
-by-mark : (s : Stage) (b : ℕ) → ¬ (gram s (Token.mark b) .act ≡ Act.wrong) → Leading (gram s (Token.mark b) .stage) → Leading s
+by-mark : (s : Stage) (b : ℕ) → ¬ (nextMove s (Token.mark b) .act ≡ Act.wrong) → Leading (nextMove s (Token.mark b) .stage) → Leading s
 by-mark s b w h = (Token.mark b ∷ h .0, Leads.token (λ (e : Token.mark b ≡ Token.end). clash cc) w (h .1))
 
-by-word : (s : Stage) (n : ℕ) → ¬ (gram s (Token.word n) .act ≡ Act.wrong) → Leading (gram s (Token.word n) .stage) → Leading s
+by-word : (s : Stage) (n : ℕ) → ¬ (nextMove s (Token.word n) .act ≡ Act.wrong) → Leading (nextMove s (Token.word n) .stage) → Leading s
 by-word s n w h = (Token.word n ∷ h .0, Leads.token (λ (e : Token.word n ≡ Token.end). clash cc) w (h .1))
 
 abbrev aName : List ℕ
 aName = bytesOf "a"
 
-by-name : (s : Stage) → ¬ (gram s (Token.name aName) .act ≡ Act.wrong) → Leading (gram s (Token.name aName) .stage) → Leading s
+by-name : (s : Stage) → ¬ (nextMove s (Token.name aName) .act ≡ Act.wrong) → Leading (nextMove s (Token.name aName) .stage) → Leading s
 by-name s w h = (Token.name aName ∷ h .0, Leads.token (λ (e : Token.name aName ≡ Token.end). clash cc) w (h .1))
 
-by-number : (s : Stage) → ¬ (gram s (Token.number false 0) .act ≡ Act.wrong) → Leading (gram s (Token.number false 0) .stage) → Leading s
+by-number : (s : Stage) → ¬ (nextMove s (Token.number false 0) .act ≡ Act.wrong) → Leading (nextMove s (Token.number false 0) .stage) → Leading s
 by-number s w h = (Token.number false 0 ∷ h .0, Leads.token (λ (e : Token.number false 0 ≡ Token.end). clash cc) w (h .1))
 
 lead-top : Leading Stage.top
 lead-top = (Token.end ∷ [], Leads.end)
 
 lead-blocks : Leading Stage.blocks
-unfolding gram
+unfolding nextMove
 lead-blocks = by-mark Stage.blocks rightBrace (λ e. clash cc) lead-top
 
 lead-next : Leading Stage.nextInstruction
-unfolding gram
+unfolding nextMove
 lead-next = by-mark Stage.nextInstruction rightBrace (λ e. clash cc) lead-blocks
 
 lead-end : Leading Stage.instructionEnd
-unfolding gram
+unfolding nextMove
 lead-end = by-mark Stage.instructionEnd semicolon (λ e. clash cc) lead-next
 
 lead-operandEnd : Leading Stage.operandEnd
-unfolding gram
+unfolding nextMove
 lead-operandEnd = by-mark Stage.operandEnd rightParen (λ e. clash cc) lead-end
 
 lead-number : Leading Stage.number
-unfolding gram
+unfolding nextMove
 lead-number = by-number Stage.number (λ e. clash cc) lead-operandEnd
 
 lead-entryEnd : Leading Stage.entryEnd
-unfolding gram
+unfolding nextMove
 lead-entryEnd = by-mark Stage.entryEnd rightParen (λ e. clash cc) lead-end
 
 lead-entry : Leading Stage.entry
-unfolding gram
+unfolding nextMove
 lead-entry = by-name Stage.entry (λ e. clash cc) lead-entryEnd
 
 lead-mention : (k : ℕ) → Leading (Stage.mention k)
-unfolding gram
+unfolding nextMove
 lead-mention zero = by-name (Stage.mention zero) (λ e. clash cc) lead-operandEnd
 lead-mention (suc k) =
     by-name (Stage.mention (suc k)) (λ e. clash cc) (by-mark (Stage.mentionComma k) comma (λ e. clash cc) (lead-mention k))
 
-lead-inOperand : (o : Operand) → Leading (inOperand o)
-lead-inOperand Operand.none = lead-operandEnd
-lead-inOperand Operand.number = lead-number
-lead-inOperand Operand.registers = lead-entry
-lead-inOperand Operand.block = lead-mention 0
-lead-inOperand Operand.blocks = lead-mention 1
+lead-inOperand : (o : Bracketed) → Leading (inOperand o)
+lead-inOperand Bracketed.number = lead-number
+lead-inOperand Bracketed.registers = lead-entry
+lead-inOperand Bracketed.block = lead-mention 0
+lead-inOperand Bracketed.blocks = lead-mention 1
 
-lead-operand : (o : Operand) → Leading (Stage.operand o)
-unfolding gram
+lead-operand : (o : Bracketed) → Leading (Stage.operand o)
+unfolding nextMove
 lead-operand o = by-mark (Stage.operand o) leftParen (λ e. clash cc) (lead-inOperand o)
 
 lead-afterSources : (o : Operand) → Leading (afterSources o)
 lead-afterSources Operand.none = lead-end
-lead-afterSources Operand.number = lead-operand Operand.number
-lead-afterSources Operand.registers = lead-operand Operand.registers
-lead-afterSources Operand.block = lead-operand Operand.block
-lead-afterSources Operand.blocks = lead-operand Operand.blocks
+lead-afterSources Operand.number = lead-operand Bracketed.number
+lead-afterSources Operand.registers = lead-operand Bracketed.registers
+lead-afterSources Operand.block = lead-operand Bracketed.block
+lead-afterSources Operand.blocks = lead-operand Bracketed.blocks
 
 lead-source : (k : ℕ) (o : Operand) → Leading (Stage.source k o)
-unfolding gram
+unfolding nextMove
 lead-source zero o = by-name (Stage.source zero o) (λ e. clash cc) (lead-afterSources o)
 lead-source (suc k) o =
     by-name (Stage.source (suc k) o) (λ e. clash cc) (by-mark (Stage.sourceComma k o) comma (λ e. clash cc) (lead-source k o))
 
 -- `load.i8`, and `nop`.
 lead-instruction : Leading Stage.instruction
-unfolding gram wordWithTarget afterWord formOf
-lead-instruction = by-word Stage.instruction (firstInstruction + 1) (λ e. clash cc) (lead-operand Operand.number)
+unfolding nextMove wordWithTarget afterWord formOf
+lead-instruction = by-word Stage.instruction (firstInstruction + 1) (λ e. clash cc) (lead-operand Bracketed.number)
 
 lead-firstInstruction : Leading Stage.firstInstruction
-unfolding gram wordAlone afterWord formOf
+unfolding nextMove wordAlone afterWord formOf
 lead-firstInstruction = by-word Stage.firstInstruction firstInstruction (λ e. clash cc) lead-end
 
 lead-blockBody : Leading Stage.blockBody
-unfolding gram
+unfolding nextMove
 lead-blockBody = by-mark Stage.blockBody leftBrace (λ e. clash cc) lead-firstInstruction
 
 lead-declarations : Leading Stage.declarations
-unfolding gram
+unfolding nextMove
 lead-declarations = by-mark Stage.declarations rightBrace (λ e. clash cc) lead-top
 
 lead-registerEnd : Leading Stage.registerEnd
-unfolding gram
+unfolding nextMove
 lead-registerEnd = by-mark Stage.registerEnd semicolon (λ e. clash cc) lead-declarations
 
 lead-registerName : (t : ℕ) → Leading (Stage.registerName t)
-unfolding gram
+unfolding nextMove
 lead-registerName t = by-name (Stage.registerName t) (λ e. clash cc) lead-registerEnd
 
 lead-body : Leading Stage.body
-unfolding gram
+unfolding nextMove
 lead-body = by-mark Stage.body leftBrace (λ e. clash cc) lead-declarations
 
 lead-parameterEnd : Leading Stage.parameterEnd
-unfolding gram
+unfolding nextMove
 lead-parameterEnd = by-mark Stage.parameterEnd rightParen (λ e. clash cc) lead-body
 
 lead-parameterName : (t : ℕ) → Leading (Stage.parameterName t)
-unfolding gram
+unfolding nextMove
 lead-parameterName t = by-name (Stage.parameterName t) (λ e. clash cc) lead-parameterEnd
 
 lead-firstParameter : Leading Stage.firstParameter
-unfolding gram
+unfolding nextMove
 lead-firstParameter = by-mark Stage.firstParameter rightParen (λ e. clash cc) lead-body
 
 lead-parameters : Leading Stage.parameters
-unfolding gram
+unfolding nextMove
 lead-parameters = by-mark Stage.parameters leftParen (λ e. clash cc) lead-firstParameter
 
 lead-functionName : Leading Stage.functionName
-unfolding gram
+unfolding nextMove
 lead-functionName = by-name Stage.functionName (λ e. clash cc) lead-parameters
 
 pub every-stage-leads : EveryStageLeads
-unfolding EveryStageLeads gram
+unfolding EveryStageLeads nextMove
 every-stage-leads Stage.top = lead-top
 every-stage-leads Stage.header = by-word Stage.header voidWord (λ e. clash cc) lead-functionName
 every-stage-leads Stage.result = by-word Stage.result voidWord (λ e. clash cc) lead-functionName
@@ -213,8 +212,8 @@ every-stage-leads Stage.instructionEnd = lead-end
 -- ---- tokens that are allowed
 
 -- The end is allowed between functions alone.
-end-at-top : (s : Stage) → ¬ (gram s Token.end .act ≡ Act.wrong) → Leads s (Token.end ∷ [])
-unfolding gram
+end-at-top : (s : Stage) → ¬ (nextMove s Token.end .act ≡ Act.wrong) → Leads s (Token.end ∷ [])
+unfolding nextMove
 end-at-top Stage.top w = Leads.end
 end-at-top Stage.header w = absurd (w refl)
 end-at-top Stage.result w = absurd (w refl)
@@ -248,15 +247,15 @@ end-at-top Stage.operandEnd w = absurd (w refl)
 end-at-top Stage.instructionEnd w = absurd (w refl)
 
 -- A token that is allowed can be continued, and only such a one.
-pub allowed-leads : (s : Stage) (t : Token) → ¬ (gram s t .act ≡ Act.wrong) → (ts : List Token) × Leads s (t ∷ ts)
+pub allowed-leads : (s : Stage) (t : Token) → ¬ (nextMove s t .act ≡ Act.wrong) → (ts : List Token) × Leads s (t ∷ ts)
 unfolding EveryStageLeads
 allowed-leads s t w = by (end? t)
   where
     by : Dec (t ≡ Token.end) → (ts : List Token) × Leads s (t ∷ ts)
     by (yes e) = ([], rw e (end-at-top s (rw e at w)))
-    by (no e) = let h = every-stage-leads (gram s t .stage) in (h .0, Leads.token e w (h .1))
+    by (no e) = let h = every-stage-leads (nextMove s t .stage) in (h .0, Leads.token e w (h .1))
 
-pub leads-allowed : {s : Stage} {t : Token} {ts : List Token} → Leads s (t ∷ ts) → ¬ (gram s t .act ≡ Act.wrong)
-unfolding gram
+pub leads-allowed : {s : Stage} {t : Token} {ts : List Token} → Leads s (t ∷ ts) → ¬ (nextMove s t .act ≡ Act.wrong)
+unfolding nextMove
 leads-allowed Leads.end = λ e. clash cc
 leads-allowed (Leads.token n w h) = w

@@ -7,15 +7,15 @@ use native.Mathlib.Omega.{arith}
 use native.Mathlib.Decide.{decLt}
 use lib.ListN.{length}
 use Rattle.language.specs.Programs.{maxText}
-use Rattle.language.specs.Tokens.{Token, Found, tokensOf}
-use Rattle.language.specs.Grammar.{Stage, gram}
+use Rattle.language.specs.Tokens.{TextPlace, Token, Found, tokensOf}
+use Rattle.language.specs.Grammar.{Stage, nextMove}
 use Rattle.language.specs.Reading.{Draft, ActOutcome, Parse, Reading, performAct, afterAct, takeToken, parse₀, finish, read}
 use Rattle.language.specs.Refusals.{Reaches}
 use Rattle.language.proofs.ReadingLaws.{refusal-stands, read-by-tokens}
 use Rattle.language.proofs.SizeFacts.{text-too-long}
 
 -- Of what is found after a parse, the first that is refused.
-record Refused (x : Parse) (found : List Found) (n p : ℕ) : Type 0 where
+record Refused (x : Parse) (found : List Found) (n : ℕ) (p : TextPlace) : Type 0 where
   before : List Found
   first : Found
   after : List Found
@@ -25,10 +25,10 @@ record Refused (x : Parse) (found : List Found) (n p : ℕ) : Type 0 where
   stands : foldl takeToken x before ≡ Parse.reading stage draft
   refused : takeToken (Parse.reading stage draft) first ≡ Parse.refused n p
 
-reading-not-refused : {s : Stage} {d : Draft} {n p : ℕ} → Parse.reading s d ≡ Parse.refused n p → ⊥
+reading-not-refused : {s : Stage} {d : Draft} {n : ℕ} {p : TextPlace} → Parse.reading s d ≡ Parse.refused n p → ⊥
 reading-not-refused e = let z : _≡_ {A = ℕ} 0 1 = cc in omega arith
 
-first-refused : (s : Stage) (d : Draft) (found : List Found) (n p : ℕ) → foldl takeToken (Parse.reading s d) found ≡ Parse.refused n p → Refused (Parse.reading s d) found n p
+first-refused : (s : Stage) (d : Draft) (found : List Found) (n : ℕ) (p : TextPlace) → foldl takeToken (Parse.reading s d) found ≡ Parse.refused n p → Refused (Parse.reading s d) found n p
 first-refused s d [] n p e = absurd (reading-not-refused e)
 first-refused s d (f ∷ fs) n p e = by (takeToken (Parse.reading s d) f) refl e (λ s d. first-refused s d fs n p)
   where
@@ -57,25 +57,25 @@ first-refused s d (f ∷ fs) n p e = by (takeToken (Parse.reading s d) f) refl e
           refused = r .refused;
         }
 
-finish-refused : (x : Parse) {n p : ℕ} → finish x ≡ Reading.refused n p → x ≡ Parse.refused n p
+finish-refused : (x : Parse) {n : ℕ} {p : TextPlace} → finish x ≡ Reading.refused n p → x ≡ Parse.refused n p
 finish-refused (Parse.refused m q) e = cc
 finish-refused (Parse.reading s d) e = absurd (let z : _≡_ {A = ℕ} 0 1 = cc in omega arith)
 
-onward-refused : (s : Stage) (o : ActOutcome) {n p : ℕ} → afterAct s o ≡ Parse.refused n p → o ≡ ActOutcome.refuse n p
+onward-refused : (s : Stage) (o : ActOutcome) {n : ℕ} {p : TextPlace} → afterAct s o ≡ Parse.refused n p → o ≡ ActOutcome.refuse n p
 onward-refused s (ActOutcome.refuse m q) e = cc
 onward-refused s (ActOutcome.proceed d) e = absurd (reading-not-refused e)
 
 -- The token whose act refuses.
-pub record By (text : List ℕ) (n p : ℕ) : Type 0 where
-  pub place : ℕ
+pub record By (text : List ℕ) (n : ℕ) (p : TextPlace) : Type 0 where
+  pub place : TextPlace
   pub stage : Stage
   pub draft : Draft
   pub token : Token
   pub reached : Reaches text place stage draft token
-  pub refuses : performAct (gram stage token .act) place draft ≡ ActOutcome.refuse n p
+  pub refuses : performAct (nextMove stage token .act) place draft ≡ ActOutcome.refuse n p
 
 -- an answer other than 1 and 2 is given by an act
-pub refused-by : (text : List ℕ) (n p : ℕ) → 2 < n → read text ≡ Reading.refused n p → By text n p
+pub refused-by : (text : List ℕ) (n : ℕ) (p : TextPlace) → 2 < n → read text ≡ Reading.refused n p → By text n p
 unfolding takeToken
 refused-by text n p l e = by (decLt maxText (length text))
   where
@@ -87,7 +87,7 @@ refused-by text n p l e = by (decLt maxText (length text))
           draft = r .draft;
           token = t;
           reached = record { short = h; before = r .before; after = r .after; found = rw k at (r .split); stands = r .stands };
-          refuses = onward-refused (gram (r .stage) t .stage) _ (rw k at (r .refused));
+          refuses = onward-refused (nextMove (r .stage) t .stage) _ (rw k at (r .refused));
         }
     of h r (Found.stray q) k =
         let z : Parse.refused 2 q ≡ Parse.refused n p = rw k at (r .refused) in
@@ -103,7 +103,7 @@ refused-by text n p l e = by (decLt maxText (length text))
         of m r (r .first) refl
 
 -- an act that refuses a token gives the text's answer
-pub refuses-text : {text : List ℕ} {p : ℕ} {s : Stage} {d : Draft} {t : Token} {n : ℕ} → Reaches text p s d t → performAct (gram s t .act) p d ≡ ActOutcome.refuse n p → read text ≡ Reading.refused n p
+pub refuses-text : {text : List ℕ} {p : TextPlace} {s : Stage} {d : Draft} {t : Token} {n : ℕ} → Reaches text p s d t → performAct (nextMove s t .act) p d ≡ ActOutcome.refuse n p → read text ≡ Reading.refused n p
 unfolding takeToken
 refuses-text {text} {p} {s} {d} {t} {n} r e =
     read-by-tokens text (r .short)

@@ -17,7 +17,7 @@ use Rattle.language.specs.Bytes.{Class, classOf, nameByte, digitByte, he
 use Rattle.language.specs.Words.{words, wordOf, wordCount}
 use Rattle.language.specs.Names.{Spelling, spell, nextSpelled, firstSpelled, insideQuotes, whole, spelled}
 use Rattle.language.specs.Programs.{maxName}
-use Rattle.language.specs.Tokens.{Token, Found, token, stray, Mode, Lexer, Lexed, lexer₀, quiet, finds, begun, longerName, spoils, digitMode, begin, beginAs, nameOrWord, ended, endedAs, ends, extends, quotes, closes, endsNumber, decimalDigit, hexadecimalDigit, stepAs, lexStep, lexEnd, lexMore, tokensOf}
+use Rattle.language.specs.Tokens.{Token, Found, token, stray, Mode, Lexer, Lexed, lexer₀, quiet, finds, begun, longerName, spoils, digitMode, begin, beginAs, nameOrWord, ended, endedAs, ends, extends, quotes, closes, endsNumber, decimalDigit, hexadecimalDigit, stepAs, lexStep, lexEnd, lexMore, tokensFrom, tokensOf}
 
 -- What is found is no name, or one that is spelled.
 abbrev pub isSpelled : Found → Bool
@@ -290,7 +290,7 @@ text-good (b ∷ bs) x h g = text-good bs (lexMore x b) (h .1) (more-good x b (h
 
 -- every name found in a text is one that a text can spell
 pub names-spelled : (text : List ℕ) → Bytes text → T (all isSpelled (tokensOf text))
-unfolding tokensOf lexEnd ended
+unfolding tokensFrom tokensOf lexEnd ended
 names-spelled text h =
     let x = foldl lexMore (quiet lexer₀) text in
     let g = text-good text (quiet lexer₀) h (record { names = tt; keeps = tt }) in

@@ -9,14 +9,14 @@ use Rattle.laws.specs.Lists.{gather, all, below}
 use Rattle.language.specs.Bytes.{bytesOf}
 use Rattle.language.specs.Instructions.{typeCount, instructionCount, formOf, loadType, width, signed}
 use Rattle.language.specs.Programs.{Row, Register, Block, Func, opOf, rowsOf, entryCount}
-use Rattle.language.specs.Grammar.{gram, afterWord, wordWithTarget, wordAlone}
-use Rattle.language.specs.Reading.{Reading, read, readEnd, readByte, takeToken, performAct, beginFunction, markSsa, setResult, nameFunction, beginRegister, nameRegister, beginBlock, nameBlock, endBlock, beginInstruction, setTarget, setInstruction, addSource, addEntry, addMention, numberInRange, bitsOf, setNumber, rowOf, endInstruction, resolve, undeclared, endFunction, functionNumber, registerNumber, blockNumber, draftRows, phiEntries}
+use Rattle.language.specs.Grammar.{nextMove, afterWord, wordWithTarget, wordAlone}
+use Rattle.language.specs.Reading.{Reading, read, readEnd, readByte, takeToken, performAct, beginFunction, markSsa, setResult, nameFunction, beginRegister, nameRegister, beginBlock, nameBlock, endBlock, beginInstruction, setTarget, setInstruction, addSource, addEntry, addMention, numberInRange, bitsOf, setNumber, rowOf, endInstruction, resolve, undeclared, endFunction, functionNumber, registerNumber, blockNumber, openRows, draftRows, phiEntries}
 use Rattle.language.specs.Listing.{listingOf, functionLine, line, digits}
 use Rattle.language.proofs.TokenFacts.{lexing}
 
 -- All that reading and the listing are made of, to be opened by one name.
 unfoldable pub reads : Unit {0}
-unfolding lexing read readEnd readByte takeToken performAct beginFunction markSsa setResult nameFunction beginRegister nameRegister beginBlock nameBlock endBlock beginInstruction setTarget setInstruction addSource addEntry addMention numberInRange bitsOf setNumber rowOf endInstruction resolve undeclared endFunction functionNumber registerNumber blockNumber draftRows phiEntries gram afterWord wordWithTarget wordAlone formOf loadType width signed rowsOf entryCount listingOf functionLine line digits
+unfolding lexing read readEnd readByte takeToken performAct beginFunction markSsa setResult nameFunction beginRegister nameRegister beginBlock nameBlock endBlock beginInstruction setTarget setInstruction addSource addEntry addMention numberInRange bitsOf setNumber rowOf endInstruction resolve undeclared endFunction functionNumber registerNumber blockNumber openRows draftRows phiEntries nextMove afterWord wordWithTarget wordAlone formOf loadType width signed rowsOf entryCount listingOf functionLine line digits
 reads = tt
 
 -- A text by its lines.

@@ -5,11 +5,11 @@ use Prim.Native.Nat.{ℕ, _≤_}
 use lib.ListN.{length}
 use borrow.Author.Tests.{le-ltb}
 use Rattle.language.specs.Programs.{maxText}
-use Rattle.language.specs.Tokens.{Found, Lexed, quiet, lexer₀, lexMore, tokensOf}
+use Rattle.language.specs.Tokens.{TextPlace, Found, Lexed, quiet, lexer₀, lexMore, tokensFrom, tokensOf}
 use Rattle.language.specs.Reading.{Parse, Reader, takeToken, parse₀, readByte, finish, readEnd, read}
 
 -- once refused, a reading stays refused
-pub refusal-stands : (n p : ℕ) (found : List Found) → foldl takeToken (Parse.refused n p) found ≡ Parse.refused n p
+pub refusal-stands : (n : ℕ) (p : TextPlace) (found : List Found) → foldl takeToken (Parse.refused n p) found ≡ Parse.refused n p
 unfolding takeToken
 refusal-stands n p [] = refl
 refusal-stands n p (f ∷ fs) = refusal-stands n p fs
@@ -25,7 +25,7 @@ reads-found (b ∷ bs) x = rw (← foldl-append) (reads-found bs (lexMore x b))
 
 -- a text that is not too long means what its tokens, taken one by one, come to
 pub read-by-tokens : (text : List ℕ) → length text ≤ maxText → read text ≡ finish (foldl takeToken parse₀ (tokensOf text))
-unfolding read readEnd tokensOf
+unfolding read readEnd tokensFrom tokensOf
 read-by-tokens text h =
     rw (le-ltb maxText (length text) h, reads-found text (quiet lexer₀), foldl-append)
 

@@ -17,7 +17,7 @@ use Rattle.language.specs.Bytes.{Class, classOf, nameByte, quoteByte, ba
 use Rattle.language.specs.Words.{wordOf, wordCount}
 use Rattle.language.specs.Names.{Spelling, spell, nextSpelled, firstSpelled, insideQuotes, whole, spelled}
 use Rattle.language.specs.Programs.{maxName}
-use Rattle.language.specs.Tokens.{Token, Found, token, Mode, Lexed, lexer₀, quiet, finds, begun, begin, beginAs, nameOrWord, ended, extends, quotes, closes, lexStep, lexEnd, lexMore, tokensOf}
+use Rattle.language.specs.Tokens.{Token, Found, token, Mode, Lexed, lexer₀, quiet, finds, begun, begin, beginAs, nameOrWord, ended, extends, quotes, closes, lexStep, lexEnd, lexMore, tokensFrom, tokensOf}
 use Rattle.language.proofs.NameLaws.{isSpelled, names-spelled}
 
 -- A name's bytes so far, open in this mode.
@@ -222,7 +222,7 @@ whole-right Spelling.closed w = tt
 whole-right Spelling.wrong w = w
 
 spelled-found : (n : List ℕ) → T (spelled n) → tokensOf n ≡ alone n
-unfolding spelled tokensOf
+unfolding spelled tokensFrom tokensOf
 spelled-found [] h = absurd h
 spelled-found (b ∷ bs) h =
     let n = b ∷ bs in

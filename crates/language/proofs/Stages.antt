@@ -1,88 +1,16 @@
--- What a stage of the grammar has begun, and what an act begins or puts down: every move of the grammar keeps count.
+-- What an act begins or puts down: every move of the grammar keeps count of what its stage has begun.
 -- Assumes nothing.
 use mathlib.Core.Bool.{Bool, true, false, cond, not, _&&_}
 use mathlib.Core.List.{List, []}
 use mathlib.Core.Path.{_≡_, refl}
-use Prim.Native.Nat.{ℕ, zero, suc, _≤_}
-use lib.Dec.{eqb, lit≤}
+use Prim.Native.Nat.{ℕ, zero, suc}
+use lib.Dec.{eqb}
 use Rattle.language.specs.Bytes.{leftParen, rightParen, leftBrace, rightBrace, comma, semicolon, equals}
 use Rattle.language.specs.Words.{isType, typeOf, isInstruction, instructionOf, functionWord, ssaWord, voidWord, registerWord, blockWord, entryWord}
 use Rattle.language.specs.Instructions.{Operand, formOf, hasTarget, sourceCount, operandOf}
 use Rattle.language.specs.Tokens.{Token}
-use Rattle.language.specs.Grammar.{Stage, Act, Move, to, wrongMove, onWord, onName, onNumber, onBlock, onMarkOr, onMark, onEndOr, isWordOr, isWord, aType, aResult, afterSources, afterSource, afterMention, sources, afterWord, inOperand, wordWithTarget, wordAlone, anInstruction, gram}
-
--- ---- what a stage has begun
-
--- How many functions, registers, blocks and rows are begun and not yet put down, and how many blocks the instruction in hand
--- may mention yet; `body` is 0 where the block in hand has no rows.
-pub record Begun : Type 0 where
-  pub functions : ℕ
-  pub registers : ℕ
-  pub blocks : ℕ
-  pub body : ℕ
-  pub rows : ℕ
-  pub mentions : ℕ
-
-abbrev pub begun : (functions registers blocks body rows mentions : ℕ) → Begun
-begun f r b y i m = record { functions = f; registers = r; blocks = b; body = y; rows = i; mentions = m }
-
-abbrev pub outside : Begun
-outside = begun 0 0 0 0 0 0
-
-abbrev pub inFunction : Begun
-inFunction = begun 1 0 0 0 0 0
-
-abbrev pub inRegister : Begun
-inRegister = begun 1 1 0 0 0 0
-
-abbrev pub atBlock : Begun
-atBlock = begun 1 0 1 0 0 0
-
-abbrev pub inBlock : Begun
-inBlock = begun 1 0 1 1 0 0
-
-abbrev pub inRow : ℕ → Begun
-inRow m = begun 1 0 1 1 1 m
-
-abbrev mentionsIn : Operand → ℕ
-mentionsIn Operand.none = 0
-mentionsIn Operand.number = 0
-mentionsIn Operand.registers = 0
-mentionsIn Operand.block = 1
-mentionsIn Operand.blocks = 2
-
-abbrev pub begunAt : Stage → Begun
-begunAt Stage.top = outside
-begunAt Stage.header = inFunction
-begunAt Stage.result = inFunction
-begunAt Stage.functionName = inFunction
-begunAt Stage.parameters = inFunction
-begunAt Stage.firstParameter = inFunction
-begunAt Stage.parameter = inFunction
-begunAt Stage.parameterEnd = inFunction
-begunAt (Stage.parameterName t) = inRegister
-begunAt Stage.body = inFunction
-begunAt Stage.declarations = inFunction
-begunAt Stage.registerType = inRegister
-begunAt Stage.registerEnd = inFunction
-begunAt (Stage.registerName t) = inRegister
-begunAt Stage.blocks = inFunction
-begunAt Stage.blockName = atBlock
-begunAt Stage.blockBody = inBlock
-begunAt Stage.firstInstruction = inBlock
-begunAt Stage.nextInstruction = inBlock
-begunAt Stage.assignment = inRow 2
-begunAt Stage.instruction = inRow 2
-begunAt (Stage.source k o) = inRow (mentionsIn o)
-begunAt (Stage.sourceComma k o) = inRow (mentionsIn o)
-begunAt (Stage.operand o) = inRow (mentionsIn o)
-begunAt Stage.number = inRow 0
-begunAt Stage.entry = inRow 0
-begunAt Stage.entryEnd = inRow 0
-begunAt (Stage.mention k) = inRow (suc k)
-begunAt (Stage.mentionComma k) = inRow (suc k)
-begunAt Stage.operandEnd = inRow 0
-begunAt Stage.instructionEnd = inRow 0
+use Rattle.language.specs.Grammar.{Bracketed, Stage, Act, Move, to, wrongMove, onWord, onName, onNumber, onBlock, onMarkOr, onMark, onEndOr, isWordOr, isWord, aType, aResult, afterSources, afterSource, afterMention, sources, afterWord, inOperand, wordWithTarget, wordAlone, anInstruction, nextMove}
+use Rattle.language.specs.Rooms.{Begun, outside, inFunction, inRegister, inBlock, inRow, begunAt}
 
 -- ---- what an act begins or puts down
 
@@ -96,16 +24,16 @@ pub data Moves : Act → Begun → Begun → Type 0 where
   beginRegister : Moves Act.beginRegister inFunction inRegister
   nameParameter : {t : ℕ} {n : List ℕ} → Moves (Act.nameParameter t n) inRegister inFunction
   nameRegister : {t : ℕ} {n : List ℕ} → Moves (Act.nameRegister t n) inRegister inFunction
-  beginBlock : Moves Act.beginBlock inFunction atBlock
-  nameBlock : {n : List ℕ} → Moves (Act.nameBlock n) atBlock inBlock
-  beginInstruction : {op m : ℕ} → m ≤ 2 → Moves (Act.beginInstruction op) inBlock (inRow m)
-  setTarget : {n : List ℕ} → Moves (Act.setTarget n) inBlock (inRow 2)
-  setInstruction : {op m : ℕ} → m ≤ 2 → Moves (Act.setInstruction op) (inRow 2) (inRow m)
-  addSource : {n : List ℕ} {m : ℕ} → Moves (Act.addSource n) (inRow m) (inRow m)
-  addEntry : {n : List ℕ} {m : ℕ} → Moves (Act.addEntry n) (inRow m) (inRow m)
-  addMention : {n : List ℕ} {m : ℕ} → Moves (Act.addMention n) (inRow (suc m)) (inRow m)
-  setNumber : {s : Bool} {v m : ℕ} → Moves (Act.setNumber s v) (inRow m) (inRow m)
-  endInstruction : Moves Act.endInstruction (inRow 0) inBlock
+  beginBlock : Moves Act.beginBlock inFunction inBlock
+  nameBlock : {n : List ℕ} → Moves (Act.nameBlock n) inBlock inBlock
+  beginInstruction : {op : ℕ} → Moves (Act.beginInstruction op) inBlock inRow
+  setTarget : {n : List ℕ} → Moves (Act.setTarget n) inBlock inRow
+  setInstruction : {op : ℕ} → Moves (Act.setInstruction op) inRow inRow
+  addSource : {n : List ℕ} → Moves (Act.addSource n) inRow inRow
+  addEntry : {n : List ℕ} → Moves (Act.addEntry n) inRow inRow
+  addMention : {n : List ℕ} → Moves (Act.addMention n) inRow inRow
+  setNumber : {s : Bool} {v : ℕ} → Moves (Act.setNumber s v) inRow inRow
+  endInstruction : Moves Act.endInstruction inRow inBlock
   endBlock : Moves Act.endBlock inBlock inFunction
   endFunction : Moves Act.endFunction inFunction outside
 
@@ -182,55 +110,46 @@ module _ {x : Begun} where
 a-result : (w : ℕ) → Right inFunction (aResult w)
 a-result = is-word-or voidWord (ok Moves.setResult) (a-type (λ t. to Stage.functionName (Act.setResult t)) (λ t. ok Moves.setResult))
 
-after-sources : (o : Operand) → begunAt (afterSources o) ≡ inRow (mentionsIn o)
+after-sources : (o : Operand) → begunAt (afterSources o) ≡ inRow
 after-sources Operand.none = refl
 after-sources Operand.number = refl
 after-sources Operand.registers = refl
 after-sources Operand.block = refl
 after-sources Operand.blocks = refl
 
-after-source : (k : ℕ) (o : Operand) → begunAt (afterSource k o) ≡ inRow (mentionsIn o)
+after-source : (k : ℕ) (o : Operand) → begunAt (afterSource k o) ≡ inRow
 after-source zero o = after-sources o
 after-source (suc k) o = refl
 
-first-source : (k : ℕ) (o : Operand) → begunAt (sources k o) ≡ inRow (mentionsIn o)
+first-source : (k : ℕ) (o : Operand) → begunAt (sources k o) ≡ inRow
 first-source zero o = after-sources o
 first-source (suc k) o = refl
 
-after-word : (op : ℕ) → begunAt (afterWord op) ≡ inRow (mentionsIn (operandOf (formOf op)))
+after-word : (op : ℕ) → begunAt (afterWord op) ≡ inRow
 unfolding afterWord
 after-word op = first-source (sourceCount (formOf op)) (operandOf (formOf op))
 
-in-operand : (o : Operand) → begunAt (inOperand o) ≡ inRow (mentionsIn o)
-in-operand Operand.none = refl
-in-operand Operand.number = refl
-in-operand Operand.registers = refl
-in-operand Operand.block = refl
-in-operand Operand.blocks = refl
+in-operand : (o : Bracketed) → begunAt (inOperand o) ≡ inRow
+in-operand Bracketed.number = refl
+in-operand Bracketed.registers = refl
+in-operand Bracketed.block = refl
+in-operand Bracketed.blocks = refl
 
-after-mention : (k : ℕ) → begunAt (afterMention k) ≡ inRow k
+after-mention : (k : ℕ) → begunAt (afterMention k) ≡ inRow
 after-mention zero = refl
 after-mention (suc k) = refl
 
--- An instruction mentions two blocks at the most.
-two-at-most : (o : Operand) → mentionsIn o ≤ 2
-two-at-most Operand.none = lit≤ tt
-two-at-most Operand.number = lit≤ tt
-two-at-most Operand.registers = lit≤ tt
-two-at-most Operand.block = lit≤ tt
-two-at-most Operand.blocks = lit≤ tt
-
-word-with-target : (w : ℕ) → Right (inRow 2) (wordWithTarget w)
+word-with-target : (w : ℕ) → Right inRow (wordWithTarget w)
 unfolding wordWithTarget
 word-with-target w =
     let op = instructionOf w in
-    when (isInstruction w && hasTarget (formOf op)) (ok (rw (after-word op) (Moves.setInstruction (two-at-most (operandOf (formOf op)))))) wrong-move
+    when (isInstruction w && hasTarget (formOf op)) (ok (rw (after-word op) Moves.setInstruction)) wrong-move
 
 word-alone : (w : ℕ) → Right inBlock (wordAlone w)
 unfolding wordAlone
 word-alone w =
     let op = instructionOf w in
-    when (isInstruction w && not (hasTarget (formOf op))) (ok (rw (after-word op) (Moves.beginInstruction (two-at-most (operandOf (formOf op)))))) wrong-move
+    when (isInstruction w && not (hasTarget (formOf op))) (ok (rw (after-word op) Moves.beginInstruction)) wrong-move
 
 an-instruction : (t : Token) → Right inBlock (anInstruction t)
 an-instruction (Token.name n) = ok Moves.setTarget
@@ -240,8 +159,8 @@ an-instruction (Token.mark b) = wrong-move
 an-instruction Token.end = wrong-move
 
 -- Every move of the grammar.
-pub moves : (s : Stage) (t : Token) → Right (begunAt s) (gram s t)
-unfolding gram
+pub moves : (s : Stage) (t : Token) → Right (begunAt s) (nextMove s t)
+unfolding nextMove
 moves Stage.top = on-end-or (ok Moves.pass) (on-word (is-word functionWord (ok Moves.beginFunction)))
 moves Stage.header = on-word (is-word-or ssaWord (ok Moves.markSsa) a-result)
 moves Stage.result = on-word a-result

@@ -7,11 +7,11 @@ use Prim.Native.String.{String}
 use lib.ListN.{replicate}
 use Rattle.language.specs.Bytes.{bytesOf, classOf, hexValue}
 use Rattle.language.specs.Words.{words, wordOf, ssaWord, entryWord}
-use Rattle.language.specs.Tokens.{Token, Found, token, stray, tokensOf, lexMore, lexEnd, lexStep, begin, nameOrWord, ended, ends, extends, quotes, closes, endsNumber, decimalDigit, hexadecimalDigit}
+use Rattle.language.specs.Tokens.{Token, Found, token, stray, tokensFrom, tokensOf, lexMore, lexEnd, lexStep, begin, nameOrWord, ended, ends, extends, quotes, closes, endsNumber, decimalDigit, hexadecimalDigit}
 
 -- All that the lexer's meaning is made of, to be opened by one name.
 unfoldable pub lexing : Unit {0}
-unfolding tokensOf lexMore lexEnd lexStep begin nameOrWord ended ends extends quotes closes endsNumber decimalDigit hexadecimalDigit wordOf words classOf hexValue
+unfolding tokensFrom tokensOf lexMore lexEnd lexStep begin nameOrWord ended ends extends quotes closes endsNumber decimalDigit hexadecimalDigit wordOf words classOf hexValue
 lexing = tt
 
 -- What is found up to the first place with no token: what follows that is never read.

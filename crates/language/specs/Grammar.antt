@@ -10,6 +10,10 @@ use Rattle.language.specs.Bytes.{leftParen, rightParen, leftBrace, right
 use Rattle.language.specs.Words.{isType, typeOf, isInstruction, instructionOf, functionWord, ssaWord, voidWord, registerWord, blockWord, entryWord}
 use Rattle.language.specs.Tokens.{Token}
 
+-- What an operand's parentheses hold: a number, a list of registers, one block, two blocks.
+pub data Bracketed : Type 0 where
+  number registers block blocks : Bracketed
+
 -- What comes next.
 pub data Stage : Type 0 where
   -- "A text is any number of functions, none included"
@@ -29,7 +33,7 @@ pub data Stage : Type 0 where
   -- "source registers parted by commas": a source or a comma, and so many sources more after it
   source sourceComma : (more : ℕ) (operand : Operand) → Stage
   -- "optional operand in parentheses": a number, a list of registers, a block and so many more after it; "`;`"
-  operand : (operand : Operand) → Stage
+  operand : (inside : Bracketed) → Stage
   number entry entryEnd : Stage
   mention mentionComma : (more : ℕ) → Stage
   operandEnd instructionEnd : Stage
@@ -120,10 +124,10 @@ aResult = isWordOr voidWord (to Stage.functionName (Act.setResult void)) (aType 
 -- What follows the sources, a source of which so many more come, and a block of which so many more come.
 abbrev pub afterSources : Operand → Stage
 afterSources Operand.none = Stage.instructionEnd
-afterSources Operand.number = Stage.operand Operand.number
-afterSources Operand.registers = Stage.operand Operand.registers
-afterSources Operand.block = Stage.operand Operand.block
-afterSources Operand.blocks = Stage.operand Operand.blocks
+afterSources Operand.number = Stage.operand Bracketed.number
+afterSources Operand.registers = Stage.operand Bracketed.registers
+afterSources Operand.block = Stage.operand Bracketed.block
+afterSources Operand.blocks = Stage.operand Bracketed.blocks
 
 abbrev pub afterSource : ℕ → Operand → Stage
 afterSource zero o = afterSources o
@@ -142,12 +146,11 @@ unfoldable pub afterWord : ℕ → Stage
 afterWord op = sources (sourceCount (formOf op)) (operandOf (formOf op))
 
 -- What follows the operand's opening parenthesis.
-abbrev pub inOperand : Operand → Stage
-inOperand Operand.none = Stage.operandEnd
-inOperand Operand.number = Stage.number
-inOperand Operand.registers = Stage.entry
-inOperand Operand.block = Stage.mention 0
-inOperand Operand.blocks = Stage.mention 1
+abbrev pub inOperand : Bracketed → Stage
+inOperand Bracketed.number = Stage.number
+inOperand Bracketed.registers = Stage.entry
+inOperand Bracketed.block = Stage.mention 0
+inOperand Bracketed.blocks = Stage.mention 1
 
 -- The instruction word after a target, and one that stands without.
 unfoldable pub wordWithTarget : ℕ → Move
@@ -181,35 +184,35 @@ abbrev pub aRegisterOrBlock : ℕ → Move
 aRegisterOrBlock = isWordOr registerWord (to Stage.registerType Act.beginRegister) aBlock
 
 -- The grammar, a clause for each stage.
-unfoldable pub gram : Stage → Token → Move
-gram Stage.top = onEndOr (to Stage.top Act.pass) (onWord aFunction)
-gram Stage.header = onWord (isWordOr ssaWord (to Stage.result Act.markSsa) aResult)
-gram Stage.result = onWord aResult
-gram Stage.functionName = onName λ n. to Stage.parameters (Act.nameFunction n)
-gram Stage.parameters = onMark leftParen (to Stage.firstParameter Act.pass)
-gram Stage.firstParameter = onMarkOr rightParen (to Stage.body Act.pass) (onWord aParameter)
-gram Stage.parameter = onWord aParameter
-gram (Stage.parameterName t) = onName λ n. to Stage.parameterEnd (Act.nameParameter t n)
-gram Stage.parameterEnd = onMarkOr comma (to Stage.parameter Act.pass) (onMark rightParen (to Stage.body Act.pass))
-gram Stage.body = onMark leftBrace (to Stage.declarations Act.pass)
-gram Stage.declarations = onMarkOr rightBrace (to Stage.top Act.endFunction) (onWord aRegisterOrBlock)
-gram Stage.registerType = onWord (aType λ t. to (Stage.registerName t) Act.pass)
-gram (Stage.registerName t) = onName λ n. to Stage.registerEnd (Act.nameRegister t n)
-gram Stage.registerEnd = onMark semicolon (to Stage.declarations Act.pass)
-gram Stage.blocks = onMarkOr rightBrace (to Stage.top Act.endFunction) (onWord aBlock)
-gram Stage.blockName = onBlock λ n. to Stage.blockBody (Act.nameBlock n)
-gram Stage.blockBody = onMark leftBrace (to Stage.firstInstruction Act.pass)
-gram Stage.firstInstruction = anInstruction
-gram Stage.nextInstruction = onMarkOr rightBrace (to Stage.blocks Act.endBlock) anInstruction
-gram Stage.assignment = onMark equals (to Stage.instruction Act.pass)
-gram Stage.instruction = onWord wordWithTarget
-gram (Stage.source k o) = onName λ n. to (afterSource k o) (Act.addSource n)
-gram (Stage.sourceComma k o) = onMark comma (to (Stage.source k o) Act.pass)
-gram (Stage.operand o) = onMark leftParen (to (inOperand o) Act.pass)
-gram Stage.number = onNumber λ s v. to Stage.operandEnd (Act.setNumber s v)
-gram Stage.entry = onName λ n. to Stage.entryEnd (Act.addEntry n)
-gram Stage.entryEnd = onMarkOr comma (to Stage.entry Act.pass) (onMark rightParen (to Stage.instructionEnd Act.pass))
-gram (Stage.mention k) = onBlock λ n. to (afterMention k) (Act.addMention n)
-gram (Stage.mentionComma k) = onMark comma (to (Stage.mention k) Act.pass)
-gram Stage.operandEnd = onMark rightParen (to Stage.instructionEnd Act.pass)
-gram Stage.instructionEnd = onMark semicolon (to Stage.nextInstruction Act.endInstruction)
+unfoldable pub nextMove : Stage → Token → Move
+nextMove Stage.top = onEndOr (to Stage.top Act.pass) (onWord aFunction)
+nextMove Stage.header = onWord (isWordOr ssaWord (to Stage.result Act.markSsa) aResult)
+nextMove Stage.result = onWord aResult
+nextMove Stage.functionName = onName λ n. to Stage.parameters (Act.nameFunction n)
+nextMove Stage.parameters = onMark leftParen (to Stage.firstParameter Act.pass)
+nextMove Stage.firstParameter = onMarkOr rightParen (to Stage.body Act.pass) (onWord aParameter)
+nextMove Stage.parameter = onWord aParameter
+nextMove (Stage.parameterName t) = onName λ n. to Stage.parameterEnd (Act.nameParameter t n)
+nextMove Stage.parameterEnd = onMarkOr comma (to Stage.parameter Act.pass) (onMark rightParen (to Stage.body Act.pass))
+nextMove Stage.body = onMark leftBrace (to Stage.declarations Act.pass)
+nextMove Stage.declarations = onMarkOr rightBrace (to Stage.top Act.endFunction) (onWord aRegisterOrBlock)
+nextMove Stage.registerType = onWord (aType λ t. to (Stage.registerName t) Act.pass)
+nextMove (Stage.registerName t) = onName λ n. to Stage.registerEnd (Act.nameRegister t n)
+nextMove Stage.registerEnd = onMark semicolon (to Stage.declarations Act.pass)
+nextMove Stage.blocks = onMarkOr rightBrace (to Stage.top Act.endFunction) (onWord aBlock)
+nextMove Stage.blockName = onBlock λ n. to Stage.blockBody (Act.nameBlock n)
+nextMove Stage.blockBody = onMark leftBrace (to Stage.firstInstruction Act.pass)
+nextMove Stage.firstInstruction = anInstruction
+nextMove Stage.nextInstruction = onMarkOr rightBrace (to Stage.blocks Act.endBlock) anInstruction
+nextMove Stage.assignment = onMark equals (to Stage.instruction Act.pass)
+nextMove Stage.instruction = onWord wordWithTarget
+nextMove (Stage.source k o) = onName λ n. to (afterSource k o) (Act.addSource n)
+nextMove (Stage.sourceComma k o) = onMark comma (to (Stage.source k o) Act.pass)
+nextMove (Stage.operand o) = onMark leftParen (to (inOperand o) Act.pass)
+nextMove Stage.number = onNumber λ s v. to Stage.operandEnd (Act.setNumber s v)
+nextMove Stage.entry = onName λ n. to Stage.entryEnd (Act.addEntry n)
+nextMove Stage.entryEnd = onMarkOr comma (to Stage.entry Act.pass) (onMark rightParen (to Stage.instructionEnd Act.pass))
+nextMove (Stage.mention k) = onBlock λ n. to (afterMention k) (Act.addMention n)
+nextMove (Stage.mentionComma k) = onMark comma (to (Stage.mention k) Act.pass)
+nextMove Stage.operandEnd = onMark rightParen (to Stage.instructionEnd Act.pass)
+nextMove Stage.instructionEnd = onMark semicolon (to Stage.nextInstruction Act.endInstruction)

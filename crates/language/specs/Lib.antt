@@ -8,6 +8,7 @@ pub mod Arithmetic
 pub mod Programs
 pub mod Grammar
 pub mod Reading
+pub mod Rooms
 pub mod Refusals
 pub mod Table
 pub mod Checking

@@ -16,11 +16,15 @@ pub data Token : Type 0 where
   mark : (byte : ℕ) → Token
   end : Token
 
+-- Where something stands in a text: at a byte, counted from 0.
+abbrev pub TextPlace : Type 0
+TextPlace = ℕ
+
 -- What the lexer finds: a token, or a place that has none (answer 2). "A token's byte is its first", and what would have been
 -- a token is placed in the same way.
 pub data Found : Type 0 where
-  token : (place : ℕ) (token : Token) → Found
-  stray : (place : ℕ) → Found
+  token : (place : TextPlace) (token : Token) → Found
+  stray : (place : TextPlace) → Found
 
 -- What the bytes so far leave open: nothing; a plain name; a quoted name, in it or directly after a backslash in it; one slash;
 -- a comment; a sign; a first digit 0; decimal digits; `0x`; `0x` and hexadecimal digits.
@@ -175,8 +179,12 @@ lexMore x b =
     let y = lexStep (x .lexer) b in
     record { lexer = y .lexer; found = x .found ++ y .found }
 
+-- All that is found in bytes, with what is open in l before them.
+unfoldable pub tokensFrom : Lexer → List ℕ → List Found
+tokensFrom l bytes =
+    let x = foldl lexMore (quiet l) bytes in
+    x .found ++ lexEnd (x .lexer)
+
 -- All that is found in a text.
 unfoldable pub tokensOf : List ℕ → List Found
-tokensOf text =
-    let x = foldl lexMore (quiet lexer₀) text in
-    x .found ++ lexEnd (x .lexer)
+tokensOf text = tokensFrom lexer₀ text

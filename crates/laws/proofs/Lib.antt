@@ -11,6 +11,7 @@ pub mod Keep
 pub mod Matches
 pub mod Modulo
 pub mod OneMore
+pub mod Pigeonhole
 pub mod Positions
 pub mod Ranges
 pub mod Rising

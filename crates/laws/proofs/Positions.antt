@@ -2,7 +2,7 @@
 -- Assumes nothing.
 use mathlib.Core.Path.{_≡_, refl, sym, ap, _∙_}
 use mathlib.Core.Bool.{Bool, true, false, cond, _||_}
-use mathlib.Core.List.{List, [], _∷_}
+use mathlib.Core.List.{List, [], _∷_, _++_}
 use Prim.Native.Nat.{ℕ, zero, suc, _+_, _≤_, _<_, zero-le, suc-le-suc}
 use native.Mathlib.Nat.{not-suc-le-zero, le-of-suc-le-suc, zero-lt-suc, add-zero, zero-add}
 use native.Mathlib.Omega.{arith}
@@ -83,6 +83,26 @@ module _ {A : Type 0} (p : A → Bool) where
       by : (b : Bool) → any p xs ≡ ltb (position p xs) (length xs) → (b || any p xs) ≡ ltb (cond b zero (suc (position p xs))) (suc (length xs))
       by true e = sym (lt-ltb zero (suc (length xs)) (zero-lt-suc (length xs)))
       by false e = e ∙ sym (leb·suc-suc (suc (position p xs)) (length xs))
+
+  -- a search that has found something ends in the first of two lists
+  pub position-left : (xs ys : List A) → position p xs < length xs → position p (xs ++ ys) ≡ position p xs
+  position-left [] ys h = absurd (not-suc-le-zero h)
+  position-left (x ∷ xs) ys h = by (p x) h (position-left xs ys)
+    where
+      by : (b : Bool) → cond b zero (suc (position p xs)) < suc (length xs) → (position p xs < length xs → position p (xs ++ ys) ≡ position p xs)
+          → cond b zero (suc (position p (xs ++ ys))) ≡ cond b zero (suc (position p xs))
+      by true h later = refl
+      by false h later = ap suc (later (le-of-suc-le-suc h))
+
+  -- one that has not goes on to what is appended
+  pub position-seam : (xs : List A) (y : A) → length xs ≤ position p xs → p y ≡ true → position p (xs ++ (y ∷ [])) ≡ length xs
+  position-seam [] y h e = rw e
+  position-seam (x ∷ xs) y h e = by (p x) h (λ l. position-seam xs y l e)
+    where
+      by : (b : Bool) → suc (length xs) ≤ cond b zero (suc (position p xs)) → (length xs ≤ position p xs → position p (xs ++ (y ∷ [])) ≡ length xs)
+          → cond b zero (suc (position p (xs ++ (y ∷ [])))) ≡ suc (length xs)
+      by true h later = absurd (not-suc-le-zero h)
+      by false h later = ap suc (later (le-of-suc-le-suc h))
 
 -- ---- same
 

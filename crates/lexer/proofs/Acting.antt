@@ -2,28 +2,28 @@
 use mathlib.Core.Bool.{Bool, true, false, cond}
 use mathlib.Core.Path.{_≡_, refl}
 use mathlib.Core.List.{List, [], _∷_, _++_}
-use Prim.Native.Nat.{ℕ, _-_, _≤_}
-use lib.Dec.{eqb, ltb, lit≤}
+use Prim.Native.Nat.{ℕ, _-_, _<_}
+use lib.Dec.{eqb, ltb}
 use lib.ListN.{length}
+use borrow.Author.Tests.{ltb-true}
 use Rattle.language.specs.Bytes.{Class, classOf, classNumber, inName, inDigits, hexValue}
 use Rattle.language.specs.Tokens.{Mode, Lexer, Lexed, Token, token, stray, begun, begunName, begunNumber, longerName, longerNumber, quiet, finds, spoils, beginAs, begin, ends, extends, quotes, closes, endsNumber, decimalDigit, hexadecimalDigit, stepAs, lexStep}
 use Rattle.lexer.specs.Actions.{modeNumber, digitModeAt, beginsAt, inPlainAt, inQuotesAt, inQuotedAt, afterNumberAt, inDecimalAt, inNumberAt, actionAt}
 use Rattle.lexer.specs.Lexing.{held}
 
-at-least : (n : ℕ) (t : Bool) {x y : ℕ} → n ≤ x → n ≤ y → n ≤ cond t x y
-at-least n true p q = p
-at-least n false p q = q
+-- with nothing open no byte ends anything
+not-ending : (t : Bool) (x y : ℕ) → eqb x 32 ≡ false → eqb y 32 ≡ false → eqb (cond t x y) 32 ≡ false
+not-ending true x y p q = p
+not-ending false x y p q = q
 
--- with nothing open a byte begins something or is a token by itself
-pub begins-from : (k b : ℕ) → 16 ≤ beginsAt k b
+pub begins-nothing-ends : (k b : ℕ) → eqb (beginsAt k b) 32 ≡ false
 unfolding beginsAt
-begins-from k b =
-    at-least 16 (eqb k 0) (lit≤ tt)
-    (at-least 16 (eqb k 1) (at-least 16 (eqb b 48) (lit≤ tt) (lit≤ tt))
-    (at-least 16 (eqb k 2) (lit≤ tt)
-    (at-least 16 (eqb k 3) (lit≤ tt)
-    (at-least 16 (eqb k 4) (lit≤ tt)
-    (at-least 16 (eqb k 5) (lit≤ tt) (at-least 16 (eqb k 6) (lit≤ tt) (lit≤ tt)))))))
+begins-nothing-ends k b =
+    not-ending (eqb k 0) 17 _ refl
+    (not-ending (eqb k 1) (cond (eqb b 48) 23 24) _ (not-ending (eqb b 48) 23 24 refl refl)
+    (not-ending (eqb k 2) 16 _ refl
+    (not-ending (eqb k 3) 18 _ refl
+    (not-ending (eqb k 4) 22 _ refl (not-ending (eqb k 5) 20 _ refl (not-ending (eqb k 6) 35 36 refl refl))))))
 
 -- The byte b at p begins something, or is a token or none by itself.
 pub data Begins (p b : ℕ) : ℕ → Lexed → Type 0 where
@@ -42,11 +42,15 @@ pub data Begins (p b : ℕ) : ℕ → Lexed → Type 0 where
 abbrev pub Named : Lexer → Type 0
 Named l = (xs : List ℕ) → held (l .mode) xs ≡ xs
 
+-- There is room for a byte more.
+abbrev pub Room : Lexer → Type 0
+Room l = length (l .bytes) < 64
+
 -- What the byte b does to l: its number, and what the definition's step gives.
 pub data Act (l : Lexer) (b : ℕ) : ℕ → Lexed → Type 0 where
-  plain : Named l → Act l b 1 (quiet (longerName Mode.plain l b))
-  quoted : Named l → Act l b 2 (quiet (longerName Mode.quoted l b))
-  escaping : Named l → Act l b 3 (quiet (longerName Mode.escaping l b))
+  plain : Named l → Room l → Act l b 1 (quiet (longerName Mode.plain l b))
+  quoted : Named l → Room l → Act l b 2 (quiet (longerName Mode.quoted l b))
+  escaping : Named l → Room l → Act l b 3 (quiet (longerName Mode.escaping l b))
   zero : Act l b 7 (decimalDigit Mode.leadingZero l b)
   decimal : Act l b 8 (decimalDigit Mode.decimal l b)
   prefix : Act l b 9 (quiet (longerNumber Mode.prefix l 0))
@@ -54,7 +58,7 @@ pub data Act (l : Lexer) (b : ℕ) : ℕ → Lexed → Type 0 where
   begins : {a : ℕ} {x : Lexed} → Begins (l .next) b a x → Act l b a x
   ending : Act l b 32 (ends l b)
   spoiling : Act l b 33 (spoils l)
-  closing : Named l
+  closing : Named l → Room l
       → Act l b 34 (finds (token (l .start) (Token.name (l .bytes ++ (b ∷ [])))) (begun Mode.between (l .next)))
 
 module _ {l : Lexer} {b : ℕ} where
@@ -66,10 +70,15 @@ module _ {l : Lexer} {b : ℕ} where
   zero-or-digit true = Act.zero
   zero-or-digit false = Act.decimal
 
-  quoted-or-escaping : (t : Bool) → Named l
+  -- with room, or spoiled
+  roomy : (t : Bool) {a : ℕ} {x : Lexed} → (t ≡ true → Act l b a x) → Act l b (cond t a 33) (cond t x (spoils l))
+  roomy true p = p refl
+  roomy false p = Act.spoiling
+
+  quoted-or-escaping : (t : Bool) → Named l → Room l
       → Act l b (cond t 3 2) (quiet (longerName (cond t Mode.escaping Mode.quoted) l b))
-  quoted-or-escaping true h = Act.escaping h
-  quoted-or-escaping false h = Act.quoted h
+  quoted-or-escaping true h i = Act.escaping h i
+  quoted-or-escaping false h i = Act.quoted h i
 
   comment-or-space : (t : Bool)
       → Act l b (cond t 16 21) (quiet (begun (cond t Mode.between Mode.comment) (l .next)))
@@ -125,18 +134,21 @@ module _ (l : Lexer) (b : ℕ) where
   in-decimal = by-digit (classOf b) Act.decimal after-number
 
   module _ (h : Named l) (n : ℕ) (e : length (l .bytes) ≡ n) where
+    room : ltb n 64 ≡ true → Room l
+    room q = rw e (ltb-true n 64 q)
+
     in-plain : Act l b (inPlainAt (classNumber (classOf b)) n) (cond (inName (classOf b)) (extends Mode.plain l b) (ends l b))
     unfolding inPlainAt extends
-    in-plain = by-name (classOf b) (rw e (either (ltb n 64) (Act.plain h) Act.spoiling)) Act.ending
+    in-plain = by-name (classOf b) (rw e (roomy (ltb n 64) (λ q. Act.plain h (room q)))) Act.ending
 
     in-quotes : Act l b (inQuotesAt b n) (quotes l b)
     unfolding inQuotesAt quotes extends
-    in-quotes = rw e (either (ltb n 64) (quoted-or-escaping (eqb b 92) h) Act.spoiling)
+    in-quotes = rw e (roomy (ltb n 64) (λ q. quoted-or-escaping (eqb b 92) h (room q)))
 
     in-quoted : Act l b (inQuotedAt b n) (cond (eqb b 39) (closes l b) (quotes l b))
     unfolding inQuotedAt closes
     in-quoted =
-        either (eqb b 39) (rw e (either (eqb n 1) Act.spoiling (either (ltb n 64) (Act.closing h) Act.spoiling))) in-quotes
+        either (eqb b 39) (rw e (either (eqb n 1) Act.spoiling (roomy (ltb n 64) (λ q. Act.closing h (room q))))) in-quotes
 
 -- how many bytes of a name are held; in another mode it does not matter
 abbrev pub Counted : Mode → Lexer → ℕ → Type 0

@@ -1,6 +1,6 @@
 pub mod Amounts
-pub mod Keys
 pub mod Acting
+pub mod TokenSteps
 pub mod Standing
 pub mod Stepping
-pub mod Folds
+pub mod Passing

@@ -1,31 +1,31 @@
 -- The lexer's numbers after a byte stand for the definition's lexer after it. Assumes nothing.
 use mathlib.Core.Bool.{Bool, true, false, cond}
 use mathlib.Core.Path.{_≡_, refl, sym, ap, _∙_, subst}
-use mathlib.Core.List.{List, [], _∷_, _++_}
+use mathlib.Core.List.{List, [], _∷_, _++_, append-assoc}
 use Prim.Native.Nat.{ℕ, zero, suc, _+_, _-_, _*_, _≤_, _<_}
 use native.Mathlib.Nat.{le-refl, le-of-lt}
 use native.Mathlib.Omega.{arith}
 use lib.Dec.{eqb, ltb, lit<}
-use lib.ListN.{length, take, drop, getD, length-drop}
-use lib.Seq.{take-suc, getD-drop, length-take-le}
+use lib.ListN.{length, drop, getD, length-drop}
+use lib.Seq.{take-suc, getD-drop, length-take-le, drop-cons}
 use borrow.Author.Tests.{lt-ltb}
-use Rattle.language.specs.Bytes.{classOf, classNumber, hexValue}
-use Rattle.language.specs.Words.{wordOf, wordCount}
+use Rattle.language.specs.Bytes.{hexValue}
 use Rattle.language.specs.Tokens as meaning
-use Rattle.language.specs.Tokens.{Mode, begin, ends, ended, endedAs, nameOrWord, decimalDigit, hexadecimalDigit, longerName, longerNumber}
+use Rattle.language.specs.Tokens.{Mode, begin, ends, ended, endedAs, nameOrWord, decimalDigit, hexadecimalDigit, longerName, longerNumber, lexStep, tokensFrom}
 use Rattle.instructions.specs.Ranges.{beyond}
 use Rattle.lexer.specs.declared.Lexer.{Lexer}
 use Rattle.lexer.specs.declared.Lexed.{Lexed}
-use Rattle.lexer.specs.declared.Token.the-variants as tokens
+use Rattle.lexer.specs.declared.Lexeme.the-variants as lexemes
 use Rattle.lexer.specs.declared.Found.{Found}
 use Rattle.lexer.specs.declared.Found.the-variants as founds
 use Rattle.lexer.specs.declared.values.Amount.{Amount}
 use Rattle.lexer.specs.Numbers.{amountFrom, amountOf, grownAt}
-use Rattle.lexer.specs.Actions.{modeNumber, beginsAt}
-use Rattle.lexer.specs.Lexing.{part, held, Stands, Means, tokenBytes, Finds, Gives, lexerFrom, lexedFrom}
-use Rattle.lexer.specs.Advancing.{spellingAt, nameOrWordAt, begunAt, enteredAt, singleAt, endedAt, longerAt, numberAt, advancedAt, endsAt, findingAt}
+use Rattle.lexer.specs.Actions.{modeNumber}
+use Rattle.lexer.specs.Lexing.{part, held, Sized, Stands, Means, Finds, Gives, lexerFrom, idleAt, lexedFrom, placeAt}
+use Rattle.lexer.specs.Advancing.{begunAt, singleAt, endedAt, longerAt, numberAt, advancedAt, findingAt}
 use Rattle.lexer.proofs.Amounts.{grown-amount}
-use Rattle.lexer.proofs.Acting.{Begins, Act, Named, begins-as}
+use Rattle.lexer.proofs.Acting.{Begins, Act, Named, Room}
+use Rattle.lexer.proofs.TokenSteps.{tokens-step, Idle, idle}
 
 -- ---- parts of the text
 
@@ -44,6 +44,13 @@ part-one text p l = rw (part-more text p p (le-refl p) l, part-none text p)
 
 pub length-part : (text : List ℕ) (s e : ℕ) → s ≤ e → e ≤ length text → length (part text s e) ≡ e - s
 length-part text s e h l = length-take-le (e - s) (drop s text) (simp length-drop (omega arith))
+
+-- the text from a byte on, and whatever comes after it
+pub drop-here : (text : List ℕ) (p b : ℕ) → p < length text → b ≡ getD text p 0 → (more : List ℕ) → drop p text ++ more ≡ b ∷ (drop (p + 1) text ++ more)
+drop-here text p b h e more =
+    let s : suc p ≡ p + 1 = omega arith in
+    let d : drop p text ≡ getD text p 0 ∷ drop (p + 1) text = rw s at (drop-cons text p 0 h) in
+    rw (d, e)
 
 -- ---- a byte that begins something
 
@@ -67,42 +74,61 @@ hex-small b h =
     (below-256 (ltb b 65) (lit< tt)
     (below-256 (ltb b 71) (omega arith) (below-256 (ltb b 97) (lit< tt) (below-256 (ltb b 103) (omega arith) (lit< tt))))))
 
+-- a name's size, which other modes do not ask
+sized : (m : Mode) (n : ℕ) → 1 ≤ n → n ≤ 64 → Sized m n
+sized Mode.between n h i = tt
+sized Mode.plain n h i = (h, i)
+sized Mode.quoted n h i = (h, i)
+sized Mode.escaping n h i = (h, i)
+sized Mode.slash n h i = tt
+sized Mode.comment n h i = tt
+sized Mode.sign n h i = tt
+sized Mode.leadingZero n h i = tt
+sized Mode.decimal n h i = tt
+sized Mode.prefix n h i = tt
+sized Mode.hexadecimal n h i = tt
+
 -- a lexer that begins at p
 stands-at : {text : List ℕ} (m : Mode) (p : ℕ) (g : Bool) (v : ℕ) {n : ℕ} (bytes : List ℕ) → bytes ≡ held m (part text p (p + 1))
     → amountFrom v false ≡ amountOf n
     → Stands text (record { mode = m; next = p + 1; start = p; bytes = bytes; negative = g; value = n }) (lexerFrom (modeNumber m) (p + 1) p g v false)
-stands-at m p g v bytes h a = record { mode = refl; next = refl; start = refl; bytes = h; negative = refl; amount = a }
+stands-at m p g v bytes h a =
+    record { mode = refl; next = refl; start = refl; bytes = h; size = sized m (p + 1 - p) (omega arith) (omega arith); negative = refl; amount = a }
+
+pub stands-idle : {m : Mode} → Idle m → (text : List ℕ) (p : ℕ) → Stands text (idle m p) (idleAt (modeNumber m) p)
+stands-idle Idle.between text p = record { mode = refl; next = refl; start = refl; bytes = refl; size = tt; negative = refl; amount = amount-zero }
+stands-idle Idle.comment text p = record { mode = refl; next = refl; start = refl; bytes = refl; size = tt; negative = refl; amount = amount-zero }
 
 module _ (text : List ℕ) (p b : ℕ) (l : p < length text) (e : b ≡ getD text p 0) (s : b < 256) where
   one : b ∷ [] ≡ part text p (p + 1)
   one = ap (λ (x : ℕ). x ∷ []) e ∙ sym (part-one text p l)
 
-  pub enters : {a : ℕ} {x : meaning.Lexed} → Begins p b a x → Stands text (x .lexer) (enteredAt a p b)
-  unfolding enteredAt begunAt
-  enters Begins.space = stands-at Mode.between p false 0 [] refl amount-zero
-  enters Begins.letter = stands-at Mode.plain p false 0 (b ∷ []) one amount-zero
-  enters Begins.quote = stands-at Mode.quoted p false 0 (b ∷ []) one amount-zero
-  enters Begins.slash = stands-at Mode.slash p false 0 [] refl amount-zero
-  enters Begins.comment = stands-at Mode.comment p false 0 [] refl amount-zero
-  enters Begins.sign = stands-at Mode.sign p (eqb b 45) 0 [] refl amount-zero
-  enters Begins.zero = stands-at Mode.leadingZero p false (b - 48) [] refl (amount-small (b - 48) (omega arith))
-  enters Begins.digit = stands-at Mode.decimal p false (b - 48) [] refl (amount-small (b - 48) (omega arith))
-  enters Begins.mark = stands-at Mode.between p false 0 [] refl amount-zero
-  enters Begins.other = stands-at Mode.between p false 0 [] refl amount-zero
+  pub enters : {a : ℕ} {x : meaning.Lexed} → Begins p b a x → a < 32 → Stands text (x .lexer) (begunAt (a - 16) p b)
+  unfolding begunAt
+  enters Begins.space i = stands-at Mode.between p false 0 [] refl amount-zero
+  enters Begins.letter i = stands-at Mode.plain p false 0 (b ∷ []) one amount-zero
+  enters Begins.quote i = stands-at Mode.quoted p false 0 (b ∷ []) one amount-zero
+  enters Begins.slash i = stands-at Mode.slash p false 0 [] refl amount-zero
+  enters Begins.comment i = stands-at Mode.comment p false 0 [] refl amount-zero
+  enters Begins.sign i = stands-at Mode.sign p (eqb b 45) 0 [] refl amount-zero
+  enters Begins.zero i = stands-at Mode.leadingZero p false (b - 48) [] refl (amount-small (b - 48) (omega arith))
+  enters Begins.digit i = stands-at Mode.decimal p false (b - 48) [] refl (amount-small (b - 48) (omega arith))
+  enters Begins.mark i = absurd (omega arith)
+  enters Begins.other i = absurd (omega arith)
 
   -- what it was by itself
-  pub singles : {a : ℕ} {x : meaning.Lexed} → Begins p b a x → Finds text (singleAt a p b) (x .found)
+  pub singles : {a : ℕ} {x : meaning.Lexed} → Begins p b a x → 32 ≤ a → Finds text (singleAt a p b) (x .found)
   unfolding singleAt
-  singles Begins.space = Finds.nothing
-  singles Begins.letter = Finds.nothing
-  singles Begins.quote = Finds.nothing
-  singles Begins.slash = Finds.nothing
-  singles Begins.comment = Finds.nothing
-  singles Begins.sign = Finds.nothing
-  singles Begins.zero = Finds.nothing
-  singles Begins.digit = Finds.nothing
-  singles Begins.mark = Finds.token p (tokens.Mark b) (meaning.Token.mark b) (Means.mark b) (omega arith)
-  singles Begins.other = Finds.stray p
+  singles Begins.space i = absurd (omega arith)
+  singles Begins.letter i = absurd (omega arith)
+  singles Begins.quote i = absurd (omega arith)
+  singles Begins.slash i = absurd (omega arith)
+  singles Begins.comment i = absurd (omega arith)
+  singles Begins.sign i = absurd (omega arith)
+  singles Begins.zero i = absurd (omega arith)
+  singles Begins.digit i = absurd (omega arith)
+  singles Begins.mark i = Finds.lexeme (placeAt p) (lexemes.Mark b) (meaning.Token.mark b) (Means.mark b) tt (omega arith)
+  singles Begins.other i = Finds.stray (placeAt p)
 
 -- ---- a byte that finds nothing
 
@@ -113,26 +139,32 @@ module _ (text : List ℕ) (l : meaning.Lexer) (c : Lexer) (s : Stands text l c)
   more h =
       rw (s .bytes, h (part text (c .start) (c .next)), e) (sym (part-more text (c .start) (c .next) order within))
 
-  longer-name : (m : Mode) → l .bytes ++ (b ∷ []) ≡ held m (part text (c .start) (c .next + 1))
+  -- and how many there are before it
+  count : Named l → length (l .bytes) ≡ c .next - c .start
+  count h = rw (s .bytes, h (part text (c .start) (c .next))) (length-part text (c .start) (c .next) order (omega arith))
+
+  longer-name : (m : Mode) → Named l → Room l → l .bytes ++ (b ∷ []) ≡ held m (part text (c .start) (c .next + 1))
       → Stands text (longerName m l b) (longerAt c (modeNumber m))
-  longer-name m h =
+  longer-name m k i h =
       record {
         mode = refl;
         next = ap (λ (n : ℕ). n + 1) (s .next);
         start = s .start;
         bytes = h;
+        size = sized m (c .next + 1 - c .start) (omega arith) (omega (arith, count k, i));
         negative = refl;
         amount = amount-zero;
       }
 
-  longer-number : (m : Mode) (n : ℕ) (x : Amount) → [] ≡ held m (part text (c .start) (c .next + 1)) → x ≡ amountOf n
+  longer-number : (m : Mode) (n : ℕ) (x : Amount) → [] ≡ held m (part text (c .start) (c .next + 1)) → Sized m (c .next + 1 - c .start) → x ≡ amountOf n
       → Stands text (longerNumber m l n) (numberAt c (modeNumber m) x)
-  longer-number m n x h q =
+  longer-number m n x h z q =
       record {
         mode = refl;
         next = ap (λ (k : ℕ). k + 1) (s .next);
         start = s .start;
         bytes = h;
+        size = z;
         negative = s .negative;
         amount = q;
       }
@@ -143,8 +175,8 @@ module _ (text : List ℕ) (l : meaning.Lexer) (c : Lexer) (s : Stands text l c)
   sixteen : grownAt (c .value) (c .over) 16 (hexValue b) ≡ amountOf (16 * l .value + hexValue b)
   sixteen = grown-amount (c .value) (c .over) (l .value) 16 (hexValue b) (lit< tt) (hex-small b small) (s .amount)
 
-  begun-advances : {a : ℕ} {x : meaning.Lexed} → Begins (l .next) b a x → a < 32 → advancedAt c a b ≡ enteredAt a (l .next) b
-  unfolding advancedAt enteredAt
+  begun-advances : {a : ℕ} {x : meaning.Lexed} → Begins (l .next) b a x → a < 32 → advancedAt c a b ≡ begunAt (a - 16) (l .next) b
+  unfolding advancedAt
   begun-advances Begins.space h = rw (s .next)
   begun-advances Begins.letter h = rw (s .next)
   begun-advances Begins.quote h = rw (s .next)
@@ -158,25 +190,25 @@ module _ (text : List ℕ) (l : meaning.Lexer) (c : Lexer) (s : Stands text l c)
 
   pub advances : {a : ℕ} {x : meaning.Lexed} → Act l b a x → a < 32 → Stands text (x .lexer) (advancedAt c a b)
   unfolding advancedAt decimalDigit hexadecimalDigit
-  advances (Act.plain h) i = longer-name Mode.plain (more h)
-  advances (Act.quoted h) i = longer-name Mode.quoted (more h)
-  advances (Act.escaping h) i = longer-name Mode.escaping (more h)
-  advances Act.zero i = longer-number Mode.leadingZero _ _ refl ten
-  advances Act.decimal i = longer-number Mode.decimal _ _ refl ten
-  advances Act.prefix i = longer-number Mode.prefix 0 (amountFrom 0 false) refl amount-zero
-  advances Act.hexadecimal i = longer-number Mode.hexadecimal _ _ refl sixteen
+  advances (Act.plain h k) i = longer-name Mode.plain h k (more h)
+  advances (Act.quoted h k) i = longer-name Mode.quoted h k (more h)
+  advances (Act.escaping h k) i = longer-name Mode.escaping h k (more h)
+  advances Act.zero i = longer-number Mode.leadingZero _ _ refl tt ten
+  advances Act.decimal i = longer-number Mode.decimal _ _ refl tt ten
+  advances Act.prefix i = longer-number Mode.prefix 0 (amountFrom 0 false) refl tt amount-zero
+  advances Act.hexadecimal i = longer-number Mode.hexadecimal _ _ refl tt sixteen
   advances (Act.begins {a} {x} h) i =
       subst (λ (d : Lexer). Stands text (x .lexer) d) (sym (begun-advances h i))
-      (enters text (l .next) b (rw (s .next) at within) (e ∙ ap (λ (n : ℕ). getD text n 0) (s .next)) small h)
+      (enters text (l .next) b (rw (s .next) at within) (e ∙ ap (λ (n : ℕ). getD text n 0) (s .next)) small h i)
   advances Act.ending i = absurd (omega arith)
   advances Act.spoiling i = absurd (omega arith)
-  advances (Act.closing h) i = absurd (omega arith)
+  advances (Act.closing h k) i = absurd (omega arith)
 
   pub advances-quietly : {a : ℕ} {x : meaning.Lexed} → Act l b a x → a < 32 → x .found ≡ []
   unfolding decimalDigit hexadecimalDigit
-  advances-quietly (Act.plain h) i = refl
-  advances-quietly (Act.quoted h) i = refl
-  advances-quietly (Act.escaping h) i = refl
+  advances-quietly (Act.plain h k) i = refl
+  advances-quietly (Act.quoted h k) i = refl
+  advances-quietly (Act.escaping h k) i = refl
   advances-quietly Act.zero i = refl
   advances-quietly Act.decimal i = refl
   advances-quietly Act.prefix i = refl
@@ -193,45 +225,29 @@ module _ (text : List ℕ) (l : meaning.Lexer) (c : Lexer) (s : Stands text l c)
   advances-quietly (Act.begins Begins.other) i = absurd (omega arith)
   advances-quietly Act.ending i = absurd (omega arith)
   advances-quietly Act.spoiling i = absurd (omega arith)
-  advances-quietly (Act.closing h) i = absurd (omega arith)
+  advances-quietly (Act.closing h k) i = absurd (omega arith)
 
 -- ---- what is open, ended
 
 module _ (text : List ℕ) (l : meaning.Lexer) (c : Lexer) (s : Stands text l c) (order : c .start ≤ c .next)
     (within : c .next ≤ length text) where
-  whole : take (length (part text (c .start) (c .next))) (drop (c .start) text) ≡ part text (c .start) (c .next)
-  whole = rw (length-part text (c .start) (c .next) order within)
-
-  name-or-word : (t : Bool) → eqb (wordOf (part text (c .start) (c .next))) wordCount ≡ t
-      → Means text (c .start) (cond t (tokens.Name (length (part text (c .start) (c .next)))) (tokens.Word (wordOf (part text (c .start) (c .next)))))
-      (cond t (meaning.Token.name (part text (c .start) (c .next))) (meaning.Token.word (wordOf (part text (c .start) (c .next)))))
-  name-or-word true q =
-      subst (λ (n : List ℕ). Means text (c .start) (tokens.Name (length (part text (c .start) (c .next)))) (meaning.Token.name n)) whole
-      (Means.name (length (part text (c .start) (c .next))))
-  name-or-word false q = Means.word (wordOf (part text (c .start) (c .next)))
-
-  in-text : (t : Bool) → c .start + tokenBytes (cond t (tokens.Name (length (part text (c .start) (c .next)))) (tokens.Word (wordOf (part text (c .start) (c .next))))) ≤ length text
-  in-text true = omega (arith, length-part text (c .start) (c .next) order within)
-  in-text false = omega arith
-
-  numbered : Finds text (founds.Token (c .start) (tokens.Number (c .negative) (c .value) (c .over)))
+  numbered : Finds text (founds.Lexeme (placeAt (c .start)) (lexemes.Number (c .negative) (c .value) (c .over)))
       (meaning.Found.token (l .start) (meaning.Token.number (l .negative) (l .value)) ∷ [])
-  numbered = rw (← s .start, ← s .negative) (Finds.token (c .start) _ _ (Means.number (c .negative) (c .value) (c .over) (l .value) (s .amount)) (omega arith))
+  numbered = rw (← s .start, ← s .negative) (Finds.lexeme (placeAt (c .start)) _ _ (Means.number (c .negative) (c .value) (c .over) (l .value) (s .amount)) tt (omega arith))
 
-  strayed : Finds text (founds.Stray (c .start)) (meaning.Found.stray (l .start) ∷ [])
-  strayed = rw (← s .start) (Finds.stray (c .start))
+  strayed : Finds text (founds.Stray (placeAt (c .start))) (meaning.Found.stray (l .start) ∷ [])
+  strayed = rw (← s .start) (Finds.stray (placeAt (c .start)))
 
-  named : l .bytes ≡ part text (c .start) (c .next)
-      → Finds text (founds.Token (c .start) (nameOrWordAt (part text (c .start) (c .next)))) (meaning.Found.token (l .start) (nameOrWord (l .bytes)) ∷ [])
-  unfolding spellingAt nameOrWord
-  named h =
-      rw (← s .start, h)
-      (Finds.token (c .start) _ _ (name-or-word (eqb (wordOf (part text (c .start) (c .next))) wordCount) refl) (in-text (eqb (wordOf (part text (c .start) (c .next))) wordCount)))
+  named : l .mode ≡ Mode.plain
+      → Finds text (founds.Lexeme (placeAt (c .start)) (lexemes.Plain (c .start) (c .next - c .start))) (meaning.Found.token (l .start) (nameOrWord (l .bytes)) ∷ [])
+  named q =
+      rw (← s .start, s .bytes ∙ ap (λ (m : Mode). held m (part text (c .start) (c .next))) q)
+      (Finds.lexeme (placeAt (c .start)) _ _ (Means.plain (c .start) (c .next - c .start)) (omega arith, subst (λ (m : Mode). Sized m (c .next - c .start)) q (s .size)) (omega arith))
 
-  ends-as : (m : Mode) → l .mode ≡ m → c .mode ≡ modeNumber m → Finds text (endedAt text c) (endedAs m l)
+  ends-as : (m : Mode) → l .mode ≡ m → c .mode ≡ modeNumber m → Finds text (endedAt c) (endedAs m l)
   unfolding endedAt
   ends-as Mode.between q k = rw k Finds.nothing
-  ends-as Mode.plain q k = rw k (named (s .bytes ∙ ap (λ (m : Mode). held m (part text (c .start) (c .next))) q))
+  ends-as Mode.plain q k = rw k (named q)
   ends-as Mode.quoted q k = rw k strayed
   ends-as Mode.escaping q k = rw k strayed
   ends-as Mode.slash q k = rw k strayed
@@ -242,7 +258,7 @@ module _ (text : List ℕ) (l : meaning.Lexer) (c : Lexer) (s : Stands text l c)
   ends-as Mode.prefix q k = rw k strayed
   ends-as Mode.hexadecimal q k = rw k numbered
 
-  pub ends-found : Finds text (endedAt text c) (ended l)
+  pub ends-found : Finds text (endedAt c) (ended l)
   unfolding ended
   ends-found = ends-as (l .mode) refl (s .mode)
 
@@ -261,38 +277,54 @@ module _ (text : List ℕ) (l : meaning.Lexer) (c : Lexer) (s : Stands text l c)
   unfolding begunAt
   between = rw (s .next) (stands-at Mode.between (l .next) false 0 [] refl amount-zero)
 
-  begins-here : Begins (l .next) b (beginsAt (classNumber (classOf b)) b) (begin (l .next) b)
-  unfolding begin
-  begins-here = begins-as (classOf b) (l .next) b
-
   -- a byte that ends what is open and is then taken with nothing open
-  pub ends-gives : Gives text (ends l b) (endsAt text c (classNumber (classOf b)) b)
-  unfolding ends endsAt
-  ends-gives =
+  ends-gives : ((bs : List ℕ) → tokensFrom l (b ∷ bs) ≡ ends l b .found ++ tokensFrom (ends l b .lexer) bs) → Gives text l c (lexedFrom (idleAt 0 (c .next)) (endedAt c))
+  unfolding ends lexStep
+  ends-gives step =
       record {
-        lexer = rw (s .next) (enters text (l .next) b inside here small begins-here);
         one = ended l;
-        two = begin (l .next) b .found;
-        first = ends-found text l c s order (le-of-lt within);
-        second = rw (s .next) (singles text (l .next) b inside here small begins-here);
-        found = refl;
+        finds = ends-found text l c s order (le-of-lt within);
+        reaches =
+            record {
+              after = idle Mode.between (l .next);
+              stands = rw (s .next) (stands-idle Idle.between text (l .next));
+              tokens =
+                  λ more.
+                  let rest = drop (c .next + 1) text ++ more in
+                  let x = begin (l .next) b in
+                  rw (drop-here text (c .next) b within e more)
+                  (step rest ∙ append-assoc (ended l) (x .found) (tokensFrom (x .lexer) rest)
+                  ∙ ap (λ (fs : List meaning.Found). ended l ++ fs) (sym (tokens-step (idle Mode.between (l .next)) b rest)));
+            };
       }
 
-  closed : Named l → Finds text (founds.Token (c .start) (tokens.Name (c .next - c .start + 1)))
+  closed : Named l → Room l → Finds text (founds.Lexeme (placeAt (c .start)) (lexemes.Quoted (c .start) (c .next - c .start + 1)))
       (meaning.Found.token (l .start) (meaning.Token.name (l .bytes ++ (b ∷ []))) ∷ [])
-  closed h =
+  closed h i =
       let k : c .next + 1 - c .start ≡ c .next - c .start + 1 = omega arith in
       rw (← s .start, more text l c s b order within e small h, k)
-      (Finds.token (c .start) _ _ (Means.name (c .next - c .start + 1)) (omega arith))
+      (Finds.lexeme (placeAt (c .start)) _ _ (Means.quoted (c .start) (c .next - c .start + 1))
+      (omega arith, (omega arith, omega (arith, count text l c s b order within e small h, i))) (omega arith))
 
   -- one thing found, and nothing open after it
-  alone : {f : Found} {m : meaning.Found} → Finds text f (m ∷ [])
-      → Gives text (meaning.finds m (meaning.begun Mode.between (l .next))) (lexedFrom (begunAt 0 (c .next) b) f founds.Nothing)
-  alone {f} {m} h =
-      record { lexer = between; one = m ∷ []; two = []; first = h; second = Finds.nothing; found = refl }
+  alone : {f : Found} {m : meaning.Found}
+      → ((bs : List ℕ) → tokensFrom l (b ∷ bs) ≡ m ∷ tokensFrom (meaning.begun Mode.between (l .next)) bs)
+      → Finds text f (m ∷ []) → Gives text l c (lexedFrom (begunAt 0 (c .next) b) f)
+  unfolding begunAt
+  alone {f} {m} step h =
+      record {
+        one = m ∷ [];
+        finds = h;
+        reaches =
+            record {
+              after = meaning.begun Mode.between (l .next);
+              stands = between;
+              tokens = λ more. rw (drop-here text (c .next) b within e more) (step (drop (c .next + 1) text ++ more));
+            };
+      }
 
   single-gives : {a : ℕ} {x : meaning.Lexed} → Begins (l .next) b a x → 32 ≤ a
-      → Gives text x (findingAt text c (classNumber (classOf b)) a b)
+      → ((bs : List ℕ) → tokensFrom l (b ∷ bs) ≡ x .found ++ tokensFrom (x .lexer) bs) → Gives text l c (findingAt c a b)
   unfolding findingAt
   single-gives Begins.space i = absurd (omega arith)
   single-gives Begins.letter i = absurd (omega arith)
@@ -302,20 +334,20 @@ module _ (text : List ℕ) (l : meaning.Lexer) (c : Lexer) (s : Stands text l c)
   single-gives Begins.sign i = absurd (omega arith)
   single-gives Begins.zero i = absurd (omega arith)
   single-gives Begins.digit i = absurd (omega arith)
-  single-gives Begins.mark i = alone (rw (s .next) (singles text (l .next) b inside here small Begins.mark))
-  single-gives Begins.other i = alone (rw (s .next) (singles text (l .next) b inside here small Begins.other))
+  single-gives Begins.mark i = λ step. alone step (rw (s .next) (singles text (l .next) b inside here small Begins.mark i))
+  single-gives Begins.other i = λ step. alone step (rw (s .next) (singles text (l .next) b inside here small Begins.other i))
 
   pub finds-gives : {a : ℕ} {x : meaning.Lexed} → Act l b a x → 32 ≤ a
-      → Gives text x (findingAt text c (classNumber (classOf b)) a b)
+      → ((bs : List ℕ) → tokensFrom l (b ∷ bs) ≡ x .found ++ tokensFrom (x .lexer) bs) → Gives text l c (findingAt c a b)
   unfolding findingAt
-  finds-gives (Act.plain h) i = absurd (omega arith)
-  finds-gives (Act.quoted h) i = absurd (omega arith)
-  finds-gives (Act.escaping h) i = absurd (omega arith)
+  finds-gives (Act.plain h k) i = absurd (omega arith)
+  finds-gives (Act.quoted h k) i = absurd (omega arith)
+  finds-gives (Act.escaping h k) i = absurd (omega arith)
   finds-gives Act.zero i = absurd (omega arith)
   finds-gives Act.decimal i = absurd (omega arith)
   finds-gives Act.prefix i = absurd (omega arith)
   finds-gives Act.hexadecimal i = absurd (omega arith)
   finds-gives (Act.begins h) i = single-gives h i
   finds-gives Act.ending i = ends-gives
-  finds-gives Act.spoiling i = alone (rw (← s .start) (Finds.stray (c .start)))
-  finds-gives (Act.closing h) i = alone (closed h)
+  finds-gives Act.spoiling i = λ step. alone step (rw (← s .start) (Finds.stray (placeAt (c .start))))
+  finds-gives (Act.closing h k) i = λ step. alone step (closed h k)

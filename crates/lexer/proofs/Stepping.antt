@@ -1,43 +1,58 @@
 -- One byte, and the bytes up to the first that finds something. Assumes nothing.
 use mathlib.Core.Bool.{Bool, true, false, cond}
-use mathlib.Core.Path.{_≡_, refl, sym, ap, _∙_}
-use mathlib.Core.List.{List, [], _∷_, foldl, foldl-append}
+use mathlib.Core.Path.{_≡_, refl, sym, ap, _∙_, subst}
+use mathlib.Core.List.{List, [], _∷_, _++_}
 use Prim.Native.Nat.{ℕ, _+_, _-_, _≤_, _<_}
-use native.Mathlib.Nat.{le-refl, zero-add}
+use native.Mathlib.Nat.{le-refl}
 use native.Mathlib.Omega.{arith}
-use borrow.Author.Tests.{eqb-true}
-use lib.Dec.{eqb, ltb, leb}
-use lib.ListN.{length, getD}
-use Rattle.laws.proofs.Branches.{branches}
-use Rattle.laws.proofs.Ranges.{getD-map-from}
+use borrow.Author.Tests.{eqb-true, eq-eqb, ne-eqb}
+use lib.Dec.{T, eqb, ltb, leb}
+use lib.ListN.{length, getD, drop}
 use Rattle.language.specs.Bytes.{classOf, classNumber}
 use Rattle.language.specs.Tokens as meaning
-use Rattle.language.specs.Tokens.{Mode, quiet, lexStep, lexMore, lexEnd}
+use Rattle.language.specs.Tokens.{Mode, lexStep, tokensFrom, lexer₀}
 use Rattle.lexer.specs.declared.Lexer.{Lexer}
 use Rattle.lexer.specs.declared.Lexed.{Lexed}
-use Rattle.lexer.specs.declared.Token.{Token}
-use Rattle.lexer.specs.declared.Token.the-variants as tokens
+use Rattle.lexer.specs.declared.Found.{Found as Foundᶜ}
 use Rattle.lexer.specs.declared.Found.the-variants as founds
-use Rattle.lexer.specs.Actions.{beginsAt, inPlainAt, actionAt}
-use Rattle.lexer.specs.Lexing.{classTable, part, held, Stands, Finds, Gives, lexerFrom, lexedFrom, Passed, Onward, Stepped, Scanned, LexerFinished}
-use Rattle.lexer.specs.Advancing.{freshAt, begunAt, enteredAt, singleAt, endedAt, advancedAt, endsAt, findingAt}
-use Rattle.lexer.proofs.Acting.{Act, Counted, acts}
-use Rattle.lexer.proofs.Standing.{part-more, part-none, length-part, advances, advances-quietly, finds-gives, ends-found}
+use Rattle.lexer.specs.Actions.{modeNumber, beginsAt, actionAt}
+use Rattle.lexer.specs.Lexing.{part, held, left, Stands, Finds, Passed, Lexes, Scanned, lexerFrom, idleAt, lexedFrom}
+use Rattle.lexer.specs.Advancing.{begunAt, advancedAt, findingAt}
+use Rattle.lexer.proofs.Acting.{Act, Counted, acts, begins-nothing-ends}
+use Rattle.lexer.proofs.TokenSteps.{tokens-step, Idle, idle, idle-same}
+use Rattle.lexer.proofs.Standing.{drop-here, length-part, advances, advances-quietly, finds-gives, stands-idle}
 
--- the table's rule at a byte
-pub class-at : (classes : List ℕ) (b : ℕ) → classes ≡ classTable → b < 256 → getD classes b 0 ≡ classNumber (classOf b)
-unfolding classTable
-class-at classes b e h =
-    rw e (getD-map-from (λ x. classNumber (classOf x)) 0 0 256 b h ∙ ap (λ (n : ℕ). classNumber (classOf n)) (zero-add b))
+-- before the first byte
+pub stands-first : (text : List ℕ) → Stands text lexer₀ (idleAt 0 0)
+stands-first text = stands-idle Idle.between text 0
+
+-- ---- what is left
+
+open-one : (m : ℕ) → cond (eqb m 0) 0 1 ≤ 1
+open-one m = by (eqb m 0)
+  where
+    by : (t : Bool) → cond t 0 1 ≤ 1
+    by true = omega arith
+    by false = omega arith
+
+pub left-moved : (text : List ℕ) (c d : Lexer) → c .next < d .next → d .next ≤ length text → left text d < left text c
+unfolding left
+left-moved text c d h i = omega (arith, open-one (c .mode), open-one (d .mode))
+
+-- nothing is open any more
+pub left-closed : (text : List ℕ) (c : Lexer) → (c .mode ≡ 0 → ⊥) → left text (idleAt 0 (c .next)) < left text c
+unfolding left
+left-closed text c h = rw (ne-eqb (c .mode) 0 h) (omega arith)
+
+pub left-same : (text : List ℕ) (c d : Lexer) → c .next ≤ d .next → d .mode ≡ c .mode → left text d ≤ left text c
+unfolding left
+left-same text c d h e = rw e (omega arith)
 
 -- ---- the place after a byte
 
 pub record Moved (c r : Lexer) : Type 0 where
   pub next : r .next ≡ c .next + 1
   pub order : r .start ≤ r .next
-
-pub record Past (c : Lexer) (x : Lexed) : Type 0 where
-  pub moved : Moved c (x .lexer)
 
 module _ (c : Lexer) (order : c .start ≤ c .next) where
   on : (t : Bool) {x y : Lexer} → Moved c x → Moved c y → Moved c (cond t x y)
@@ -47,15 +62,11 @@ module _ (c : Lexer) (order : c .start ≤ c .next) where
   kept : (m : ℕ) (g : Bool) (v : ℕ) (o : Bool) → Moved c (lexerFrom m (c .next + 1) (c .start) g v o)
   kept m g v o = record { next = refl; order = omega arith }
 
-  begun-moved : (m b : ℕ) → Moved c (begunAt m (c .next) b)
+  pub begun-moved : (m b : ℕ) → Moved c (begunAt m (c .next) b)
   unfolding begunAt
   begun-moved m b =
       on (ltb m 6) (record { next = refl; order = omega arith })
       (on (eqb m 6) (record { next = refl; order = omega arith }) (record { next = refl; order = omega arith }))
-
-  entered-moved : (a b : ℕ) → Moved c (enteredAt a (c .next) b)
-  unfolding enteredAt
-  entered-moved a b = on (ltb a 32) (begun-moved (a - 16) b) (begun-moved 0 b)
 
   pub advanced-moved : (a b : ℕ) → Moved c (advancedAt c a b)
   unfolding advancedAt
@@ -63,16 +74,33 @@ module _ (c : Lexer) (order : c .start ≤ c .next) where
       on (leb 16 a) (begun-moved (a - 16) b)
       (on (ltb a 4) (kept _ _ _ _) (on (eqb a 9) (kept _ _ _ _) (on (eqb a 10) (kept _ _ _ _) (kept _ _ _ _))))
 
-  found-on : (t : Bool) {x y : Lexed} → Past c x → Past c y → Past c (cond t x y)
-  found-on true p q = p
-  found-on false p q = q
+-- The place after a byte that finds something, which is passed unless it ends what is open.
+record Found (text : List ℕ) (c : Lexer) (x : Lexed) : Type 0 where
+  forth : c .next ≤ x .lexer .next
+  within : x .lexer .next ≤ length text
+  order : x .lexer .start ≤ x .lexer .next
+  less : left text (x .lexer) < left text c
 
-  pub finding-moved : (text : List ℕ) (k a b : ℕ) → Past c (findingAt text c k a b)
-  unfolding findingAt endsAt
-  finding-moved text k a b =
-      found-on (eqb a 32) (record { moved = entered-moved _ b })
-      (found-on (eqb a 33) (record { moved = begun-moved 0 b })
-      (found-on (eqb a 34) (record { moved = begun-moved 0 b }) (record { moved = begun-moved 0 b })))
+module _ (text : List ℕ) (c : Lexer) (order : c .start ≤ c .next) (within : c .next < length text) where
+  either : (t : Bool) {x y : Lexed} → (t ≡ true → Found text c x) → Found text c y → Found text c (cond t x y)
+  either true p q = p refl
+  either false p q = q
+
+  passes : (b : ℕ) (f : Foundᶜ) → Found text c (lexedFrom (begunAt 0 (c .next) b) f)
+  passes b f =
+      let m = begun-moved c order 0 b in
+      record {
+        forth = omega (arith, m .next);
+        within = omega (arith, m .next);
+        order = m .order;
+        less = left-moved text c (begunAt 0 (c .next) b) (omega (arith, m .next)) (omega (arith, m .next));
+      }
+
+  finding-moved : (a b : ℕ) → (a ≡ 32 → c .mode ≡ 0 → ⊥) → Found text c (findingAt c a b)
+  unfolding findingAt
+  finding-moved a b h =
+      either (eqb a 32) (λ q. record { forth = le-refl (c .next); within = omega arith; order = le-refl (c .next); less = left-closed text c (h (eqb-true a 32 q)) })
+      (either (eqb a 33) (λ q. passes b _) (either (eqb a 34) (λ q. passes b _) (passes b _)))
 
 -- ---- one byte
 
@@ -102,185 +130,138 @@ module _ (text : List ℕ) (c : Lexer) (b k a : ℕ) (order : c .start ≤ c .ne
       by Mode.hexadecimal q = tt
 
   act : (l : meaning.Lexer) → Stands text l c → Act l b a (lexStep l b)
-  act l s =
-      rw (action, class, s .mode) (acts l b (c .next - c .start) (counted-as l s (l .mode) refl))
+  act l s = rw (action, class, s .mode) (acts l b (c .next - c .start) (counted-as l s (l .mode) refl))
 
-  pub step-stands : (l : meaning.Lexer) → Stands text l c → a < 32 → Stands text (lexStep l b .lexer) (advancedAt c a b)
-  step-stands l s h = advances text l c s b order within e small (act l s) h
+  -- that finds nothing
+  pub step-passes : a < 32 → Passed text c (advancedAt c a b)
+  step-passes h =
+      let m = advanced-moved c order a b in
+      record {
+        forth = omega (arith, m .next);
+        within = omega (arith, m .next);
+        order = m .order;
+        reaches =
+            λ l s.
+            record {
+              after = lexStep l b .lexer;
+              stands = advances text l c s b order within e small (act l s) h;
+              tokens =
+                  λ more.
+                  rw (m .next, drop-here text (c .next) b within e more)
+                  (tokens-step l b (drop (c .next + 1) text ++ more)
+                  ∙ ap (λ (fs : List meaning.Found). fs ++ tokensFrom (lexStep l b .lexer) (drop (c .next + 1) text ++ more))
+                  (advances-quietly text l c s b order within e small (act l s) h));
+            };
+      }
 
-  pub step-quiet : (l : meaning.Lexer) → Stands text l c → a < 32 → lexStep l b .found ≡ []
-  step-quiet l s h = advances-quietly text l c s b order within e small (act l s) h
+  not-between : a ≡ 32 → c .mode ≡ 0 → ⊥
+  unfolding actionAt
+  not-between q z =
+      let is : a ≡ beginsAt k b = action ∙ ap (λ (m : ℕ). actionAt m k b (c .next - c .start)) z in
+      subst T (sym (eq-eqb (beginsAt k b) 32 (sym is ∙ q)) ∙ begins-nothing-ends k b) tt
 
-  pub step-finds : (l : meaning.Lexer) → Stands text l c → 32 ≤ a → Gives text (lexStep l b) (findingAt text c k a b)
-  step-finds l s h = rw class (finds-gives text l c s b order within e small (act l s) h)
+  -- that finds something
+  pub step-finds : 32 ≤ a → Scanned text c (findingAt c a b)
+  step-finds h =
+      let m = finding-moved text c order within a b not-between in
+      record {
+        lexes =
+            record {
+              forth = m .forth;
+              within = m .within;
+              order = m .order;
+              gives = λ l s. finds-gives text l c s b order within e small (act l s) h (tokens-step l b);
+            };
+        less = m .less;
+      }
 
 -- ---- the bytes up to the first that finds something
 
 pub passed-none : (text : List ℕ) (c : Lexer) → c .next ≤ length text → c .start ≤ c .next → Passed text c c
 passed-none text c h o =
-    let z = part-none text (c .next) in
-    record { forth = le-refl (c .next); within = h; order = o; stands = λ l s. rw z s; quietly = λ l s. rw z }
+    record { forth = le-refl (c .next); within = h; order = o; reaches = λ l s. record { after = l; stands = s; tokens = λ more. refl } }
 
-module _ (text : List ℕ) (c d : Lexer) (p : Passed text c d) (b k a : ℕ) (within : d .next < length text)
-    (e : b ≡ getD text (d .next) 0) (small : b < 256) (class : k ≡ classNumber (classOf b))
-    (action : a ≡ actionAt (d .mode) k b (d .next - d .start)) where
-  -- the definition's lexer there
-  so-far : meaning.Lexer → meaning.Lexed
-  so-far l = foldl lexMore (quiet l) (part text (c .next) (d .next))
-
-  one-more : (l : meaning.Lexer) (n : ℕ) → n ≡ d .next + 1 → foldl lexMore (quiet l) (part text (c .next) n) ≡ lexMore (so-far l) b
-  unfolding so-far
-  one-more l n q =
-      rw (q, part-more text (c .next) (d .next) (p .forth) within, ← e)
-      (foldl-append lexMore (quiet l) (part text (c .next) (d .next)) (b ∷ []))
-
-  pub passed-more : a < 32 → Passed text c (advancedAt d a b)
-  unfolding so-far lexMore
-  passed-more h =
-      let m = advanced-moved d (p .order) a b in
-      record {
-        forth = omega (arith, m .next, p .forth);
-        within = omega (arith, m .next);
-        order = m .order;
-        stands =
-            λ l s. rw (one-more l _ (m .next)) (step-stands text d b k a (p .order) within e small class action (so-far l .lexer) (p .stands l s) h);
-        quietly =
-            λ l s. rw (one-more l _ (m .next), p .quietly l s) (step-quiet text d b k a (p .order) within e small class action (so-far l .lexer) (p .stands l s) h);
-      }
-
-  pub passed-found : 32 ≤ a → Scanned text c (findingAt text d k a b)
-  unfolding so-far lexMore
-  passed-found h =
-      let m = finding-moved d (p .order) text k a b .moved in
-      record {
-        forth = omega (arith, m .next, p .forth);
-        moves = λ i. omega (arith, m .next, p .forth);
-        within = omega (arith, m .next);
-        order = m .order;
-        gives =
-            λ l s.
-            let g = step-finds text d b k a (p .order) within e small class action (so-far l .lexer) (p .stands l s) h in
-            rw (one-more l _ (m .next))
-            (record { lexer = g .lexer; one = g .one; two = g .two; first = g .first; second = g .second; found = rw (p .quietly l s) (g .found) });
-      }
-
-pub passed-all : (text : List ℕ) (c d : Lexer) → Passed text c d → (c .next < length text → c .next < d .next)
-    → Scanned text c (lexedFrom d founds.Nothing founds.Nothing)
-passed-all text c d p h =
+pub passed-then : (text : List ℕ) (c d e : Lexer) → Passed text c d → Passed text d e → Passed text c e
+passed-then text c d e p q =
     record {
-      forth = p .forth;
-      moves = h;
-      within = p .within;
-      order = p .order;
-      gives =
-          λ l s. record { lexer = p .stands l s; one = []; two = []; first = Finds.nothing; second = Finds.nothing; found = p .quietly l s };
+      forth = omega (arith, p .forth, q .forth);
+      within = q .within;
+      order = q .order;
+      reaches =
+          λ l s.
+          let x = p .reaches l s in
+          let y = q .reaches (x .after) (x .stands) in
+          record { after = y .after; stands = y .stands; tokens = λ more. x .tokens more ∙ y .tokens more };
     }
 
--- ---- in a plain name
+pub passed-lexes : (text : List ℕ) (c d : Lexer) (r : Lexed) → Passed text c d → Lexes text d r → Lexes text c r
+passed-lexes text c d r p q =
+    record {
+      forth = omega (arith, p .forth, q .forth);
+      within = q .within;
+      order = q .order;
+      gives =
+          λ l s.
+          let x = p .reaches l s in
+          let y = q .gives (x .after) (x .stands) in
+          record {
+            one = y .one;
+            finds = y .finds;
+            reaches = record { after = y .reaches .after; stands = y .reaches .stands; tokens = λ more. x .tokens more ∙ y .reaches .tokens more };
+          };
+    }
 
-in-plain : (k n : ℕ) → k < 2 → n < 64 → 1 ≡ inPlainAt k n
-unfolding inPlainAt
-in-plain k n t u = search branches
+-- nothing found
+pub lexes-nothing : (text : List ℕ) (c d : Lexer) → Passed text c d → Lexes text c (lexedFrom d founds.Nothing)
+lexes-nothing text c d p =
+    record {
+      forth = p .forth;
+      within = p .within;
+      order = p .order;
+      gives = λ l s. record { one = []; finds = Finds.nothing; reaches = p .reaches l s };
+    }
 
-past-plain : (k n : ℕ) → 2 ≤ k → 32 ≡ inPlainAt k n
-unfolding inPlainAt
-past-plain k n t = search branches
+pub moved-scanned : (text : List ℕ) (c : Lexer) (r : Lexed) → Lexes text c r → c .next < r .lexer .next → Scanned text c r
+moved-scanned text c r p h = record { lexes = p; less = left-moved text c (r .lexer) h (p .within) }
 
--- ---- runs of bytes that leave the same kind of thing open
+pub passed-scanned : (text : List ℕ) (c d : Lexer) (r : Lexed) → Passed text c d → left text d ≤ left text c → Scanned text d r → Scanned text c r
+passed-scanned text c d r p h q = record { lexes = passed-lexes text c d r p (q .lexes); less = omega (arith, q .less) }
 
-pub onward-none : (text : List ℕ) (c : Lexer) → c .next ≤ length text → c .start ≤ c .next → Onward text c c
-onward-none text c h o = record { mode = refl; forth = le-refl (c .next); within = h; order = o; passed = λ o p. p }
+-- ---- modes by their numbers
 
-module _ (text : List ℕ) (c d : Lexer) (p : Onward text c d) (b k : ℕ) (within : d .next < length text)
-    (e : b ≡ getD text (d .next) 0) (small : b < 256) (class : k ≡ classNumber (classOf b)) where
-  onward-more : (a : ℕ) → a ≡ actionAt (d .mode) k b (d .next - d .start) → a < 32 → advancedAt d a b .mode ≡ d .mode
-      → Onward text c (advancedAt d a b)
-  onward-more a action h m =
-      let v = advanced-moved d (p .order) a b in
-      record {
-        mode = m ∙ p .mode;
-        forth = omega (arith, v .next, p .forth);
-        within = omega (arith, v .next);
-        order = v .order;
-        passed = λ o q. passed-more text o d (p .passed o q) b k a within e small class action h;
-      }
+abbrev modes : List Mode
+modes =
+    Mode.between ∷ Mode.plain ∷ Mode.quoted ∷ Mode.escaping ∷ Mode.slash ∷ Mode.comment ∷ Mode.sign ∷ Mode.leadingZero ∷ Mode.decimal ∷ Mode.prefix
+    ∷ Mode.hexadecimal ∷ []
 
-  -- a space, with nothing open
-  pub space-on : c .mode ≡ 0 → k ≡ 2 → Onward text c (advancedAt d 16 b)
-  unfolding actionAt beginsAt advancedAt begunAt
-  space-on z t = onward-more 16 (rw (p .mode ∙ z, t)) (omega arith) (sym (p .mode ∙ z))
+mode-of : (m : Mode) → getD modes (modeNumber m) Mode.between ≡ m
+mode-of Mode.between = refl
+mode-of Mode.plain = refl
+mode-of Mode.quoted = refl
+mode-of Mode.escaping = refl
+mode-of Mode.slash = refl
+mode-of Mode.comment = refl
+mode-of Mode.sign = refl
+mode-of Mode.leadingZero = refl
+mode-of Mode.decimal = refl
+mode-of Mode.prefix = refl
+mode-of Mode.hexadecimal = refl
 
-  -- a name character, in a plain name that has room
-  pub letter-on : c .mode ≡ 1 → k < 2 → d .next - d .start < 64 → Onward text c (advancedAt d 1 b)
-  unfolding actionAt advancedAt
-  letter-on z t u = onward-more 1 (rw (p .mode ∙ z) (in-plain k (d .next - d .start) t u)) (omega arith) (sym (p .mode ∙ z))
+pub mode-is : (text : List ℕ) (l : meaning.Lexer) (c : Lexer) (m : Mode) → Stands text l c → c .mode ≡ modeNumber m → l .mode ≡ m
+mode-is text l c m s e = sym (mode-of (l .mode)) ∙ ap (λ (n : ℕ). getD modes n Mode.between) (sym (s .mode) ∙ e) ∙ mode-of m
 
--- ---- marks and plain names
-
-pub fresh-is : (m k n : ℕ) → freshAt m k ≡ n → n < 7 → (m ≡ 0) × (k ≡ n)
-unfolding freshAt
-fresh-is m k n = by (eqb m 0) refl
-  where
-    by : (t : Bool) → eqb m 0 ≡ t → cond t k 7 ≡ n → n < 7 → (m ≡ 0) × (k ≡ n)
-    by true q e h = (eqb-true m 0 q, e)
-    by false q e h = absurd (omega (arith, e))
-
-module _ (text : List ℕ) (c d : Lexer) (p : Passed text c d) (b k : ℕ) (within : d .next < length text)
-    (e : b ≡ getD text (d .next) 0) (small : b < 256) (class : k ≡ classNumber (classOf b)) where
-  -- a mark, with nothing open
-  pub mark-found : d .mode ≡ 0 → k ≡ 6 → Scanned text c (lexedFrom (begunAt 0 (d .next) b) (founds.Token (d .next) (tokens.Mark b)) founds.Nothing)
-  unfolding actionAt beginsAt findingAt singleAt
-  mark-found z t = passed-found text c d p b k 35 within e small class (rw (z, t)) (omega arith)
-
-  -- a letter, with nothing open, begins a plain name
-  pub name-begun : d .mode ≡ 0 → k ≡ 0 → Passed text c (advancedAt d 17 b)
-  unfolding actionAt beginsAt
-  name-begun z t = passed-more text c d p b k 17 within e small class (rw (z, t)) (omega arith)
-
-  -- a byte that ends a plain name
-  pub name-ended : d .mode ≡ 1 → 2 ≤ k → Scanned text c (endsAt text d k b)
-  unfolding actionAt findingAt
-  name-ended z t = passed-found text c d p b k 32 within e small class (rw z (past-plain k (d .next - d .start) t)) (omega arith)
-
-pub plain-begun : (d : Lexer) (b : ℕ) → advancedAt d 17 b .mode ≡ 1
-unfolding advancedAt begunAt
-plain-begun d b = refl
-
--- one byte, either way
-module _ (text : List ℕ) (c : Lexer) (b k a : ℕ) (order : c .start ≤ c .next) (within : c .next < length text)
-    (e : b ≡ getD text (c .next) 0) (small : b < 256) (class : k ≡ classNumber (classOf b))
-    (action : a ≡ actionAt (c .mode) k b (c .next - c .start)) where
-  pub stepped-quietly : a < 32 → Stepped text c (lexedFrom (advancedAt c a b) founds.Nothing founds.Nothing)
-  stepped-quietly h =
-      let m = advanced-moved c order a b in
-      record {
-        next = m .next;
-        order = m .order;
-        gives =
-            λ l s.
-            rw (← e)
-            (record {
-              lexer = step-stands text c b k a order within e small class action l s h;
-              one = [];
-              two = [];
-              first = Finds.nothing;
-              second = Finds.nothing;
-              found = step-quiet text c b k a order within e small class action l s h;
-            });
-      }
-
-  pub stepped-finding : 32 ≤ a → Stepped text c (findingAt text c k a b)
-  stepped-finding h =
-      let m = finding-moved c order text k a b .moved in
-      record {
-        next = m .next;
-        order = m .order;
-        gives = λ l s. rw (← e) (step-finds text c b k a order within e small class action l s h);
-      }
-
--- ---- the end of the text
-
-pub finished : (text : List ℕ) (c : Lexer) → c .start ≤ c .next → c .next ≤ length text → LexerFinished text c (endedAt text c)
-unfolding lexEnd
-finished text c o w =
-    record { gives = λ l s. record { one = meaning.ended l; first = ends-found text l c s o w; found = refl } }
+-- with nothing open, or a comment, it does not matter where it began
+pub passed-idle : {m : Mode} → Idle m → (text : List ℕ) (c : Lexer) → c .next ≤ length text → c .mode ≡ modeNumber m → Passed text c (idleAt (modeNumber m) (c .next))
+passed-idle {m} i text c within z =
+    record {
+      forth = le-refl (c .next);
+      within = within;
+      order = le-refl (c .next);
+      reaches =
+          λ l s.
+          record {
+            after = idle m (l .next);
+            stands = rw (s .next) (stands-idle i text (l .next));
+            tokens = λ more. idle-same i l (mode-is text l c m s z) (drop (c .next) text ++ more);
+          };
+    }

@@ -1,4 +1,6 @@
--- What a byte does to what is open, by number, as the code tests it. Assumes nothing.
+-- What a byte does to what is open, by number, as the code tests it: 0 to 10, it goes on with it, in that mode; 16 to 26, it begins mode 0 to 10;
+-- 32, it ends what is open and is still to be taken; 33, it makes what is open no token; 34, it closes a quoted name; 35, it is a mark; 36, it is no
+-- token. Those below 32 find nothing. Assumes nothing.
 use mathlib.Core.Bool.{cond}
 use Prim.Native.Nat.{ℕ}
 use lib.Dec.{eqb, ltb}

@@ -1,24 +1,22 @@
 -- What the lexer's numbers stand for: the definition's lexer and what it finds (document 01, "The text"). Assumes nothing.
-use mathlib.Core.Bool.{Bool}
-use mathlib.Core.List.{List, [], _∷_, _++_, foldl, map}
+use mathlib.Core.Bool.{Bool, false, cond}
+use mathlib.Core.List.{List, [], _∷_, _++_}
 use mathlib.Core.Path.{_≡_}
-use Prim.Native.Nat.{ℕ, _+_, _-_, _≤_, _<_}
-use lib.ListN.{length, take, drop, getD}
-use Rattle.laws.specs.Lists.{below}
-use Rattle.language.specs.Bytes.{classOf, classNumber}
+use Prim.Native.Nat.{ℕ, _+_, _-_, _*_, _≤_, _<_}
+use lib.Dec.{eqb}
+use lib.ListN.{length, take, drop}
+use Rattle.language.specs.Programs.{maxName}
 use Rattle.language.specs.Tokens as meaning
+use Rattle.language.specs.Tokens.{nameOrWord, tokensFrom}
 use Rattle.lexer.specs.declared.Lexer.{Lexer}
-use Rattle.lexer.specs.declared.Token.{Token}
-use Rattle.lexer.specs.declared.Token.the-variants as tokens
+use Rattle.text_place.specs.declared.TextPlace.{TextPlace}
+use Rattle.lexer.specs.declared.Lexeme.{Lexeme}
+use Rattle.lexer.specs.declared.Lexeme.the-variants as lexemes
 use Rattle.lexer.specs.declared.Found.{Found}
 use Rattle.lexer.specs.declared.Found.the-variants as founds
 use Rattle.lexer.specs.declared.Lexed.{Lexed}
 use Rattle.lexer.specs.Numbers.{amountFrom, amountOf}
 use Rattle.lexer.specs.Actions.{modeNumber}
-
--- "Each of the 256 byte values belongs to exactly one class": the classes as numbers.
-unfoldable pub classTable : List ℕ
-classTable = map (λ b. classNumber (classOf b)) (below 256)
 
 -- The bytes of the text from place s up to place e.
 abbrev pub part : List ℕ → ℕ → ℕ → List ℕ
@@ -27,8 +25,15 @@ part text s e = take (e - s) (drop s text)
 abbrev pub lexerFrom : (mode next start : ℕ) (negative : Bool) (value : ℕ) (over : Bool) → Lexer
 lexerFrom m n s g v o = record { mode = m; next = n; start = s; negative = g; value = v; over = o }
 
-abbrev pub lexedFrom : Lexer → Found → Found → Lexed
-lexedFrom l f g = record { lexer = l; first = f; second = g }
+-- Between tokens or in a comment, before the byte at p.
+abbrev pub idleAt : (mode place : ℕ) → Lexer
+idleAt m p = lexerFrom m p p false 0 false
+
+abbrev pub lexedFrom : Lexer → Found → Lexed
+lexedFrom l f = record { lexer = l; found = f }
+
+abbrev pub placeAt : ℕ → TextPlace
+placeAt p = record { byte = p }
 
 -- ---- what the numbers stand for
 
@@ -46,87 +51,112 @@ held meaning.Mode.decimal xs = []
 held meaning.Mode.prefix xs = []
 held meaning.Mode.hexadecimal xs = []
 
+-- "A name has 1 to 64 bytes so counted."
+abbrev pub NameSize : ℕ → Type 0
+NameSize n = (1 ≤ n) × (n ≤ maxName)
+
+-- A name that is open has them already.
+abbrev pub Sized : meaning.Mode → ℕ → Type 0
+Sized meaning.Mode.between n = Unit {0}
+Sized meaning.Mode.plain n = NameSize n
+Sized meaning.Mode.quoted n = NameSize n
+Sized meaning.Mode.escaping n = NameSize n
+Sized meaning.Mode.slash n = Unit {0}
+Sized meaning.Mode.comment n = Unit {0}
+Sized meaning.Mode.sign n = Unit {0}
+Sized meaning.Mode.leadingZero n = Unit {0}
+Sized meaning.Mode.decimal n = Unit {0}
+Sized meaning.Mode.prefix n = Unit {0}
+Sized meaning.Mode.hexadecimal n = Unit {0}
+
 -- The lexer c stands for the definition's l, in this text.
 pub record Stands (text : List ℕ) (l : meaning.Lexer) (c : Lexer) : Type 0 where
   pub mode : c .mode ≡ modeNumber (l .mode)
   pub next : c .next ≡ l .next
   pub start : c .start ≡ l .start
   pub bytes : l .bytes ≡ held (l .mode) (part text (c .start) (c .next))
+  pub size : Sized (l .mode) (c .next - c .start)
   pub negative : c .negative ≡ l .negative
   pub amount : amountFrom (c .value) (c .over) ≡ amountOf (l .value)
 
--- A token at a place of the text, and the definition's: a number that is kept as this one.
-pub data Means (text : List ℕ) (p : ℕ) : Token → meaning.Token → Type 0 where
-  name : (n : ℕ) → Means text p (tokens.Name n) (meaning.Token.name (take n (drop p text)))
-  word : (w : ℕ) → Means text p (tokens.Word w) (meaning.Token.word w)
-  number : (g : Bool) (v : ℕ) (o : Bool) (n : ℕ) → amountFrom v o ≡ amountOf n → Means text p (tokens.Number g v o) (meaning.Token.number g n)
-  mark : (b : ℕ) → Means text p (tokens.Mark b) (meaning.Token.mark b)
-  end : Means text p tokens.End meaning.Token.end
+-- A lexeme of the text, and the definition's token: a number that is kept as this one. The end is found in no bytes.
+pub data Means (text : List ℕ) : Lexeme → meaning.Token → Type 0 where
+  plain : (s n : ℕ) → Means text (lexemes.Plain s n) (nameOrWord (take n (drop s text)))
+  quoted : (s n : ℕ) → Means text (lexemes.Quoted s n) (meaning.Token.name (take n (drop s text)))
+  number : (g : Bool) (v : ℕ) (o : Bool) (n : ℕ) → amountFrom v o ≡ amountOf n → Means text (lexemes.Number g v o) (meaning.Token.number g n)
+  mark : (b : ℕ) → Means text (lexemes.Mark b) (meaning.Token.mark b)
 
--- How many bytes of the text a token names.
-abbrev pub tokenBytes : Token → ℕ
-tokenBytes (tokens.Name n) = n
-tokenBytes (tokens.Word w) = 0
-tokenBytes (tokens.Number g v o) = 0
-tokenBytes (tokens.Mark b) = 0
-tokenBytes tokens.End = 0
+-- The bytes of a name, or of what may be one, lie in the text.
+abbrev pub Within : List ℕ → Lexeme → Type 0
+Within text (lexemes.Plain s n) = (s + n ≤ length text) × NameSize n
+Within text (lexemes.Quoted s n) = (s + n ≤ length text) × NameSize n
+Within text (lexemes.Number g v o) = Unit {0}
+Within text (lexemes.Mark b) = Unit {0}
+Within text lexemes.End = Unit {0}
 
--- What one answer of the lexer stands for: nothing, or one thing found, a token in the text.
+-- What an answer of the lexer stands for: nothing, or one thing found.
 pub data Finds (text : List ℕ) : Found → List meaning.Found → Type 0 where
   nothing : Finds text founds.Nothing []
-  token : (p : ℕ) (t : Token) (m : meaning.Token) → Means text p t m → p + tokenBytes t ≤ length text
-      → Finds text (founds.Token p t) (meaning.Found.token p m ∷ [])
-  stray : (p : ℕ) → Finds text (founds.Stray p) (meaning.Found.stray p ∷ [])
-
--- What the lexer answers stands for what the definition gives.
-pub record Gives (text : List ℕ) (x : meaning.Lexed) (r : Lexed) : Type 0 where
-  pub lexer : Stands text (x .lexer) (r .lexer)
-  pub one : List meaning.Found
-  pub two : List meaning.Found
-  pub first : Finds text (r .first) one
-  pub second : Finds text (r .second) two
-  pub found : x .found ≡ one ++ two
+  lexeme : (p : TextPlace) (x : Lexeme) (t : meaning.Token) → Means text x t → Within text x → p .byte ≤ length text
+      → Finds text (founds.Lexeme p x) (meaning.Found.token (p .byte) t ∷ [])
+  stray : (p : TextPlace) → Finds text (founds.Stray p) (meaning.Found.stray (p .byte) ∷ [])
 
 -- ---- what the functions promise
 
--- The bytes from c's place up to d's find nothing, and bring c to d.
+-- From the definition's l, for which c stands, the bytes from c's place up to d's find `one` and lead to a lexer for which d stands, whatever
+-- bytes come after the text.
+pub record Reaches (text : List ℕ) (l : meaning.Lexer) (c d : Lexer) (one : List meaning.Found) : Type 0 where
+  pub after : meaning.Lexer
+  pub stands : Stands text after d
+  pub tokens : (more : List ℕ) → tokensFrom l (drop (c .next) text ++ more) ≡ one ++ tokensFrom after (drop (d .next) text ++ more)
+
+-- The bytes from c's place up to d's find nothing.
 pub record Passed (text : List ℕ) (c d : Lexer) : Type 0 where
   pub forth : c .next ≤ d .next
   pub within : d .next ≤ length text
   pub order : d .start ≤ d .next
-  pub stands : (l : meaning.Lexer) → Stands text l c
-      → Stands text (foldl meaning.lexMore (meaning.quiet l) (part text (c .next) (d .next)) .lexer) d
-  pub quietly : (l : meaning.Lexer) → Stands text l c
-      → foldl meaning.lexMore (meaning.quiet l) (part text (c .next) (d .next)) .found ≡ []
+  pub reaches : (l : meaning.Lexer) → Stands text l c → Reaches text l c d []
 
--- The same kind of thing goes on being open, and whatever passed up to c passed up to d.
-pub record Onward (text : List ℕ) (c d : Lexer) : Type 0 where
-  pub mode : d .mode ≡ c .mode
-  pub forth : c .next ≤ d .next
-  pub within : d .next ≤ length text
-  pub order : d .start ≤ d .next
-  pub passed : (o : Lexer) → Passed text o c → Passed text o d
+-- The answer stands for what the bytes from c's place up to the answer's find.
+pub record Gives (text : List ℕ) (l : meaning.Lexer) (c : Lexer) (r : Lexed) : Type 0 where
+  pub one : List meaning.Found
+  pub finds : Finds text (r .found) one
+  pub reaches : Reaches text l c (r .lexer) one
 
--- After one byte: whatever c stands for, the answer stands for what the definition's step gives.
-pub record Stepped (text : List ℕ) (c : Lexer) (r : Lexed) : Type 0 where
-  pub next : r .lexer .next ≡ c .next + 1
-  pub order : r .lexer .start ≤ r .lexer .next
-  pub gives : (l : meaning.Lexer) → Stands text l c → Gives text (meaning.lexStep l (getD text (c .next) 0)) r
-
--- After the bytes from c's place up to the answer's: the same, with all that these bytes end.
-pub record Scanned (text : List ℕ) (c : Lexer) (r : Lexed) : Type 0 where
+pub record Lexes (text : List ℕ) (c : Lexer) (r : Lexed) : Type 0 where
   pub forth : c .next ≤ r .lexer .next
-  pub moves : c .next < length text → c .next < r .lexer .next
   pub within : r .lexer .next ≤ length text
   pub order : r .lexer .start ≤ r .lexer .next
-  pub gives : (l : meaning.Lexer) → Stands text l c
-      → Gives text (foldl meaning.lexMore (meaning.quiet l) (part text (c .next) (r .lexer .next))) r
+  pub gives : (l : meaning.Lexer) → Stands text l c → Gives text l c r
 
--- At the end of the text: what it ends, before the token of the end itself.
-pub record GivesLast (text : List ℕ) (l : meaning.Lexer) (r : Found) : Type 0 where
+-- What is left to do: a byte counts two, and one more if something is open, which a byte may end without being passed.
+unfoldable pub left : List ℕ → Lexer → ℕ
+left text c = 2 * (length text - c .next) + cond (eqb (c .mode) 0) 0 1
+
+-- After a scan less is left.
+pub record Scanned (text : List ℕ) (c : Lexer) (r : Lexed) : Type 0 where
+  pub lexes : Lexes text c r
+  pub less : left text (r .lexer) < left text c
+
+-- At the end of the text: with nothing open the end is found,
+pub record FindsEnd (l : meaning.Lexer) (c : Lexer) (r : Lexed) : Type 0 where
+  pub found : r .found ≡ founds.Lexeme (placeAt (c .next)) lexemes.End
+  pub tokens : tokensFrom l [] ≡ meaning.Found.token (l .next) meaning.Token.end ∷ []
+
+-- and else what is open, after which nothing is.
+pub record FindsLast (text : List ℕ) (l : meaning.Lexer) (c : Lexer) (r : Lexed) : Type 0 where
   pub one : List meaning.Found
-  pub first : Finds text r one
-  pub found : meaning.lexEnd l ≡ one ++ (meaning.Found.token (l .next) meaning.Token.end ∷ [])
+  pub finds : Finds text (r .found) one
+  pub idle : r .lexer ≡ idleAt 0 (c .next)
+  pub less : left text (r .lexer) < left text c
+  pub after : meaning.Lexer
+  pub stands : Stands text after (r .lexer)
+  pub tokens : tokensFrom l [] ≡ one ++ tokensFrom after []
 
-pub record LexerFinished (text : List ℕ) (c : Lexer) (r : Found) : Type 0 where
-  pub gives : (l : meaning.Lexer) → Stands text l c → GivesLast text l r
+pub data Ending (text : List ℕ) (l : meaning.Lexer) (c : Lexer) (r : Lexed) : Type 0 where
+  end : FindsEnd l c r → Ending text l c r
+  last : FindsLast text l c r → Ending text l c r
+
+-- In any text that is as long as the bytes that the lexer has passed.
+pub record LexerFinished (c : Lexer) (r : Lexed) : Type 0 where
+  pub gives : (text : List ℕ) → length text ≡ c .next → (l : meaning.Lexer) → Stands text l c → Ending text l c r

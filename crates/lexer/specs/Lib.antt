@@ -1,5 +1,5 @@
 pub mod Numbers
-pub mod Keys
 pub mod Actions
+pub mod Runs
 pub mod Lexing
 pub mod Advancing

@@ -1,83 +1,86 @@
-// Bytes to tokens: a step over one byte, with its state by value. A name is a part of the text and is never copied.
+// Bytes to lexemes, one at a time, with the state by value. A name is a part of the text and is never copied; a plain one may be a word,
+// which whoever takes it looks up.
 mod actions;
-mod class_table;
+mod modes;
+mod runs;
 mod values;
-mod words;
 
 use crate::values::Amount;
-pub use class_table::classes;
-use instructions::words::COUNT;
-pub use words::word;
+use text_place::TextPlace;
+use vocabulary::kinds;
 ghost use mathlib.Core.Bool.{false};
 ghost use mathlib.Core.Path.{_≡_};
 ghost use Prim.Native.Nat.{_≤_, _<_};
-ghost use lib.ListN.{length};
-ghost use Rattle.lexer.specs.Lexing.{classTable, lexerFrom, Passed, Onward, Stepped, Scanned, LexerFinished};
-ghost use Rattle.lexer.specs.Advancing.{spellingAt, freshAt, begunAt, enteredAt, singleAt, endedAt, longerAt, numberAt, advancedAt, endsAt, findingAt};
+ghost use lib.ListN.{length, getD};
+ghost use Rattle.vocabulary.specs.Classes.{classTable};
+ghost use Rattle.lexer.specs.Lexing.{idleAt, Passed, Lexes, Scanned, LexerFinished};
+ghost use Rattle.lexer.specs.Advancing.{freshAt, begunAt, singleAt, endedAt, longerAt, numberAt, advancedAt, findingAt};
 
-// What the bytes so far leave open (between 0, plain name 1, quoted name 2, escaping 3, slash 4, comment 5, sign 6, leading
-// zero 7, decimal 8, prefix 9, hexadecimal 10), the place of the next byte, the place where what is open began, and a
+// What the bytes so far leave open (a mode's number), the place of the next byte, the place where what is open began, and a
 // number's sign and value; `over` says that the value is 2^64 or more, and then `value` is 0. The fields stand so that no odd
 // number of bytes lies between or behind them: such a gap is copied apart, at every token.
 pub struct Lexer {
     pub next: usize,
     pub start: usize,
     pub value: u64,
-    pub mode: u16,
+    pub mode: u64,
     pub negative: bool,
     pub over: bool,
 }
 
-// A name by its length (its bytes begin at the token's place), a word by its number, a number by its sign, its value and
-// whether that is 2^64 or more, a mark by its byte.
-pub enum Token {
-    Name(usize),
-    Word(u8),
+// What stands at a place: a plain spelling, a name or a word, and a quoted name, each by the place of its first byte in the text lent and the
+// count of its bytes; a number by its sign, its value and whether that is 2^64 or more; a mark by its byte; the end.
+pub enum Lexeme {
+    Plain(usize, usize),
+    Quoted(usize, usize),
     Number(bool, u64, bool),
     Mark(u8),
     End,
 }
 
-// What a byte ended: a token with its place, or a place that has no token.
+// What some bytes ended: a lexeme with its place, or a place that has no token.
 pub enum Found {
     Nothing,
-    Token(usize, Token),
-    Stray(usize),
+    Lexeme(TextPlace, Lexeme),
+    Stray(TextPlace),
 }
 
-// The lexer after some bytes, and what they ended, in order.
+// The lexer after some bytes, and what they ended.
 pub struct Lexed {
     pub lexer: Lexer,
-    pub first: Found,
-    pub second: Found,
+    pub found: Found,
 }
 
-// "A plain spelling of .. is a word and never a name.": a spelling of so many bytes, whose word this is.
-fn name_or_word(word: u8, length: usize) -> Token
-    ensures { λ r. ⌜ r ≡ spellingAt word length ⌝ }
-{
-    if word == COUNT {
-        return Token::Name(length);
-    }
-    Token::Word(word)
-}
-
-// The class of a byte before which nothing is open; else 7, which begins nothing.
-fn fresh(mode: u16, class: u8) -> u8
+// The class of a byte before which nothing is open; else OTHER, which begins nothing.
+fn fresh(mode: u64, class: u8) -> u8
     ensures { λ r. ⌜ r ≡ freshAt mode class ⌝ }
 {
-    if mode == 0 {
+    if mode == modes::BETWEEN {
         return class;
     }
-    7
+    kinds::OTHER
 }
 
-// The byte b at p begins a mode below 6, a sign, or a number's digits.
-fn begun(mode: u16, p: usize, b: u8) -> Lexer
+// Between tokens or in a comment, before the byte at p.
+fn idle(mode: u64, p: usize) -> Lexer
+    ensures { λ r. ⌜ r ≡ idleAt mode p ⌝ }
+{
+    Lexer {
+        mode,
+        next: p,
+        start: p,
+        negative: false,
+        value: 0,
+        over: false,
+    }
+}
+
+// The byte b at p begins a mode before the numbers', a sign, or a number's digits.
+fn begun(mode: u64, p: usize, b: u8) -> Lexer
     requires { ⌜ p < 18446744073709551615 ⌝ }
     ensures { λ r. ⌜ r ≡ begunAt mode p b ⌝ }
 {
-    if mode < 6 {
+    if mode < modes::SIGN {
         return Lexer {
             mode,
             next: p + 1,
@@ -87,12 +90,12 @@ fn begun(mode: u16, p: usize, b: u8) -> Lexer
             over: false,
         };
     }
-    if mode == 6 {
+    if mode == modes::SIGN {
         return Lexer {
             mode,
             next: p + 1,
             start: p,
-            negative: b == 45,
+            negative: b == b'-',
             value: 0,
             over: false,
         };
@@ -107,74 +110,84 @@ fn begun(mode: u16, p: usize, b: u8) -> Lexer
     }
 }
 
-// The lexer past a byte at p that began something, or was a token or none by itself.
-fn entered(action: u16, p: usize, b: u8) -> Lexer
-    requires { ⌜ (p < 18446744073709551615) × (16 ≤ action) ⌝ }
-    ensures { λ r. ⌜ r ≡ enteredAt action p b ⌝ }
-{
-    if action < 32 {
-        return begun(action - 16, p, b);
-    }
-    begun(0, p, b)
-}
-
-// What that byte was by itself.
-fn single(action: u16, p: usize, b: u8) -> Found
+// What a byte is by itself, of those that find something with nothing open.
+fn single(action: u64, p: usize, b: u8) -> Found
     ensures { λ r. ⌜ r ≡ singleAt action p b ⌝ }
 {
-    if action < 35 {
-        return Found::Nothing;
+    if action == modes::MARK {
+        return Found::Lexeme(TextPlace { byte: p }, Lexeme::Mark(b));
     }
-    if action == 35 {
-        return Found::Token(p, Token::Mark(b));
+    Found::Stray(TextPlace { byte: p })
+}
+
+// The plain spelling that begins with the letter at `start`, if it ends in the text.
+fn plain(text: &[u8], start: usize, classes: &[u8; 256]) -> Lexed
+    requires { ⌜ (start < length (now text)) × (now classes ≡ classTable) × (getD (now classes) (getD (now text) start 0) 0 ≡ 0) ⌝ }
+    ensures { λ r. ⌜ Lexes (now (text .entry)) (idleAt 0 start) r × (start < r .lexer .next) ⌝ }
+{
+    let end = runs::name_end(text, start, classes);
+    let lexer = Lexer {
+        mode: modes::PLAIN,
+        next: end,
+        start,
+        negative: false,
+        value: 0,
+        over: false,
+    };
+    if text.len() <= end {
+        return Lexed {
+            lexer,
+            found: Found::Nothing,
+        };
     }
-    Found::Stray(p)
+    let b = text[end];
+    if classes[b as usize] < kinds::SPACE {
+        return Lexed {
+            lexer,
+            found: Found::Nothing,
+        };
+    }
+    Lexed {
+        lexer: idle(modes::BETWEEN, end),
+        found: lexer.ended(),
+    }
 }
 
 impl Lexer {
     // Before the first byte.
     pub fn new() -> Self
-        ensures { λ r. ⌜ r ≡ lexerFrom 0 0 0 false 0 false ⌝ }
+        ensures { λ r. ⌜ r ≡ idleAt 0 0 ⌝ }
     {
-        Self {
-            mode: 0,
-            next: 0,
-            start: 0,
-            negative: false,
-            value: 0,
-            over: false,
-        }
+        idle(modes::BETWEEN, 0)
     }
 
     // What is open, ended by a byte that does not belong to it or by the text's end.
-    fn ended(self, text: &[u8]) -> Found
-        requires { ⌜ (self .start ≤ self .next) × (self .next ≤ length (now text)) ⌝ }
-        ensures { λ r. ⌜ r ≡ endedAt (now (text .entry)) self ⌝ }
+    fn ended(self) -> Found
+        requires { ⌜ self .start ≤ self .next ⌝ }
+        ensures { λ r. ⌜ r ≡ endedAt self ⌝ }
     {
-        let start = self.start;
-        let next = self.next;
+        let place = TextPlace { byte: self.start };
         let mode = self.mode;
-        if mode == 1 {
-            let name = &text[start..next];
-            return Found::Token(start, name_or_word(words::word(name), name.len()));
+        if mode == modes::PLAIN {
+            return Found::Lexeme(place, Lexeme::Plain(self.start, self.next - self.start));
         }
-        if mode == 0 {
+        if mode == modes::BETWEEN {
             return Found::Nothing;
         }
-        if mode == 5 {
+        if mode == modes::COMMENT {
             return Found::Nothing;
         }
-        if mode < 7 {
-            return Found::Stray(start);
+        if mode < modes::LEADING_ZERO {
+            return Found::Stray(place);
         }
-        if mode == 9 {
-            return Found::Stray(start);
+        if mode == modes::PREFIX {
+            return Found::Stray(place);
         }
-        Found::Token(start, Token::Number(self.negative, self.value, self.over))
+        Found::Lexeme(place, Lexeme::Number(self.negative, self.value, self.over))
     }
 
     // One byte more of a name.
-    fn longer_name(self, mode: u16) -> Self
+    fn longer_name(self, mode: u64) -> Self
         requires { ⌜ self .next < 18446744073709551615 ⌝ }
         ensures { λ r. ⌜ r ≡ longerAt self mode ⌝ }
     {
@@ -189,7 +202,7 @@ impl Lexer {
     }
 
     // One byte more of a number, whose value is now this.
-    fn longer_number(self, mode: u16, x: Amount) -> Self
+    fn longer_number(self, mode: u64, x: Amount) -> Self
         requires { ⌜ self .next < 18446744073709551615 ⌝ }
         ensures { λ r. ⌜ r ≡ numberAt self mode x ⌝ }
     {
@@ -204,187 +217,97 @@ impl Lexer {
     }
 
     // Past a byte that finds nothing.
-    fn advanced(self, action: u16, b: u8) -> Self
+    fn advanced(self, action: u64, b: u8) -> Self
         requires { ⌜ self .next < 18446744073709551615 ⌝ }
         ensures { λ r. ⌜ r ≡ advancedAt self action b ⌝ }
     {
-        if 16 <= action {
-            return begun(action - 16, self.next, b);
+        if modes::BEGINS <= action {
+            return begun(action - modes::BEGINS, self.next, b);
         }
-        if action < 4 {
+        if action < modes::SLASH {
             return self.longer_name(action);
         }
-        if action == 9 {
+        if action == modes::PREFIX {
             return self.longer_number(
-                9,
+                modes::PREFIX,
                 Amount {
                     value: 0,
                     over: false,
                 },
             );
         }
-        if action == 10 {
+        if action == modes::HEXADECIMAL {
             let digit = values::wide(values::hex_value(b));
-            return self.longer_number(10, values::grown(self.value, self.over, 16, digit));
+            return self.longer_number(
+                modes::HEXADECIMAL,
+                values::grown(self.value, self.over, 16, digit),
+            );
         }
         let digit = values::wide(values::digit(b));
         self.longer_number(action, values::grown(self.value, self.over, 10, digit))
     }
 
-    // Past a byte that ends what is open and is then taken with nothing open.
-    fn ends(self, text: &[u8], class: u8, b: u8) -> Lexed
-        requires { ⌜ (self .start ≤ self .next) × (self .next < length (now text)) ⌝ }
-        ensures { λ r. ⌜ r ≡ endsAt (now (text .entry)) self class b ⌝ }
+    // Past a byte that finds something; one that ends what is open is not passed.
+    fn finding(self, action: u64, b: u8) -> Lexed
+        requires { ⌜ (self .start ≤ self .next) × (self .next < 18446744073709551615) ⌝ }
+        ensures { λ r. ⌜ r ≡ findingAt self action b ⌝ }
     {
-        let first = self.ended(text);
-        let a = actions::begins(class, b);
-        Lexed {
-            lexer: entered(a, self.next, b),
-            first,
-            second: single(a, self.next, b),
-        }
-    }
-
-    // Past a byte that finds something.
-    fn finding(self, text: &[u8], class: u8, action: u16, b: u8) -> Lexed
-        requires { ⌜ (self .start ≤ self .next) × (self .next < length (now text)) ⌝ }
-        ensures { λ r. ⌜ r ≡ findingAt (now (text .entry)) self class action b ⌝ }
-    {
-        if action == 32 {
-            return self.ends(text, class, b);
-        }
-        let lexer = begun(0, self.next, b);
-        let second = Found::Nothing;
-        if action == 33 {
+        if action == modes::ENDS {
             return Lexed {
-                lexer,
-                first: Found::Stray(self.start),
-                second,
+                lexer: idle(modes::BETWEEN, self.next),
+                found: self.ended(),
             };
         }
-        if action == 34 {
+        let lexer = begun(modes::BETWEEN, self.next, b);
+        let place = TextPlace { byte: self.start };
+        if action == modes::SPOILS {
             return Lexed {
                 lexer,
-                first: Found::Token(self.start, Token::Name(self.next - self.start + 1)),
-                second,
+                found: Found::Stray(place),
+            };
+        }
+        if action == modes::CLOSES {
+            return Lexed {
+                lexer,
+                found: Found::Lexeme(
+                    place,
+                    Lexeme::Quoted(self.start, self.next - self.start + 1),
+                ),
             };
         }
         Lexed {
             lexer,
-            first: single(action, self.next, b),
-            second,
-        }
-    }
-
-    // One byte.
-    pub fn step(self, text: &[u8], classes: &[u8; 256]) -> Lexed
-        requires { ⌜ (self .start ≤ self .next) × (self .next < length (now text)) × (now classes ≡ classTable) ⌝ }
-        ensures { λ r. ⌜ Stepped (now (text .entry)) self r ⌝ }
-    {
-        let next = self.next;
-        let b = text[next];
-        let class = classes[b as usize];
-        let a = actions::action(self.mode, class, b, next - self.start);
-        if 32 <= a {
-            return self.finding(text, class, a, b);
-        }
-        Lexed {
-            lexer: self.advanced(a, b),
-            first: Found::Nothing,
-            second: Found::Nothing,
+            found: single(action, self.next, b),
         }
     }
 
     // Past the spaces from here on, where nothing is open.
     fn spaced(self, text: &[u8], classes: &[u8; 256]) -> Self
         requires { ⌜ (self .start ≤ self .next) × (self .next ≤ length (now text)) × (now classes ≡ classTable) ⌝ }
-        ensures { λ r. ⌜ Onward (now (text .entry)) self r ⌝ }
+        ensures { λ r. ⌜ Passed (now (text .entry)) self r × (r .mode ≡ self .mode) ⌝ }
     {
-        if self.mode != 0 {
+        if self.mode != modes::BETWEEN {
             return self;
         }
-        let mut l = self;
-        while l.next < text.len() {
-            let next = l.next;
-            let b = text[next];
-            let class = classes[b as usize];
-            if class != 2 {
-                return l;
-            }
-            l = l.advanced(16, b);
-        }
-        l
+        idle(modes::BETWEEN, runs::spaces_end(text, self.next, classes))
     }
 
-    // Past the rest of the plain name that is open.
-    fn lettered(self, text: &[u8], classes: &[u8; 256]) -> Self
-        requires { ⌜ (self .start ≤ self .next) × (self .next ≤ length (now text)) × (now classes ≡ classTable) ⌝ }
-        requires { ⌜ self .mode ≡ 1 ⌝ }
-        ensures { λ r. ⌜ Onward (now (text .entry)) self r ⌝ }
+    // Past the comment that is open, up to and with the LF that ends it.
+    fn commented(self, text: &[u8]) -> Self
+        requires { ⌜ (self .next < length (now text)) × (self .mode ≡ 5) ⌝ }
+        ensures { λ r. ⌜ Passed (now (text .entry)) self r × (self .next < r .next) ⌝ }
     {
-        let mut l = self;
-        while l.next < text.len() {
-            let next = l.next;
-            let b = text[next];
-            let class = classes[b as usize];
-            if 2 <= class {
-                return l;
-            }
-            if 64 <= next - l.start {
-                return l;
-            }
-            l = l.advanced(1, b);
+        let end = runs::line_end(text, self.next);
+        if end < text.len() {
+            return begun(modes::BETWEEN, end, b'\n');
         }
-        l
+        idle(modes::COMMENT, end)
     }
 
-    // Past a byte that ends the plain name that is open.
-    fn ends_name(self, text: &[u8], class: u8, b: u8) -> Lexed
-        requires { ⌜ (self .start ≤ self .next) × (self .next < length (now text)) × (self .mode ≡ 1) ⌝ }
-        ensures { λ r. ⌜ r ≡ endsAt (now (text .entry)) self class b ⌝ }
-    {
-        let start = self.start;
-        let next = self.next;
-        let name = &text[start..next];
-        let token = name_or_word(words::word(name), name.len());
-        let a = actions::begins(class, b);
-        Lexed {
-            lexer: entered(a, next, b),
-            first: Found::Token(start, token),
-            second: single(a, next, b),
-        }
-    }
-
-    // The byte after the plain name that is open, if it ends it.
-    fn named(self, text: &[u8], classes: &[u8; 256]) -> Lexed
-        requires { ⌜ (self .start ≤ self .next) × (self .next ≤ length (now text)) × (now classes ≡ classTable) ⌝ }
-        requires { ⌜ self .mode ≡ 1 ⌝ }
-        ensures { λ r. ⌜ ((c : Lexer) → Passed (now (text .entry)) c self → c .next < self .next → Scanned (now (text .entry)) c r) ⌝ }
-    {
-        let next = self.next;
-        if text.len() <= next {
-            return Lexed {
-                lexer: self,
-                first: Found::Nothing,
-                second: Found::Nothing,
-            };
-        }
-        let b = text[next];
-        let class = classes[b as usize];
-        if class < 2 {
-            return Lexed {
-                lexer: self,
-                first: Found::Nothing,
-                second: Found::Nothing,
-            };
-        }
-        self.ends_name(text, class, b)
-    }
-
-    // The bytes up to and with the first that finds something, whatever is open.
+    // The bytes up to and with the first that finds something or begins a comment, whatever is open.
     fn passing(self, text: &[u8], classes: &[u8; 256]) -> Lexed
-        requires { ⌜ (self .start ≤ self .next) × (self .next ≤ length (now text)) × (now classes ≡ classTable) ⌝ }
-        ensures { λ r. ⌜ ((c : Lexer) → Passed (now (text .entry)) c self → Scanned (now (text .entry)) c r) ⌝ }
+        requires { ⌜ (self .start ≤ self .next) × (self .next < length (now text)) × (now classes ≡ classTable) ⌝ }
+        ensures { λ r. ⌜ Scanned (now (text .entry)) self r ⌝ }
     {
         let mut l = self;
         while l.next < text.len() {
@@ -392,54 +315,73 @@ impl Lexer {
             let b = text[next];
             let class = classes[b as usize];
             let a = actions::action(l.mode, class, b, next - l.start);
-            if 32 <= a {
-                return l.finding(text, class, a, b);
+            if modes::ENDS <= a {
+                return l.finding(a, b);
             }
             l = l.advanced(a, b);
+            if l.mode == modes::COMMENT {
+                return Lexed {
+                    lexer: l,
+                    found: Found::Nothing,
+                };
+            }
         }
         Lexed {
             lexer: l,
-            first: Found::Nothing,
-            second: Found::Nothing,
+            found: Found::Nothing,
         }
     }
 
-    // Some bytes up to and with one that finds something, if there is one. Marks and plain names, which most of a text is made of,
-    // are found with no question what is open.
+    // Some bytes, up to one that finds something if there is one. Marks and plain names, which most of a text is made of, are found with no
+    // question what is open.
     pub fn scan(self, text: &[u8], classes: &[u8; 256]) -> Lexed
-        requires { ⌜ (self .start ≤ self .next) × (self .next ≤ length (now text)) × (now classes ≡ classTable) ⌝ }
+        requires { ⌜ (self .start ≤ self .next) × (self .next < length (now text)) × (now classes ≡ classTable) ⌝ }
         ensures { λ r. ⌜ Scanned (now (text .entry)) self r ⌝ }
     {
+        if self.mode == modes::COMMENT {
+            return Lexed {
+                lexer: self.commented(text),
+                found: Found::Nothing,
+            };
+        }
         let l = self.spaced(text, classes);
         let next = l.next;
         if text.len() <= next {
             return Lexed {
                 lexer: l,
-                first: Found::Nothing,
-                second: Found::Nothing,
+                found: Found::Nothing,
             };
         }
         let b = text[next];
         let class = fresh(l.mode, classes[b as usize]);
-        if class == 6 {
+        if class == kinds::MARK {
             return Lexed {
-                lexer: begun(0, next, b),
-                first: Found::Token(next, Token::Mark(b)),
-                second: Found::Nothing,
+                lexer: begun(modes::BETWEEN, next, b),
+                found: single(modes::MARK, next, b),
             };
         }
-        if class == 0 {
-            let name = l.advanced(17, b).lettered(text, classes);
-            return name.named(text, classes);
+        if class == kinds::LETTER {
+            return plain(text, next, classes);
         }
         l.passing(text, classes)
     }
 
-    // What the text's end ends, before the token of the end itself.
-    pub fn finish(self, text: &[u8]) -> Found
-        requires { ⌜ (self .start ≤ self .next) × (self .next ≤ length (now text)) ⌝ }
-        ensures { λ r. ⌜ LexerFinished (now (text .entry)) self r ⌝ }
+    // What the text's end ends: what is open, and else the end. After the former, the latter is found. Between tokens and in a comment
+    // nothing is open: one branch for both, which is faster than two that return the same.
+    pub fn finish(self) -> Lexed
+        requires { ⌜ self .start ≤ self .next ⌝ }
+        ensures { λ r. ⌜ LexerFinished self r ⌝ }
     {
-        self.ended(text)
+        let end = Found::Lexeme(TextPlace { byte: self.next }, Lexeme::End);
+        if self.mode == modes::BETWEEN || self.mode == modes::COMMENT {
+            return Lexed {
+                lexer: self,
+                found: end,
+            };
+        }
+        Lexed {
+            lexer: idle(modes::BETWEEN, self.next),
+            found: self.ended(),
+        }
     }
 }

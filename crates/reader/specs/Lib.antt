@@ -1,4 +1,2 @@
-pub mod Draft
-pub mod Ending
 pub mod Parse
-pub mod State
+pub mod Text

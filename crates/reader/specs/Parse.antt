@@ -1,185 +1,258 @@
 -- What the reader's numbers stand for between two tokens: a stage of the grammar and a draft. Assumes nothing.
 use mathlib.Core.Path.{_≡_}
 use mathlib.Core.Bool.{Bool, true, false, cond}
-use mathlib.Core.List.{List, [], _++_, foldl}
+use mathlib.Core.List.{List, [], _∷_, _++_}
 use Prim.Native.Nat.{ℕ, _+_, _≤_, _<_}
-use lib.Dec.{T}
-use lib.ListN.{length, take, drop}
-use Rattle.language.specs.Programs.{Program, noBlock, entriesOf, maxFunctions, maxName}
-use Rattle.language.specs.Table.{cells, tableLength}
+use lib.Dec.{T, ltb}
+use lib.ListN.{length}
+use Rattle.language.specs.Programs.{Func, maxFunctions, maxRegisters, maxBlocks, maxRows, maxName}
+use Rattle.language.specs.Answers.{zeros}
+use Rattle.language.specs.Table.{functionLength, functionCells}
 use Rattle.language.specs.Tokens.{Token as Tokenᴸ, Found as Foundᴸ}
-use Rattle.language.specs.Grammar.{Stage, Act as Actᴸ}
-use Rattle.language.specs.Reading.{Draft, Parse, Reading, rowOf, markSsa, setResult, nameFunction, nameRegister, nameBlock, endBlock, beginInstruction, setTarget, setInstruction, addSource, addEntry, addMention, setNumber, endInstruction, maxMentions}
+use Rattle.language.specs.Grammar.{Stage}
+use Rattle.language.specs.Reading.{Draft, ActOutcome, Parse, fresh}
 use Rattle.language.specs.Reading as meaning
-use Rattle.grammar.specs.Meaning.{TokenSpot, stageIs, actOf, actBytes}
-use Rattle.grammar.specs.Ready.{isTop, StageReady}
+use Rattle.language.specs.Rooms.{Begun, begun, Room, begunAt}
+use Rattle.name_index.specs.Hashes.{heads}
+use Rattle.grammar.specs.Meaning.{bytesOf, stageIs, stageFrom}
+use Rattle.grammar.specs.Ready.{StageReady}
+use Rattle.grammar.specs.declared.Token.{Token}
+use Rattle.grammar.specs.declared.Token.the-variants as tokens
 use Rattle.grammar.specs.declared.Act.{Act}
-use Rattle.lexer.specs.declared.Lexer.{Lexer}
-use Rattle.lexer.specs.declared.Lexed.{Lexed}
-use Rattle.lexer.specs.declared.Token.{Token}
-use Rattle.lexer.specs.declared.Token.the-variants as tokens
-use Rattle.lexer.specs.declared.Found.{Found}
-use Rattle.lexer.specs.declared.Found.the-variants as founds
-use Rattle.reader.specs.Draft.{WithinSizes, openTable, closedTable, depth, InHand}
-use Rattle.reader.specs.State.{Bounded, Counts, Pending, Acts, Always, MentionKept, ifRoomAt, scratchLength}
-use Rattle.lexer.specs.Numbers.{amountFrom, amountOf}
-use Rattle.lexer.specs.Lexing.{Means, Finds, tokenBytes, Scanned, LexerFinished}
-use Rattle.reader.specs.Ending.{EndsFunction}
-use Rattle.reader.specs.declared.state.Reader.{Reader}
-use Rattle.reader.specs.declared.state.Taken.{Taken}
-use Rattle.reader.specs.declared.state.Taken.the-variants as taken
+use Rattle.drafts.specs.State.{Bounded, Counts, Lent, Stands, CellsIndexed, NamesHeld, functionNames, Acts, EndsFunction, KeptAs, freshAt, ifRoomAt, namesLength, pendingLength, Always, Unnamed, NoBlock, NoParts, WholeRow}
+use Rattle.drafts.specs.declared.state.Draft.{Draft as Draftᶜ}
+use Rattle.drafts.specs.declared.state.Outcome.{Outcome}
+use Rattle.drafts.specs.declared.state.Outcome.the-variants as outcome
+use Rattle.text_place.specs.declared.TextPlace.{TextPlace}
+use Rattle.reader.specs.declared.taking.Reader.{Reader}
+use Rattle.reader.specs.declared.taking.Taken.{Taken}
+use Rattle.reader.specs.declared.taking.Taken.the-variants as taken
 
--- ---- between two tokens
+-- Before the first token of a function, so many being closed.
+abbrev pub readerAt : ℕ → Reader
+readerAt n = record { stage = stageFrom 0 0 0; draft = freshAt n }
 
--- The table at a stage: between two functions none is in hand.
-abbrev pub standing : Bool → Draft → List ℕ
-standing top d = cond top (closedTable (d .functions)) (openTable d)
+-- ---- what is in hand at a stage
 
--- The state, the table and the mentions put down stand for this stage and draft.
-pub record Follows (s : Stage) (d : Draft) (c : Reader) (t pend : List ℕ) : Type 0 where
+-- 0 where the function in hand has no name yet, 1 where no block is in hand, 2 where the instruction in hand has neither phi entries nor
+-- mentions, 3 where it may have some.
+abbrev pub depth : Stage → ℕ
+depth Stage.top = 0
+depth Stage.header = 0
+depth Stage.result = 0
+depth Stage.functionName = 0
+depth Stage.parameters = 1
+depth Stage.firstParameter = 1
+depth Stage.parameter = 1
+depth Stage.parameterEnd = 1
+depth (Stage.parameterName t) = 1
+depth Stage.body = 1
+depth Stage.declarations = 1
+depth Stage.registerType = 1
+depth Stage.registerEnd = 1
+depth (Stage.registerName t) = 1
+depth Stage.blocks = 1
+depth Stage.blockName = 1
+depth Stage.blockBody = 2
+depth Stage.firstInstruction = 2
+depth Stage.nextInstruction = 2
+depth Stage.assignment = 2
+depth Stage.instruction = 2
+depth (Stage.source k o) = 2
+depth (Stage.sourceComma k o) = 2
+depth (Stage.operand o) = 2
+depth Stage.number = 2
+depth Stage.entry = 3
+depth Stage.entryEnd = 3
+depth (Stage.mention k) = 3
+depth (Stage.mentionComma k) = 3
+depth Stage.operandEnd = 3
+depth Stage.instructionEnd = 3
+
+pub record InHand (k : ℕ) (d : Draft) : Type 0 where
+  pub name : T (ltb k 1) → Unnamed d
+  pub block : T (ltb k 2) → NoBlock d
+  pub parts : T (ltb k 3) → NoParts d
+
+-- P holds of the draft that an act proceeds to.
+pub data After (P : Draft → Type 0) : ActOutcome → Type 0 where
+  refused : {n p : ℕ} → After P (ActOutcome.refuse n p)
+  proceeds : {d : Draft} → P d → After P (ActOutcome.proceed d)
+
+-- ---- the state
+
+-- The cells of the function in hand have their length, if there is room for it; the rest of what is lent has it always.
+pub record LentFor (functions : ℕ) (x : Lent) : Type 0 where
+  pub cells : functions < maxFunctions → length (x .cells) ≡ functionLength
+  pub names : length (x .names) ≡ namesLength
+  pub pending : length (x .pending) ≡ pendingLength
+  pub last : length (x .last) ≡ heads
+  pub before : length (x .before) ≡ maxRegisters
+
+-- The state c and what is lent stand for a stage and a draft. Behind the last function there are no cells, and nothing is in hand.
+pub record Follows (s : Stage) (d : Draft) (c : Reader) (x : Lent) : Type 0 where
   pub stage : stageIs (c .stage) ≡ s
-  pub bounded : Bounded c
-  pub counts : Counts d c
-  pub within : WithinSizes d
-  pub pending : Pending (d .mentions) pend
+  pub bounded : Bounded (c .draft)
+  pub counts : Counts d (c .draft)
+  pub lent : LentFor (c .draft .functions) x
+  pub stands : length (d .functions) < maxFunctions → Stands d (c .draft) x
   pub ready : StageReady s d
   pub hand : InHand (depth s) d
-  pub table : t ≡ standing (isTop s) d
+  pub room : Room (begunAt s) d
 
--- What the tokens so far come to: the definition's answer, or a state that stands for its stage and draft.
-pub data Reads (t pend : List ℕ) : Parse → Taken → Type 0 where
-  refused : (n p : ℕ) → Reads t pend (Parse.refused n p) (taken.Refused n p)
-  reading : (s : Stage) (d : Draft) (c : Reader) → Follows s d c t pend → Reads t pend (Parse.reading s d) (taken.Reading c)
+-- With g one function more is closed: its cells and its name are what is lent, and nothing is in hand.
+pub record ClosesWith (fs : List Func) (g : Func) (c : Reader) (x : Lent) : Type 0 where
+  pub less : length fs < maxFunctions
+  pub stage : stageIs (c .stage) ≡ Stage.top
+  pub draft : c .draft ≡ freshAt (length fs + 1)
+  pub cells : x .cells ≡ functionCells g
+  pub names : NamesHeld (functionNames (fs ++ (g ∷ []))) (x .names)
+  pub lent : LentFor (length fs) x
+
+-- The tokens so far come to an answer, or, with these functions closed, to a state that stands for their stage and draft, to one function
+-- more that is closed, or to the end.
+pub data Reads (fs : List Func) (x : Lent) : Parse → Taken → Type 0 where
+  refused : (n : ℕ) (p : TextPlace) → Reads fs x (Parse.refused n (p .byte)) (taken.Refused n p)
+  reading : (s : Stage) (d : Draft) (c : Reader) → d .functions ≡ fs → Follows s d c x → Reads fs x (Parse.reading s d) (taken.Reading c)
+  closed : (g : Func) (c : Reader) → ClosesWith fs g c x → Reads fs x (Parse.reading Stage.top (fresh (fs ++ (g ∷ [])))) (taken.Closed c)
+  ended : (c : Reader) → c .draft .functions ≡ length fs → (length fs < maxFunctions → x .cells ≡ zeros functionLength)
+      → Reads fs x (Parse.reading Stage.top (fresh fs)) (taken.Ended c)
 
 -- Some tokens bring the reader to this state.
-pub record ReaderReached (c : Reader) (t pend : List ℕ) : Type 0 where
+pub record ReaderReached (c : Reader) (x : Lent) : Type 0 where
+  pub functions : List Func
   pub parse : Parse
-  pub reads : Reads t pend parse (taken.Reading c)
+  pub reads : Reads functions x parse (taken.Reading c)
 
--- What is lent: a text that is not too long, a table, and room for 2,048 mentions and their blocks.
-pub record Lent (text t pend found : List ℕ) : Type 0 where
-  pub size : length text ≤ 65536
-  pub table : length t ≡ tableLength
-  pub pending : length pend ≡ scratchLength
-  pub blocks : length found ≡ maxMentions
+-- ---- a token
 
--- A token at p that the text holds.
-pub record Placed (text : List ℕ) (p : ℕ) (x : Token) : Type 0 where
-  pub held : p + tokenBytes x ≤ length text
-  pub short : tokenBytes x ≤ maxName
+-- The bytes beside a token: at most 64 of a name, none of another; and a place of a text.
+pub record Beside (t : Token) (name : List ℕ) (p : TextPlace) : Type 0 where
+  pub short : length name ≤ maxName
+  pub bytes : bytesOf t name ≡ name
+  pub low : p .byte < 4294967296
+
+-- The token t with these bytes beside it is the definition's m: a number that is kept as this one.
+pub data Means (bytes : List ℕ) : Token → Tokenᴸ → Type 0 where
+  named : Means bytes tokens.Name (Tokenᴸ.name bytes)
+  word : (w : ℕ) → Means bytes (tokens.Word w) (Tokenᴸ.word w)
+  number : (g : Bool) (v : ℕ) (o : Bool) (n : ℕ) → KeptAs n v o → Means bytes (tokens.Number g v o) (Tokenᴸ.number g n)
+  mark : (b : ℕ) → Means bytes (tokens.Mark b) (Tokenᴸ.mark b)
+  end : Means bytes tokens.End Tokenᴸ.end
+
+-- The end of the text, and no other token, ends reading.
+abbrev pub isEnd : Token → Bool
+isEnd tokens.Name = false
+isEnd (tokens.Word w) = false
+isEnd (tokens.Number g v o) = false
+isEnd (tokens.Mark b) = false
+isEnd tokens.End = true
+
+abbrev pub Suits : Bool → Taken → Type 0
+Suits last (taken.Refused n p) = Unit {0}
+Suits last (taken.Reading c) = last ≡ false
+Suits last (taken.Closed c) = last ≡ false
+Suits last (taken.Ended c) = last ≡ true
 
 -- One more token.
-abbrev pub Takes : (text : List ℕ) (p : ℕ) (x : Token) (c : Reader) (t pend : List ℕ) (r : Taken) (t′ pend′ : List ℕ) → Type 0
-Takes text p x c t pend r t′ pend′ =
-    (parse : Parse) → Reads t pend parse (taken.Reading c) → (m : Tokenᴸ) → Means text p x m
-    → Reads t′ pend′ (meaning.takeToken parse (Foundᴸ.token p m)) r
+abbrev pub Takes : (name : List ℕ) (p : TextPlace) (t : Token) (c : Reader) (x : Lent) (r : Taken) (x′ : Lent) → Type 0
+Takes name p t c x r x′ =
+    (fs : List Func) (parse : Parse) → Reads fs x parse (taken.Reading c) → (m : Tokenᴸ) → Means name t m
+    → Reads fs x′ (meaning.takeToken parse (Foundᴸ.token (p .byte) m)) r
 
--- What the lexer found in the text, if anything, stands for this.
-abbrev pub PlacedAt : List ℕ → Found → Type 0
-PlacedAt text founds.Nothing = Unit {0}
-PlacedAt text (founds.Token p x) = Placed text p x
-PlacedAt text (founds.Stray p) = Unit {0}
-
-pub record FoundIn (text : List ℕ) (f : Found) : Type 0 where
-  pub one : List Foundᴸ
-  pub finds : Finds text f one
-  pub placed : PlacedAt text f
-
-abbrev pub TakesFound : (text : List ℕ) (f : Found) (c : Reader) (t pend : List ℕ) (r : Taken) (t′ pend′ : List ℕ) → Type 0
-TakesFound text f c t pend r t′ pend′ =
-    (parse : Parse) → Reads t pend parse (taken.Reading c) → (fs : List Foundᴸ) → Finds text f fs → Reads t′ pend′ (foldl meaning.takeToken parse fs) r
-
--- Two things found.
-abbrev pub TakesBoth : (text : List ℕ) (f g : Found) (c : Reader) (t pend : List ℕ) (r : Taken) (t′ pend′ : List ℕ) → Type 0
-TakesBoth text f g c t pend r t′ pend′ =
-    (parse : Parse) → Reads t pend parse (taken.Reading c) → (fs gs : List Foundᴸ) → Finds text f fs → Finds text g gs
-    → Reads t′ pend′ (foldl meaning.takeToken parse (fs ++ gs)) r
-
--- What a whole text comes to: the definition's answer, or the table of its program.
-pub data Told (t : List ℕ) : Reading → Taken → Type 0 where
-  refused : (n p : ℕ) → Told t (Reading.refused n p) (taken.Refused n p)
-  program : (p : Program) (c : Reader) → t ≡ cells p → Told t (Reading.program p) (taken.Reading c)
-
--- What comes next in a text: what a scan finds; at the end what the end ends, and the end.
-pub data Nexts (text : List ℕ) (c : Lexer) (r : Lexed) : Type 0 where
-  scanned : c .next < length text → Scanned text c r → Nexts text c r
-  ended : length text ≤ c .next → LexerFinished text c (r .first) → r .second ≡ founds.Token (length text) tokens.End → Nexts text c r
+-- The end, at this place.
+abbrev pub EndTaken : (p : TextPlace) (c : Reader) (x : Lent) (r : Taken) → Type 0
+EndTaken p c x r =
+    (fs : List Func) (parse : Parse) → Reads fs x parse (taken.Reading c) → Reads fs x (meaning.takeToken parse (Foundᴸ.token (p .byte) Tokenᴸ.end)) r
 
 -- ---- an act
 
--- Every act but these three wants a function in hand.
-abbrev pub inFunction : Actᴸ → Bool
-inFunction Actᴸ.wrong = false
-inFunction Actᴸ.pass = false
-inFunction Actᴸ.beginFunction = false
-inFunction Actᴸ.markSsa = true
-inFunction Actᴸ.beginRegister = true
-inFunction Actᴸ.beginBlock = true
-inFunction (Actᴸ.setResult t) = true
-inFunction (Actᴸ.nameFunction n) = true
-inFunction (Actᴸ.nameBlock n) = true
-inFunction (Actᴸ.nameParameter t n) = true
-inFunction (Actᴸ.nameRegister t n) = true
-inFunction (Actᴸ.beginInstruction op) = true
-inFunction (Actᴸ.setInstruction op) = true
-inFunction (Actᴸ.setTarget n) = true
-inFunction (Actᴸ.addSource n) = true
-inFunction (Actᴸ.addEntry n) = true
-inFunction (Actᴸ.addMention n) = true
-inFunction (Actᴸ.setNumber neg v) = true
-inFunction Actᴸ.endInstruction = true
-inFunction Actᴸ.endBlock = true
-inFunction Actᴸ.endFunction = true
+-- What an act puts down, and whether it is in a function.
+abbrev pub wants : Act → Begun
+wants Act.Wrong = begun 0 0 0 0
+wants Act.Pass = begun 0 0 0 0
+wants Act.BeginFunction = begun 0 0 0 0
+wants Act.MarkSsa = begun 1 0 0 0
+wants Act.BeginRegister = begun 1 0 0 0
+wants Act.BeginBlock = begun 1 0 0 0
+wants (Act.SetResult t) = begun 1 0 0 0
+wants Act.NameFunction = begun 1 0 0 0
+wants Act.NameBlock = begun 1 0 1 0
+wants (Act.NameRegister k t) = begun 1 1 0 0
+wants (Act.BeginInstruction op) = begun 1 0 0 0
+wants (Act.SetInstruction op) = begun 1 0 0 0
+wants Act.SetTarget = begun 1 0 0 0
+wants Act.AddSource = begun 1 0 0 0
+wants Act.AddEntry = begun 1 0 0 0
+wants Act.AddMention = begun 1 0 0 0
+wants (Act.SetNumber neg v over) = begun 1 0 0 0
+wants Act.EndInstruction = begun 1 0 0 1
+wants Act.EndBlock = begun 1 0 1 0
+wants Act.EndFunction = begun 1 0 0 0
 
--- The token at p of the text.
-abbrev pub tokenSpot : (text : List ℕ) (p : ℕ) → (ℕ → ℕ) → TokenSpot
-tokenSpot text p large = record { text = text; place = p; large = large }
+-- The type that an act gives a register is small.
+abbrev pub Holding : Act → Type 0
+Holding Act.Wrong = Unit {0}
+Holding Act.Pass = Unit {0}
+Holding Act.BeginFunction = Unit {0}
+Holding Act.MarkSsa = Unit {0}
+Holding Act.BeginRegister = Unit {0}
+Holding Act.BeginBlock = Unit {0}
+Holding (Act.SetResult t) = Unit {0}
+Holding Act.NameFunction = Unit {0}
+Holding Act.NameBlock = Unit {0}
+Holding (Act.NameRegister k t) = t < 256
+Holding (Act.BeginInstruction op) = Unit {0}
+Holding (Act.SetInstruction op) = Unit {0}
+Holding Act.SetTarget = Unit {0}
+Holding Act.AddSource = Unit {0}
+Holding Act.AddEntry = Unit {0}
+Holding Act.AddMention = Unit {0}
+Holding (Act.SetNumber neg v over) = Unit {0}
+Holding Act.EndInstruction = Unit {0}
+Holding Act.EndBlock = Unit {0}
+Holding Act.EndFunction = Unit {0}
 
-abbrev pub wantsFunction : Act → Bool
-wantsFunction a = inFunction (actOf (tokenSpot [] 0 (λ v. v)) a)
+-- There is room for it.
+pub record RoomFor (w : Begun) (d : Draftᶜ) : Type 0 where
+  pub functions : d .functions + w .functions ≤ maxFunctions
+  pub registers : d .head .registers + w .registers ≤ maxRegisters
+  pub blocks : d .blocks .closed + w .blocks ≤ maxBlocks
+  pub rows : d .blocks .rows + w .rows ≤ maxRows
 
--- What an act asks for: the bytes it names, and room for the function it is in.
-pub record Enabled (text t pend found : List ℕ) (p : ℕ) (c : Reader) (a : Act) : Type 0 where
-  pub bounded : Bounded c
-  pub lent : Lent text t pend found
-  pub held : p + actBytes a ≤ length text
-  pub short : actBytes a ≤ 64
-  pub room : T (wantsFunction a) → c .functions < maxFunctions
+-- What an act asks for.
+pub record Enabled (d : Draftᶜ) (x : Lent) (name : List ℕ) (p : TextPlace) (a : Act) : Type 0 where
+  pub bounded : Bounded d
+  pub lent : LentFor (d .functions) x
+  pub indexed : d .functions < maxFunctions → CellsIndexed d (x .cells) (x .last) (x .before)
+  pub short : length name ≤ maxName
+  pub low : p .byte < 4294967296
+  pub room : RoomFor (wants a) d
+  pub holding : Holding a
 
 -- Nothing lent is changed, and this is the answer.
-abbrev pub LeavesLent : (t pend : List ℕ) (r : Taken) (t′ pend′ : List ℕ) → Taken → Type 0
-LeavesLent t pend r t′ pend′ x = (r ≡ x) × (t′ ≡ t) × (pend′ ≡ pend)
+abbrev pub LeavesLent : (x : Lent) (r : Outcome) (x′ : Lent) → Outcome → Type 0
+LeavesLent x r x′ o = (r ≡ o) × (x′ ≡ x)
 
 -- What each act does in code.
-abbrev pub Performs : (text : List ℕ) (p : ℕ) (c : Reader) (t pend : List ℕ) (r : Taken) (t′ pend′ : List ℕ) → Act → Type 0
-Performs text p c t pend r t′ pend′ Act.Wrong = LeavesLent t pend r t′ pend′ (taken.Refused 3 p)
-Performs text p c t pend r t′ pend′ Act.Pass = LeavesLent t pend r t′ pend′ (taken.Reading c)
-Performs text p c t pend r t′ pend′ Act.BeginFunction = LeavesLent t pend r t′ pend′ (ifRoomAt (c .functions) 16 p c)
-Performs text p c t pend r t′ pend′ Act.MarkSsa = Acts Always markSsa c t r t′ × (pend′ ≡ pend)
-Performs text p c t pend r t′ pend′ Act.BeginRegister = LeavesLent t pend r t′ pend′ (ifRoomAt (c .registers) 256 p c)
-Performs text p c t pend r t′ pend′ Act.BeginBlock = LeavesLent t pend r t′ pend′ (ifRoomAt (c .blocks) 64 p c)
-Performs text p c t pend r t′ pend′ (Act.SetResult k) = Acts Always (setResult k) c t r t′ × (pend′ ≡ pend)
-Performs text p c t pend r t′ pend′ (Act.NameFunction n) =
-    Acts (λ d. d .function .name ≡ []) (nameFunction (take n (drop p text)) p) c t r t′ × (pend′ ≡ pend)
-Performs text p c t pend r t′ pend′ (Act.NameBlock n) =
-    Acts (λ d. d .block ≡ noBlock) (nameBlock (take n (drop p text)) p) c t r t′ × (pend′ ≡ pend)
-Performs text p c t pend r t′ pend′ (Act.NameParameter k n) =
-    Acts Always (nameRegister 1 k (take n (drop p text)) p) c t r t′ × (pend′ ≡ pend)
-Performs text p c t pend r t′ pend′ (Act.NameRegister k n) =
-    Acts Always (nameRegister 0 k (take n (drop p text)) p) c t r t′ × (pend′ ≡ pend)
-Performs text p c t pend r t′ pend′ (Act.BeginInstruction op) =
-    Acts (λ d. d .parts .entries ≡ []) (beginInstruction op p) c t r t′ × (pend′ ≡ pend)
-Performs text p c t pend r t′ pend′ (Act.SetInstruction op) =
-    Acts (λ d. d .parts .entries ≡ []) (setInstruction op) c t r t′ × (pend′ ≡ pend)
-Performs text p c t pend r t′ pend′ (Act.SetTarget n) =
-    Acts (λ d. d .parts .entries ≡ []) (setTarget (take n (drop p text)) p) c t r t′ × (pend′ ≡ pend)
-Performs text p c t pend r t′ pend′ (Act.AddSource n) = Acts Always (addSource (take n (drop p text)) p) c t r t′ × (pend′ ≡ pend)
-Performs text p c t pend r t′ pend′ (Act.AddEntry n) = Acts Always (addEntry (take n (drop p text)) p) c t r t′ × (pend′ ≡ pend)
-Performs text p c t pend r t′ pend′ (Act.AddMention n) =
-    Acts Always (addMention (take n (drop p text)) p) c t r t′ × MentionKept c (take n (drop p text)) p pend pend′
-Performs text p c t pend r t′ pend′ (Act.SetNumber neg v over) =
-    ((n : ℕ) → amountFrom v over ≡ amountOf n → Acts Always (setNumber neg n p) c t r t′) × (pend′ ≡ pend)
-Performs text p c t pend r t′ pend′ Act.EndInstruction =
-    Acts (λ d. entriesOf (rowOf (d .parts)) ≡ d .parts .entries) (endInstruction p) c t r t′ × (pend′ ≡ pend)
-Performs text p c t pend r t′ pend′ Act.EndBlock = Acts Always (endBlock p) c t r t′ × (pend′ ≡ pend)
-Performs text p c t pend r t′ pend′ Act.EndFunction = EndsFunction c t pend p r t′ × (pend′ ≡ pend)
+abbrev pub Performs : (name : List ℕ) (p : TextPlace) (d : Draftᶜ) (x : Lent) (r : Outcome) (x′ : Lent) → Act → Type 0
+Performs name p d x r x′ Act.Wrong = LeavesLent x r x′ (outcome.Refuse 3 p)
+Performs name p d x r x′ Act.Pass = LeavesLent x r x′ (outcome.Proceed d)
+Performs name p d x r x′ Act.BeginFunction = LeavesLent x r x′ (ifRoomAt (d .functions) maxFunctions p d)
+Performs name p d x r x′ Act.MarkSsa = Acts Always meaning.markSsa d x r x′
+Performs name p d x r x′ Act.BeginRegister = LeavesLent x r x′ (ifRoomAt (d .head .registers) maxRegisters p d)
+Performs name p d x r x′ Act.BeginBlock = LeavesLent x r x′ (ifRoomAt (d .blocks .closed) maxBlocks p d)
+Performs name p d x r x′ (Act.SetResult k) = Acts Always (meaning.setResult k) d x r x′
+Performs name p d x r x′ Act.NameFunction = Acts Unnamed (meaning.nameFunction name (p .byte)) d x r x′
+Performs name p d x r x′ Act.NameBlock = Acts NoBlock (meaning.nameBlock name (p .byte)) d x r x′
+Performs name p d x r x′ (Act.NameRegister k t) = Acts Always (meaning.nameRegister (cond k 1 0) t name (p .byte)) d x r x′
+Performs name p d x r x′ (Act.BeginInstruction op) = Acts NoParts (meaning.beginInstruction op (p .byte)) d x r x′
+Performs name p d x r x′ (Act.SetInstruction op) = Acts NoParts (meaning.setInstruction op) d x r x′
+Performs name p d x r x′ Act.SetTarget = Acts NoParts (meaning.setTarget name (p .byte)) d x r x′
+Performs name p d x r x′ Act.AddSource = Acts Always (meaning.addSource name (p .byte)) d x r x′
+Performs name p d x r x′ Act.AddEntry = Acts Always (meaning.addEntry name (p .byte)) d x r x′
+Performs name p d x r x′ Act.AddMention = Acts Always (meaning.addMention name (p .byte)) d x r x′
+Performs name p d x r x′ (Act.SetNumber neg v over) = (n : ℕ) → KeptAs n v over → Acts Always (meaning.setNumber neg n (p .byte)) d x r x′
+Performs name p d x r x′ Act.EndInstruction = Acts WholeRow meaning.endInstruction d x r x′
+Performs name p d x r x′ Act.EndBlock = Acts Always meaning.endBlock d x r x′
+Performs name p d x r x′ Act.EndFunction = EndsFunction (p .byte) d x r x′

@@ -1,14 +1,16 @@
-// Tokens to a table: answers 2 to 8. The state is a struct by value that can stop after any token; the table and the pending block names
-// are lent.
-mod acts;
-mod ending;
+// Bytes to a table: answers 2 to 8. A text is begun, fed and closed: where reading stands between two bytes is a value, and what has been
+// read stands in what is lent.
 mod reading;
-mod rows;
-mod state;
 mod taking;
+mod telling;
+mod tokens;
 
-pub use reading::read_text;
-pub use rows::MAX_MENTIONS;
-pub use rows::SCRATCH_LENGTH;
-pub use state::Reader;
-pub use state::Taken;
+pub use reading::Progress;
+pub use reading::Step;
+pub use reading::begin;
+pub use taking::Reader;
+pub use telling::Told;
+pub use telling::close;
+pub use telling::feed;
+pub use telling::judge_text;
+pub use telling::read_text;

@@ -1,111 +1,173 @@
-// A whole text: bytes through the lexer, tokens through the reader. One place calls `take_both` and one `take`, so that both are compiled into
-// the loop over the text and the state is not copied at every token.
-use crate::state::Reader;
-use crate::state::Taken;
+// A text begun, fed and closed. One loop goes over its tokens, so that all that a token needs is compiled into it; it ends with a function,
+// since the next one has cells of its own, and with the bytes that are lent.
+use crate::taking::Reader;
+use crate::taking::Taken;
+use crate::tokens::part;
+use crate::tokens::token_of;
+use drafts::Draft;
 use lexer::Found;
 use lexer::Lexed;
 use lexer::Lexer;
-use lexer::Token;
+use name_index::HEADS;
+use name_index::index;
+use table::MAX_FUNCTIONS;
+use table::MAX_REGISTERS;
+use table::REGISTER_LENGTH;
+use table::REGISTER_NAMES_OFFSET;
+use text_place::TextPlace;
+use vocabulary::classes;
+ghost use mathlib.Core.Bool.{false, cond, not};
 ghost use mathlib.Core.Path.{_≡_};
+ghost use lib.Dec.{ltb};
 ghost use Prim.Native.Nat.{_≤_};
 ghost use lib.ListN.{length};
-ghost use Rattle.language.specs.Answers.{zeros};
-ghost use Rattle.language.specs.Reading.{read};
-ghost use Rattle.language.specs.Table.{tableLength};
-ghost use Rattle.lexer.specs.Lexing.{classTable};
-ghost use Rattle.reader.specs.Parse.{Lent, ReaderReached, FoundIn, TakesFound, TakesBoth, Nexts, Told};
+ghost use Rattle.language.specs.Programs.{maxText};
+ghost use Rattle.vocabulary.specs.Classes.{classTable};
+ghost use Rattle.drafts.specs.State.{Bounded, lentOf};
+ghost use Rattle.reader.specs.Parse.{ReaderReached, Suits};
+ghost use Rattle.reader.specs.Text.{FoundHere, TakesFound, Nexts, ProgressReached, CellsFor, Advances, progressStart, RegistersIndexed, isEndFound};
+
+// Where reading stands between two bytes.
+pub struct Progress {
+    pub lexer: Lexer,
+    pub reader: Reader,
+}
+
+// What bytes come to: an answer with its place, one function more closed, all bytes read, or the end of the text.
+pub enum Step {
+    Refused(u8, TextPlace),
+    Closed(Progress),
+    Reading(Progress),
+    Ended(Progress),
+}
+
+// Before the first byte.
+pub fn begin() -> Progress
+    ensures { λ r. ⌜ r ≡ progressStart ⌝ }
+{
+    Progress {
+        lexer: Lexer::new(),
+        reader: Reader::new(),
+    }
+}
 
 impl Reader {
     // What the lexer found, if anything: 2 for a place that has no token.
     fn take_found(
         self,
         text: &[u8],
-        t: &mut [u8],
+        f: &mut [u8],
+        names: &mut [u8],
         pend: &mut [u8],
-        found: &mut [u8],
-        f: Found,
+        last: &mut [u16],
+        before: &mut [u16],
+        found: Found,
     ) -> Taken
-        requires { ⌜ Lent (now text) (now t) (now pend) (now found) ⌝ }
-        requires { ⌜ ReaderReached self (now t) (now pend) ⌝ }
-        requires { ⌜ FoundIn (now text) f ⌝ }
-        ensures { λ r. ⌜ TakesFound (now (text .entry)) f self (now (t .entry)) (now (pend .entry)) r (now (t .exit)) (now (pend .exit)) ⌝ }
+        requires { ⌜ ReaderReached self (lentOf (now f) (now names) (now pend) (now last) (now before)) ⌝ }
+        requires { ⌜ (length (now text) ≤ maxText) × (FoundHere (now text) found) ⌝ }
+        ensures { λ r. ⌜ TakesFound (now (text .entry)) found self (lentOf (now (f .entry)) (now (names .entry)) (now (pend .entry)) (now (last .entry)) (now (before .entry))) r (lentOf (now (f .exit)) (now (names .exit)) (now (pend .exit)) (now (last .exit)) (now (before .exit))) ⌝ }
+        ensures { λ r. ⌜ Suits (isEndFound found) r ⌝ }
     {
-        match f {
+        match found {
             Found::Nothing => Taken::Reading(self),
-            Found::Token(p, token) => self.take(text, t, pend, found, p, token),
+            Found::Lexeme(p, x) => {
+                let y = token_of(x, text);
+                let token = y.token;
+                let name = part(text, y.from, y.bytes);
+                self.take(f, names, pend, last, before, name, p, token)
+            }
             Found::Stray(p) => Taken::Refused(2, p),
         }
     }
-
-    // Two things found, in order.
-    fn take_both(
-        self,
-        text: &[u8],
-        t: &mut [u8],
-        pend: &mut [u8],
-        found: &mut [u8],
-        first: Found,
-        second: Found,
-    ) -> Taken
-        requires { ⌜ Lent (now text) (now t) (now pend) (now found) ⌝ }
-        requires { ⌜ ReaderReached self (now t) (now pend) ⌝ }
-        requires { ⌜ FoundIn (now text) first × FoundIn (now text) second ⌝ }
-        ensures { λ r. ⌜ TakesBoth (now (text .entry)) first second self (now (t .entry)) (now (pend .entry)) r (now (t .exit)) (now (pend .exit)) ⌝ }
-    {
-        let mut s = self;
-        let mut f = first;
-        let mut k: usize = 0;
-        while k < 2 {
-            let r = s.take_found(text, t, pend, found, f);
-            let Taken::Reading(q) = r else {
-                return r;
-            };
-            s = q;
-            f = second;
-            k += 1;
-        }
-        Taken::Reading(s)
-    }
 }
 
-// What comes next: what a scan finds; at the end of the text what the end ends, and the end.
+// What comes next: what a scan finds; at the end of the text what the end ends, and then the end.
 fn next(l: Lexer, text: &[u8], classes: &[u8; 256]) -> Lexed
     requires { ⌜ (l .start ≤ l .next) × (l .next ≤ length (now text)) × (now classes ≡ classTable) ⌝ }
     ensures { λ r. ⌜ Nexts (now (text .entry)) l r ⌝ }
 {
-    let n = text.len();
-    if l.next < n {
+    if l.next < text.len() {
         return l.scan(text, classes);
     }
-    Lexed {
-        lexer: l,
-        first: l.finish(text),
-        second: Found::Token(n, Token::End),
+    l.finish()
+}
+
+// The registers of the function in hand in chains that have none, if there is room for a function.
+fn index_registers(d: Draft, f: &[u8], last: &mut [u16], before: &mut [u16])
+    requires { ⌜ Bounded d ⌝ }
+    requires { ⌜ CellsFor d (now f) (now last) (now before) ⌝ }
+    ensures { λ _. ⌜ RegistersIndexed d (now (f .entry)) (now (last .exit)) (now (before .exit)) ⌝ }
+{
+    if d.functions < MAX_FUNCTIONS {
+        index(
+            f,
+            REGISTER_NAMES_OFFSET,
+            REGISTER_LENGTH,
+            d.head.registers,
+            last,
+            before,
+        );
     }
 }
 
-// The text read into a table that is all zero.
-pub fn read_text(text: &[u8], t: &mut [u8], pend: &mut [u8], found: &mut [u8]) -> Taken
-    requires { ⌜ Lent (now text) (now t) (now pend) (now found) ⌝ }
-    requires { ⌜ now t ≡ zeros tableLength ⌝ }
-    ensures { λ r. ⌜ Told (now (t .exit)) (read (now (text .entry))) r ⌝ }
+// Whether all n bytes that are lent are read, and more may come.
+fn pauses(next: usize, n: usize, ends: bool) -> bool
+    ensures { λ r. ⌜ r ≡ cond (ltb next n) false (not ends) ⌝ }
 {
-    let classes = lexer::classes();
-    let mut l = Lexer::new();
-    let mut s = Reader::new();
+    if next < n {
+        return false;
+    }
+    !ends
+}
+
+// From here on to the end of a function or of the bytes lent, or, if these end the text, to its end.
+pub fn advance(
+    x: Progress,
+    text: &[u8],
+    ends: bool,
+    f: &mut [u8],
+    names: &mut [u8],
+    pend: &mut [u8],
+) -> Step
+    requires { ⌜ length (now text) ≤ maxText ⌝ }
+    requires { ⌜ ProgressReached (now text) x (now f) (now names) (now pend) ⌝ }
+    ensures { λ r. ⌜ Advances (now (text .entry)) ends x (now (f .entry)) (now (names .entry)) (now (pend .entry)) r (now (f .exit)) (now (names .exit)) (now (pend .exit)) ⌝ }
+{
+    let mut last = [0u16; HEADS];
+    let mut before = [0u16; MAX_REGISTERS];
+    let table = classes();
+    let mut l = x.lexer;
+    let mut s = x.reader;
+    index_registers(s.draft, f, &mut last, &mut before);
     loop {
-        let x = next(l, text, &classes);
-        let first = x.first;
-        let second = x.second;
-        let r = s.take_both(text, t, pend, found, first, second);
-        let Taken::Reading(q) = r else {
-            return r;
-        };
-        if text.len() <= l.next {
-            t[0] = q.functions as u8;
-            return r;
+        if pauses(l.next, text.len(), ends) {
+            return Step::Reading(Progress {
+                lexer: l,
+                reader: s,
+            });
         }
-        s = q;
-        l = x.lexer;
+        let y = next(l, text, &table);
+        let found = y.found;
+        l = y.lexer;
+        match s.take_found(text, f, names, pend, &mut last, &mut before, found) {
+            Taken::Refused(n, p) => {
+                return Step::Refused(n, p);
+            }
+            Taken::Reading(q) => {
+                s = q;
+            }
+            Taken::Closed(q) => {
+                return Step::Closed(Progress {
+                    lexer: l,
+                    reader: q,
+                });
+            }
+            Taken::Ended(q) => {
+                return Step::Ended(Progress {
+                    lexer: l,
+                    reader: q,
+                });
+            }
+        }
     }
 }

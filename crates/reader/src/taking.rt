@@ -1,83 +1,135 @@
-// One token: the grammar names the act, and the act is done.
-use crate::state::Reader;
-use crate::state::Taken;
+// One token: the grammar names the act, and the act is done. A name's bytes come beside the token, in a slice that need not be a part of
+// the text; beside any other token there are none.
+use drafts::Draft;
+use drafts::Outcome;
 use grammar::Act;
-use grammar::gram;
-use lexer::Token;
+use grammar::Stage;
+use grammar::Token;
+use grammar::is_top;
+use grammar::next_move;
+use numbers::if_so;
+use text_place::TextPlace;
+ghost use mathlib.Core.Bool.{true};
 ghost use mathlib.Core.Path.{_≡_};
-ghost use Prim.Native.Nat.{_+_, _≤_};
-ghost use lib.ListN.{length, take, drop};
-ghost use Rattle.reader.specs.Parse.{Lent, Placed, ReaderReached, Takes, Enabled, Performs};
+ghost use Rattle.drafts.specs.State.{Lent, lentOf};
+ghost use Rattle.reader.specs.Parse.{readerAt, ReaderReached, Beside, EndTaken, Takes, Suits, isEnd, Enabled, Performs};
 
-// The n bytes of the text from p on.
-fn part(text: &[u8], p: usize, n: usize) -> &[u8]
-    requires { ⌜ p + n ≤ length (now text) ⌝ }
-    ensures { λ r. ⌜ (now r ≡ take n (drop p (now (text .entry)))) × (length (now r) ≤ n) ⌝ }
-{
-    let e = p + n;
-    &text[p..e]
+// The stage of the grammar, and what is read so far.
+pub struct Reader {
+    pub stage: Stage,
+    pub draft: Draft,
+}
+
+// What a token comes to: an answer with its place, the state after it, the state between functions with one more closed, or the end.
+pub enum Taken {
+    Refused(u8, TextPlace),
+    Reading(Reader),
+    Closed(Reader),
+    Ended(Reader),
 }
 
 impl Reader {
-    // The token at place p of the text.
-    pub fn take(
-        self,
-        text: &[u8],
-        t: &mut [u8],
-        pend: &mut [u8],
-        found: &mut [u8],
-        p: usize,
-        token: Token,
-    ) -> Taken
-        requires { ⌜ Lent (now text) (now t) (now pend) (now found) ⌝ }
-        requires { ⌜ Placed (now text) p token ⌝ }
-        requires { ⌜ ReaderReached self (now t) (now pend) ⌝ }
-        ensures { λ r. ⌜ Takes (now (text .entry)) p token self (now (t .entry)) (now (pend .entry)) r (now (t .exit)) (now (pend .exit)) ⌝ }
+    // Before the first token.
+    pub fn new() -> Self
+        ensures { λ r. ⌜ r ≡ readerAt 0 ⌝ }
     {
-        let stage = self.stage;
-        let next = gram(stage, token);
-        let after = next.stage;
-        let mut s = self;
-        s.stage = after;
-        let act = next.act;
-        s.perform(text, t, pend, found, p, act)
+        Self {
+            stage: Stage {
+                kind: 0,
+                more: 0,
+                detail: 0,
+            },
+            draft: Draft::fresh(0),
+        }
     }
 
-    // An act on the token at place p. 3 for a token that is not allowed here.
-    fn perform(
-        self,
-        text: &[u8],
-        t: &mut [u8],
-        pend: &mut [u8],
-        found: &mut [u8],
-        p: usize,
-        act: Act,
-    ) -> Taken
-        requires { ⌜ Enabled (now text) (now t) (now pend) (now found) p self act ⌝ }
-        ensures { λ r. ⌜ Performs (now (text .entry)) p self (now (t .entry)) (now (pend .entry)) r (now (t .exit)) (now (pend .exit)) act ⌝ }
+    // The end of the text, at place p: it is allowed between functions alone.
+    fn end(self, p: TextPlace) -> Taken
+        ensures { λ r. ⌜ ((x : Lent) → EndTaken p self x r) × (Suits true r) ⌝ }
     {
-        match act {
-            Act::Wrong => Taken::Refused(3, p),
-            Act::Pass => Taken::Reading(self),
-            Act::BeginFunction => self.begin_function(p),
-            Act::MarkSsa => self.mark_ssa(),
-            Act::BeginRegister => self.begin_register(p),
-            Act::BeginBlock => self.begin_block(p),
-            Act::SetResult(kind) => self.set_result(kind),
-            Act::NameFunction(n) => self.name_function(t, part(text, p, n), p),
-            Act::NameBlock(n) => self.name_block(t, part(text, p, n), p),
-            Act::NameParameter(kind, n) => self.name_register(t, 1, kind, part(text, p, n), p),
-            Act::NameRegister(kind, n) => self.name_register(t, 0, kind, part(text, p, n), p),
-            Act::BeginInstruction(op) => self.begin_instruction(op, p),
-            Act::SetInstruction(op) => self.set_instruction(op),
-            Act::SetTarget(n) => self.set_target(t, part(text, p, n), p),
-            Act::AddSource(n) => self.add_source(t, part(text, p, n), p),
-            Act::AddEntry(n) => self.add_entry(t, part(text, p, n), p),
-            Act::AddMention(n) => self.add_mention(pend, part(text, p, n), p),
-            Act::SetNumber(negative, value, over) => self.set_number(negative, value, over, p),
-            Act::EndInstruction => self.end_instruction(t, p),
-            Act::EndBlock => self.end_block(t, p),
-            Act::EndFunction => self.end_function(t, pend, found, p),
+        let stage = self.stage;
+        if is_top(stage) {
+            return Taken::Ended(self);
         }
+        Taken::Refused(3, p)
+    }
+
+    // The token at place p, with the bytes of a name.
+    pub fn take(
+        self,
+        f: &mut [u8],
+        names: &mut [u8],
+        pend: &mut [u8],
+        last: &mut [u16],
+        before: &mut [u16],
+        name: &[u8],
+        p: TextPlace,
+        token: Token,
+    ) -> Taken
+        requires { ⌜ ReaderReached self (lentOf (now f) (now names) (now pend) (now last) (now before)) ⌝ }
+        requires { ⌜ Beside token (now name) p ⌝ }
+        ensures { λ r. ⌜ Takes (now (name .entry)) p token self (lentOf (now (f .entry)) (now (names .entry)) (now (pend .entry)) (now (last .entry)) (now (before .entry))) r (lentOf (now (f .exit)) (now (names .exit)) (now (pend .exit)) (now (last .exit)) (now (before .exit))) ⌝ }
+        ensures { λ r. ⌜ Suits (isEnd token) r ⌝ }
+    {
+        if let Token::End = token {
+            return self.end(p);
+        }
+        let stage = self.stage;
+        let draft = self.draft;
+        let next = next_move(stage, token);
+        let after = next.stage;
+        let act = next.act;
+        match perform(draft, f, names, pend, last, before, name, p, act) {
+            Outcome::Refuse(n, q) => Taken::Refused(n, q),
+            Outcome::Proceed(d) => Taken::Reading(Reader {
+                stage: after,
+                draft: d,
+            }),
+            Outcome::Close(d) => Taken::Closed(Reader {
+                stage: after,
+                draft: d,
+            }),
+        }
+    }
+}
+
+// An act on the token at place p. 3 for a token that is not allowed here.
+fn perform(
+    d: Draft,
+    f: &mut [u8],
+    names: &mut [u8],
+    pend: &mut [u8],
+    last: &mut [u16],
+    before: &mut [u16],
+    name: &[u8],
+    p: TextPlace,
+    act: Act,
+) -> Outcome
+    requires { ⌜ Enabled d (lentOf (now f) (now names) (now pend) (now last) (now before)) (now name) p act ⌝ }
+    ensures { λ r. ⌜ Performs (now (name .entry)) p d (lentOf (now (f .entry)) (now (names .entry)) (now (pend .entry)) (now (last .entry)) (now (before .entry))) r (lentOf (now (f .exit)) (now (names .exit)) (now (pend .exit)) (now (last .exit)) (now (before .exit))) act ⌝ }
+{
+    match act {
+        Act::Wrong => Outcome::Refuse(3, p),
+        Act::Pass => Outcome::Proceed(d),
+        Act::BeginFunction => d.begin_function(p),
+        Act::MarkSsa => d.mark_ssa(),
+        Act::BeginRegister => d.begin_register(p),
+        Act::BeginBlock => d.begin_block(p),
+        Act::SetResult(kind) => d.set_result(kind),
+        Act::NameFunction => d.name_function(f, names, name, p),
+        Act::NameBlock => d.name_block(f, name, p),
+        Act::NameRegister(parameter, kind) => {
+            d.name_register(f, last, before, if_so(parameter, 1), kind, name, p)
+        }
+        Act::BeginInstruction(op) => d.begin_instruction(op, p),
+        Act::SetInstruction(op) => d.set_instruction(op),
+        Act::SetTarget => d.set_target(f, last, before, name, p),
+        Act::AddSource => d.add_source(f, last, before, name, p),
+        Act::AddEntry => d.add_entry(f, last, before, name, p),
+        Act::AddMention => d.add_mention(pend, name, p),
+        Act::SetNumber(negative, value, over) => d.set_number(negative, value, over, p),
+        Act::EndInstruction => d.end_instruction(f),
+        Act::EndBlock => d.end_block(f),
+        Act::EndFunction => d.end_function(f, pend, p),
     }
 }

@@ -1,4 +1,1 @@
-pub mod Distinct
-pub mod InTable
 pub mod NamesLaws
-pub mod TwiceLaws

@@ -11,8 +11,8 @@ use lib.ListN.{length, getD, take, drop, take-append-drop}
 use lib.Seq.{take-suc, take-all}
 use borrow.Author.Tests.{lt-ltb, le-leb, lt-leb, eq-eqb, ne-eqb, not-true, not-false}
 use Rattle.language.specs.Bytes.{Class, classOf, classNumber, inName, quoteByte, backslash}
-use Rattle.lexer.specs.Lexing.{classTable}
-use Rattle.lexer.proofs.Stepping.{class-at}
+use Rattle.vocabulary.specs.Classes.{classTable}
+use Rattle.vocabulary.proofs.ByteClasses.{class-at}
 use Rattle.language.specs.Names.{Spelling, firstSpelled, spell, nextSpelled, insideQuotes, whole, spelled}
 use Rattle.language.specs.Programs.{maxName}
 use Rattle.language.specs.Words.{wordOf, wordCount}

@@ -1,18 +1,12 @@
--- Names in a table, and where the spelling of one begins and closes. Assumes nothing.
+-- Where the spelling of a name begins and closes. Assumes nothing.
 use mathlib.Core.Bool.{Bool, not, _&&_}
-use mathlib.Core.List.{List, map}
+use mathlib.Core.List.{List}
 use mathlib.Core.Path.{_≡_}
-use Prim.Native.Nat.{ℕ, _+_, _*_, _≤_}
+use Prim.Native.Nat.{ℕ, _≤_}
 use lib.Dec.{eqb}
 use lib.ListN.{length, getD}
-use Rattle.laws.specs.Lists.{below}
 use Rattle.language.specs.Bytes.{quoteByte, backslash}
 use Rattle.language.specs.Names.{Spelling, spell}
-use Rattle.language.specs.Table.{nameAt}
-
--- The first `count` names whose length cells stand `stride` apart, from cell `at` on.
-unfoldable pub namesIn : List ℕ → ℕ → ℕ → ℕ → List (List ℕ)
-namesIn t at stride count = map (λ i. nameAt t (at + stride * i)) (below count)
 
 -- The first byte of the name brings its spelling this far.
 pub record Begins (name : List ℕ) (s : Spelling) : Type 0 where

@@ -1,5 +1,4 @@
 // Names as a table holds them: whether some text spells one, and whether none of them stands twice.
-mod hashes;
 mod names;
 mod twice;
 

@@ -4,13 +4,15 @@ ghost use mathlib.Core.List.{foldl};
 ghost use Rattle.laws.specs.Lists.{all};
 ghost use Rattle.language.specs.Names.{Spelling, spell, whole, spelled as spelledOf};
 ghost use Rattle.language.specs.Checking.{spelledOrNone};
-ghost use Rattle.lexer.specs.Lexing.{classTable};
-ghost use Rattle.spelling.specs.Names.{Begins, closesQuote, namesIn};
+ghost use Rattle.vocabulary.specs.Classes.{classTable};
+ghost use Rattle.name_index.specs.Names.{namesIn};
+ghost use Rattle.spelling.specs.Names.{Begins, closesQuote};
 ghost use Rattle.table.specs.Named.{NamesWithin};
-use instructions::words;
+use instructions::words::COUNT;
 use numbers::wide;
 use table::MAX_NAME;
 use table::name_at;
+use vocabulary::kinds;
 
 // "A name has 1 to 64 bytes so counted."
 
@@ -21,7 +23,7 @@ fn plain(name: &[u8], classes: &[u8; 256]) -> bool
 {
     let mut i = 1;
     while i < name.len() {
-        if 1 < classes[wide(name[i])] {
+        if kinds::DIGIT < classes[wide(name[i])] {
             return false;
         }
         i += 1;
@@ -69,10 +71,10 @@ fn whole_name(name: &[u8], classes: &[u8; 256]) -> bool
         return false;
     }
     let class = classes[wide(name[0])];
-    if class == 0 {
+    if class == kinds::LETTER {
         return plain(name, classes);
     }
-    if class == 3 {
+    if class == kinds::QUOTE {
         return quoted(name);
     }
     false
@@ -89,7 +91,7 @@ pub fn spelled(name: &[u8], classes: &[u8; 256]) -> bool
     if !whole_name(name, classes) {
         return false;
     }
-    lexer::word(name) == words::COUNT
+    vocabulary::word(name) == COUNT
 }
 
 // "Registers and blocks may have a name of no bytes"; any other is one that a text can spell.

@@ -38,6 +38,7 @@ pub mod Turn
 pub mod Values
 pub mod NeverStuck
 pub mod WritingTokens
+pub mod WritingPlaces
 pub mod WritingStates
 pub mod WritingDeclared
 pub mod WritingHeads

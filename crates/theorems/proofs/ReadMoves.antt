@@ -12,7 +12,7 @@ use Rattle.language.specs.Instructions.{Operand, formOf, hasTarget, sourceCount
 use Rattle.language.specs.Bytes.{leftParen, rightParen, leftBrace, rightBrace, comma, semicolon, equals}
 use Rattle.language.specs.Words.{isType, typeOf, isInstruction, instructionOf, firstType, firstInstruction, wordCount, functionWord, ssaWord, voidWord, registerWord, blockWord, entryWord}
 use Rattle.language.specs.Tokens.{Token}
-use Rattle.language.specs.Grammar.{Stage, Act, Move, to, wrongMove, onWord, onName, onNumber, onBlock, onMarkOr, onMark, onEndOr, isWordOr, isWord, aType, aResult, afterSources, afterSource, afterMention, sources, afterWord, inOperand, wordWithTarget, wordAlone, anInstruction, gram}
+use Rattle.language.specs.Grammar.{Bracketed, Stage, Act, Move, to, wrongMove, onWord, onName, onNumber, onBlock, onMarkOr, onMark, onEndOr, isWordOr, isWord, aType, aResult, afterSources, afterSource, afterMention, sources, afterWord, inOperand, wordWithTarget, wordAlone, anInstruction, nextMove}
 use Rattle.theorems.specs.TableLaw.{NameFits}
 
 abbrev pub TokenFits : Token → Type 0
@@ -184,12 +184,11 @@ after-mention : (k : ℕ) → StageFits (afterMention k)
 after-mention zero = small
 after-mention (suc k) = small
 
-in-operand : (o : Operand) → StageFits (inOperand o)
-in-operand Operand.none = small
-in-operand Operand.number = small
-in-operand Operand.registers = small
-in-operand Operand.block = small
-in-operand Operand.blocks = small
+in-operand : (o : Bracketed) → StageFits (inOperand o)
+in-operand Bracketed.number = small
+in-operand Bracketed.registers = small
+in-operand Bracketed.block = small
+in-operand Bracketed.blocks = small
 
 after-word : (op : ℕ) → StageFits (afterWord op)
 unfolding afterWord
@@ -226,8 +225,8 @@ a-result : (w : ℕ) → MoveFits (aResult w)
 a-result = is-word-or voidWord (ok small (lit< tt)) (a-type (λ t. to Stage.functionName (Act.setResult t)) (λ t h. ok small h))
 
 -- Every move of the grammar fits.
-pub moves-fit : (s : Stage) → StageFits s → (t : Token) → TokenFits t → MoveFits (gram s t)
-unfolding gram
+pub moves-fit : (s : Stage) → StageFits s → (t : Token) → TokenFits t → MoveFits (nextMove s t)
+unfolding nextMove
 moves-fit Stage.top b = on-end-or (ok small tt) (on-word (is-word functionWord (ok small tt)))
 moves-fit Stage.header b = on-word (is-word-or ssaWord (ok small tt) a-result)
 moves-fit Stage.result b = on-word a-result

@@ -103,7 +103,6 @@ module _ (f : Func) (c : Clean f) (n : AllNamed f) where
               blocks = omega (arith, s .blocks);
               rows = omega (arith, s .rows);
               entries = omega (arith, s .entries);
-              mentions = omega (arith, s .rows);
               names = apart-at (λ n. n) (map blockName (f .blocks)) [] (n .blocks);
             };
         entry = s .entry;

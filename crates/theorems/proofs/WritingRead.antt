@@ -19,8 +19,8 @@ use Rattle.language.specs.Names.{spelled}
 use Rattle.language.specs.Programs.{Row, Register, Block, Func, Program, noRegister, noBlock, blockAt, isSsa, targetsOf, namedBy, maxText, maxFunctions, maxRegisters}
 use Rattle.language.specs.Checking.{spelledOrNone}
 use Rattle.language.specs.Tokens.{Token, tokensOf}
-use Rattle.language.specs.Grammar.{Stage, gram}
-use Rattle.language.specs.Reading.{Reading, performAct, takeToken, parse₀, finish, read}
+use Rattle.language.specs.Grammar.{Stage, nextMove}
+use Rattle.language.specs.Reading.{Draft, Reading, performAct, takeToken, parse₀, finish, read}
 use Rattle.language.proofs.ReadingLaws.{read-by-tokens}
 use Rattle.language.specs.Writing.{parted, inParens, registerToken, blockToken, typeToken, resultToken, meantToken, numberToken, targetPart, operandPart, ssaPart, parameterPart, registerLine, rowLine, blockLines, headLine, functionLines, linesOf, tokens, textOf, closing}
 use Rattle.theorems.specs.RoundTrip.{FindsTokens}
@@ -29,7 +29,7 @@ use Rattle.theorems.proofs.WritingStates.{State, At, Takes, nothing, af
 use Rattle.theorems.proofs.WritingDeclared.{New, Apart}
 use Rattle.theorems.proofs.WritingHeads.{nameOf, functionName, between, headed, titled, list-read, registers-read}
 use Rattle.theorems.proofs.WritingRows.{RowReady}
-use Rattle.theorems.proofs.WritingBlocks.{BlockReady, Rooms, rowsIn, all-blocks, draftedBlocks, mentions, atBlock}
+use Rattle.theorems.proofs.WritingBlocks.{BlockReady, Rooms, blockRows, all-blocks, draftedBlocks, atBlock}
 use Rattle.theorems.proofs.WritingResolved.{Closing, closed}
 
 -- What is known of a function that the check accepts, once all its names are filled in.
@@ -45,10 +45,10 @@ pub record FunctionReady (f : Func) : Type 0 where
   pub registers : Apart nameOf [] (f .registers)
   pub blockNames : Every (λ b. T (spelledOrNone (b .name))) (f .blocks)
   pub blocks : Every (BlockReady f) (f .blocks)
-  pub rooms : Rooms [] [] (f .blocks)
+  pub rooms : Rooms [] (f .blocks)
   pub entry : f .entry < length (f .blocks)
   pub unnamed : blockAt f (f .entry) .name ≡ []
-  pub named : Every (λ b. b < length (f .blocks)) (gather namedBy (rowsIn (f .blocks)))
+  pub named : Every (λ b. b < length (f .blocks)) (gather namedBy (blockRows (f .blocks)))
 
 -- ---- reading
 
@@ -71,10 +71,10 @@ module _ (fs : List Func) (f : Func) (k : FunctionReady f) (new : New functionNa
 
   -- The blocks are read, as drafts.
   abbrev read-blocks : State
-  read-blocks = atBlock fs f (k .registers) Stage.blocks (draftedBlocks 0 (f .blocks)) (mentions f (rowsIn (f .blocks)))
+  read-blocks = atBlock fs f (k .registers) Stage.blocks (draftedBlocks f (f .blocks))
 
   closing-facts : Closing fs f (k .registers)
-  closing-facts = record { placed = k .placed; names = k .rooms .names; entry = k .entry; unnamed = k .unnamed; named = k .named; room = room }
+  closing-facts = record { placed = k .placed; names = k .rooms .names; entry = k .entry; unnamed = k .unnamed; named = k .named }
 
   function-read : Takes (between fs) (flat (functionLines f)) (between (fs ++ (f ∷ [])))
   unfolding functionLines headLine
@@ -226,17 +226,17 @@ module _ (f : Func) (k : FunctionReady f) where
       (bs : List Block)
       → Every (BlockReady f) bs
       → Every (λ b. T (spelledOrNone (b .name))) bs
-      → Every (λ b. b < length (f .blocks)) (gather namedBy (rowsIn bs))
+      → Every (λ b. b < length (f .blocks)) (gather namedBy (blockRows bs))
       → Every (Every Spellable) (gather (blockLines f) bs)
   unfolding blockLines
   blocks-spelled [] h m n = every-nil
   blocks-spelled (b ∷ bs) (every-cons l h) (every-cons q m) n =
-      let split : gather namedBy (rowsIn (b ∷ bs)) ≡ gather namedBy (b .rows) ++ gather namedBy (rowsIn bs) = gather-append namedBy (b .rows) (rowsIn bs) in
-      let both : Every (λ b. b < length (f .blocks)) (gather namedBy (b .rows) ++ gather namedBy (rowsIn bs)) = rw split at n in
+      let split : gather namedBy (blockRows (b ∷ bs)) ≡ gather namedBy (b .rows) ++ gather namedBy (blockRows bs) = gather-append namedBy (b .rows) (blockRows bs) in
+      let both : Every (λ b. b < length (f .blocks)) (gather namedBy (b .rows) ++ gather namedBy (blockRows bs)) = rw split at n in
       every-append
       (every-cons (every-cons (lit< tt) (every-cons (block-spelled (b .name) q) (one (marks-classed .2))))
-      (every-append (rows-spelled (b .rows) (l .rows) (every-left (gather namedBy (b .rows)) (gather namedBy (rowsIn bs)) both)) (every-cons closing-spelled every-nil)))
-      (blocks-spelled bs h m (every-right (gather namedBy (b .rows)) (gather namedBy (rowsIn bs)) both))
+      (every-append (rows-spelled (b .rows) (l .rows) (every-left (gather namedBy (b .rows)) (gather namedBy (blockRows bs)) both)) (every-cons closing-spelled every-nil)))
+      (blocks-spelled bs h m (every-right (gather namedBy (b .rows)) (gather namedBy (blockRows bs)) both))
 
   function-spelled : Every (Every Spellable) (functionLines f)
   unfolding functionLines headLine
@@ -268,11 +268,11 @@ unfolding tokens textOf linesOf
 program-found p k = lexes (gather functionLines p) (program-spelled (k .functions))
 
 pub program-read : (p : Program) → ProgramReady p → length (textOf p) ≤ maxText → read (textOf p) ≡ Reading.program p
-unfolding tokens linesOf Takes takeToken gram performAct
+unfolding tokens linesOf Takes takeToken nextMove performAct
 program-read p k h =
     let whole : Takes (between []) (tokens p ++ (Token.end ∷ [])) (between p) =
     after (tokens p) (Token.end ∷ []) _ (between p) _ (functions-read p [] (k .functions) (k .names) (omega (arith, k .count)))
     (passes (between p) Stage.top Token.end refl) in
     let at : At (between p) (foldl takeToken parse₀ (tokensOf (textOf p))) =
-    whole parse₀ (record { mentions = []; names = refl; reads = refl }) (tokensOf (textOf p)) (program-found p k) in
-    read-by-tokens (textOf p) h ∙ ap finish (at .reads)
+    whole parse₀ (record { draft = _; bares = refl; reads = refl }) (tokensOf (textOf p)) (program-found p k) in
+    read-by-tokens (textOf p) h ∙ ap finish (at .reads) ∙ ap (λ (d : Draft). Reading.program (d .functions)) (at .bares)

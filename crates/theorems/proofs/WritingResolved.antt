@@ -1,93 +1,85 @@
 -- At a function's closing brace the mentions become the blocks they name, and the draft the function. Assumes nothing.
 use mathlib.Core.Bool.{true}
-use mathlib.Core.List.{List, [], _∷_, _++_, map, append-assoc, append-nil, map-map}
-use mathlib.Core.Path.{_≡_, refl, sym, _∙_, ap, subst⁻¹}
-use Prim.Native.Nat.{ℕ, _+_, _<_}
+use mathlib.Core.List.{List, [], _∷_, _++_, map, map-append, map-map}
+use mathlib.Core.Path.{_≡_, refl, sym, _∙_, ap}
+use Prim.Native.Nat.{ℕ, _<_}
 use native.Mathlib.Nat.{zero-add}
 use native.Mathlib.Omega.{arith}
 use lib.Dec.{eqb}
-use lib.ListN.{length, getD, length-append, length-map, List·getD-map}
-use lib.Seq.{getD-append-seam, getD-append-add}
+use lib.ListN.{length, getD, length-map, List·getD-map}
 use borrow.Author.Tests.{lt-ltb, ne-eqb}
-use Rattle.laws.specs.Lists.{gather}
-use Rattle.laws.proofs.Every.{Every, every-imp, kept-every, every-unmap, map-fixed}
-use Rattle.laws.proofs.Gather.{map-gather}
+use Rattle.laws.specs.Lists.{gather, keep}
+use Rattle.laws.proofs.Every.{Every, more as every-cons, every-left, every-right, every-imp, every-map, kept-every}
 use Rattle.laws.proofs.Appending.{gather-append}
 use Rattle.language.specs.Bytes.{rightBrace}
-use Rattle.language.specs.Programs.{Row, Block, Func, noBlock, blockAt, namedBy, maxFunctions}
-use Rattle.language.specs.Tokens.{Token, token}
-use Rattle.language.specs.Grammar.{Stage, gram}
-use Rattle.language.specs.Reading.{Mention, Parse, functionOf, blockNumber, resolveRow, resolveBlock, resolve, undeclared, endFunction, performAct, takeToken}
-use Rattle.theorems.specs.RoundTrip.{none, more}
-use Rattle.theorems.proofs.WritingStates.{Takes, namesOf}
+use Rattle.language.specs.Programs.{Row, Block, Func, noBlock, blockAt, namedBy}
+use Rattle.language.specs.Tokens.{Token}
+use Rattle.language.specs.Grammar.{Stage, Act, nextMove}
+use Rattle.language.specs.Reading.{OpenRow, OpenBlock, headOf, rowsIn, mentionsIn, blockNumber, resolveRow, resolveBlock, resolve, undeclared, endFunction, performAct}
+use Rattle.theorems.proofs.WritingStates.{Takes, step}
 use Rattle.theorems.proofs.WritingDeclared.{Apart, numbered, numbers}
 use Rattle.theorems.proofs.WritingHeads.{nameOf, between}
-use Rattle.theorems.proofs.WritingRows.{drafted}
-use Rattle.theorems.proofs.WritingBlocks.{blockName, draftedRows, draftedBlocks, rowsIn, mentions, by-names, atBlock}
+use Rattle.theorems.proofs.WritingRows.{aim, drafted}
+use Rattle.theorems.proofs.WritingBlocks.{blockName, openName, blockRows, asDrafted, draftedBlocks, by-names, atBlock}
 
 -- ---- rows and blocks with their mentions resolved
 
-resolve-row : (bs pre post : List ℕ) (r : Row) → bs ≡ pre ++ (namedBy r ++ post) → resolveRow bs (drafted (length pre) r) ≡ r
-resolve-row bs pre post Row.nop e = refl
-resolve-row bs pre post (Row.load op t n) e = refl
-resolve-row bs pre post (Row.unary op t s) e = refl
-resolve-row bs pre post (Row.binary op t l r) e = refl
-resolve-row bs pre post (Row.phi t es) e = refl
-resolve-row bs pre post (Row.jump b) e = ap Row.jump (ap (λ (l : List ℕ). getD l (length pre) 0) e ∙ getD-append-seam pre b post 0)
-resolve-row bs pre post (Row.branch s x y) e =
-    let one : getD bs (length pre) 0 ≡ x = ap (λ (l : List ℕ). getD l (length pre) 0) e ∙ getD-append-seam pre x (y ∷ post) 0 in
-    let two : getD bs (length pre + 1) 0 ≡ y = ap (λ (l : List ℕ). getD l (length pre + 1) 0) e ∙ getD-append-add pre (x ∷ y ∷ post) 1 0 in
-    λ i. Row.branch s (one i) (two i)
-resolve-row bs pre post (Row.return s) e = refl
-resolve-row bs pre post Row.leave e = refl
-resolve-row bs pre post (Row.unknown op) e = refl
+module _ (F : Func) (bs : List OpenBlock) where
+  -- The block's name is found at its number.
+  abbrev Found : ℕ → Type 0
+  Found b = blockNumber bs (blockAt F b .name) ≡ b
 
-resolve-rows :
-    (bs pre post : List ℕ) (rs : List Row)
-    → bs ≡ pre ++ (gather namedBy rs ++ post)
-    → map (resolveRow bs) (draftedRows (length pre) rs) ≡ rs
-resolve-rows bs pre post [] e = refl
-resolve-rows bs pre post (r ∷ rs) e =
-    let later = gather namedBy rs in
-    let here : bs ≡ pre ++ (namedBy r ++ (later ++ post)) = e ∙ ap (λ (l : List ℕ). pre ++ l) (append-assoc (namedBy r) later post) in
-    let on : map (resolveRow bs) (draftedRows (length (pre ++ namedBy r)) rs) ≡ rs =
-    resolve-rows bs (pre ++ namedBy r) post rs (here ∙ sym (append-assoc pre (namedBy r) (later ++ post))) in
-    rw (resolve-row bs pre (later ++ post) r here) (ap (λ (l : List Row). r ∷ l) (rw length-append at on))
+  resolve-row : (r : Row) → Every Found (namedBy r) → resolveRow bs (drafted F r) ≡ r
+  resolve-row Row.nop e = refl
+  resolve-row (Row.load op t n) e = refl
+  resolve-row (Row.unary op t s) e = refl
+  resolve-row (Row.binary op t l r) e = refl
+  resolve-row (Row.phi t es) e = refl
+  resolve-row (Row.jump b) (every-cons e h) = ap Row.jump e
+  resolve-row (Row.branch s x y) (every-cons e (every-cons g h)) = λ i. Row.branch s (e i) (g i)
+  resolve-row (Row.return s) e = refl
+  resolve-row Row.leave e = refl
+  resolve-row (Row.unknown op) e = refl
 
-resolve-blocks :
-    (bs pre post : List ℕ) (ks : List Block)
-    → bs ≡ pre ++ (gather namedBy (rowsIn ks) ++ post)
-    → map (resolveBlock bs) (draftedBlocks (length pre) ks) ≡ ks
-resolve-blocks bs pre post [] e = refl
-resolve-blocks bs pre post (k ∷ ks) e =
-    let now = gather namedBy (k .rows) in
-    let later = gather namedBy (rowsIn ks) in
-    let split : gather namedBy (k .rows ++ rowsIn ks) ≡ now ++ later = gather-append namedBy (k .rows) (rowsIn ks) in
-    let here : bs ≡ pre ++ (now ++ (later ++ post)) =
-    e ∙ ap (λ (l : List ℕ). pre ++ (l ++ post)) split ∙ ap (λ (l : List ℕ). pre ++ l) (append-assoc now later post) in
-    let on : map (resolveBlock bs) (draftedBlocks (length (pre ++ now)) ks) ≡ ks =
-    resolve-blocks bs (pre ++ now) post ks (here ∙ sym (append-assoc pre now (later ++ post))) in
-    let rows : map (resolveRow bs) (draftedRows (length pre) (k .rows)) ≡ k .rows = resolve-rows bs pre (later ++ post) (k .rows) here in
-    let rest : map (resolveBlock bs) (draftedBlocks (length pre + length now) ks) ≡ ks = rw length-append at on in
-    λ i. record { name = k .name; rows = rows i } ∷ rest i
+  resolve-rows : (rs : List Row) → Every Found (gather namedBy rs) → map (resolveRow bs) (map (drafted F) rs) ≡ rs
+  resolve-rows [] e = refl
+  resolve-rows (r ∷ rs) e =
+      let first = resolve-row r (every-left (namedBy r) (gather namedBy rs) e) in
+      let others = resolve-rows rs (every-right (namedBy r) (gather namedBy rs) e) in
+      λ i. first i ∷ others i
 
--- ---- names
+  resolve-blocks : (ks : List Block) → Every Found (gather namedBy (blockRows ks)) → map (resolveBlock bs) (draftedBlocks F ks) ≡ ks
+  resolve-blocks [] e = refl
+  resolve-blocks (k ∷ ks) e =
+      let now = gather namedBy (k .rows) in
+      let later = gather namedBy (blockRows ks) in
+      let both : Every Found (now ++ later) = rw (gather-append namedBy (k .rows) (blockRows ks)) at e in
+      let rows = resolve-rows (k .rows) (every-left now later both) in
+      let others = resolve-blocks ks (every-right now later both) in
+      λ i. record { name = k .name; rows = rows i } ∷ others i
 
-drafted-names : (n : ℕ) (ks : List Block) → map blockName (draftedBlocks n ks) ≡ map blockName ks
-drafted-names n [] = refl
-drafted-names n (k ∷ ks) = ap (λ (l : List (List ℕ)). k .name ∷ l) (drafted-names (n + length (gather namedBy (k .rows))) ks)
+-- ---- what drafts mention
 
-module _ (ks : List Block) (apart : Apart (λ n. n) [] (map blockName ks)) where
-  -- a block's number by the names of the drafts
-  draft-number : (b : ℕ) → b < length ks → numbered blockName (draftedBlocks 0 ks) (getD ks b noBlock .name) ≡ b
-  draft-number b h =
-      let n = getD ks b noBlock .name in
-      let named : getD (map blockName ks) b [] ≡ n = List·getD-map blockName ks b noBlock in
-      let l : b < length (map blockName ks) = rw length-map h in
-      by-names (draftedBlocks 0 ks) n ∙ ap (λ (l : List (List ℕ)). numbered (λ n. n) l n) (drafted-names 0 ks)
-      ∙ ap (λ (m : List ℕ). numbered (λ n. n) (map blockName ks) m) (sym named)
-      ∙ numbers (λ n. n) [] (map blockName ks) [] apart b l
-      ∙ zero-add b
+mentions-row : (F : Func) (r : Row) → mentionsIn (drafted F r) ≡ map (aim F) (namedBy r)
+mentions-row F Row.nop = refl
+mentions-row F (Row.load op t n) = refl
+mentions-row F (Row.unary op t s) = refl
+mentions-row F (Row.binary op t l r) = refl
+mentions-row F (Row.phi t es) = refl
+mentions-row F (Row.jump b) = refl
+mentions-row F (Row.branch s x y) = refl
+mentions-row F (Row.return s) = refl
+mentions-row F Row.leave = refl
+mentions-row F (Row.unknown op) = refl
+
+mentions-rows : (F : Func) (rs : List Row) → gather mentionsIn (map (drafted F) rs) ≡ map (aim F) (gather namedBy rs)
+mentions-rows F [] = refl
+mentions-rows F (r ∷ rs) = rw (mentions-row F r, mentions-rows F rs) (sym (map-append (aim F) (namedBy r) (gather namedBy rs)))
+
+drafted-rows : (F : Func) (bs : List Block) → rowsIn (draftedBlocks F bs) ≡ map (drafted F) (blockRows bs)
+drafted-rows F [] = refl
+drafted-rows F (b ∷ bs) =
+    ap (λ (rs : List OpenRow). map (drafted F) (b .rows) ++ rs) (drafted-rows F bs) ∙ sym (map-append (drafted F) (b .rows) (blockRows bs))
 
 module _ (fs : List Func) (F : Func) (registers : Apart nameOf [] (F .registers)) where
   -- What the closing brace needs of the function.
@@ -96,67 +88,60 @@ module _ (fs : List Func) (F : Func) (registers : Apart nameOf [] (F .registers)
     pub names : Apart (λ n. n) [] (map blockName (F .blocks))
     pub entry : F .entry < length (F .blocks)
     pub unnamed : blockAt F (F .entry) .name ≡ []
-    pub named : Every (λ b. b < length (F .blocks)) (gather namedBy (rowsIn (F .blocks)))
-    pub room : length fs < maxFunctions
+    pub named : Every (λ b. b < length (F .blocks)) (gather namedBy (blockRows (F .blocks)))
 
   module _ (c : Closing) where
-    abbrev drafts : List Block
-    drafts = draftedBlocks 0 (F .blocks)
-
-    abbrev f : Func
-    f = functionOf (F .name) (F .ssa) (F .result) (F .params) (F .registers) drafts 0
+    abbrev drafts : List OpenBlock
+    drafts = draftedBlocks F (F .blocks)
 
     drafts-count : length drafts ≡ length (F .blocks)
-    drafts-count = sym (length-map drafts blockName) ∙ ap length (drafted-names 0 (F .blocks)) ∙ length-map (F .blocks) blockName
+    drafts-count = length-map (F .blocks) (asDrafted F)
 
-    number : (b : ℕ) → b < length (F .blocks) → blockNumber f (blockAt F b .name) ≡ b
+    number : (b : ℕ) → b < length (F .blocks) → blockNumber drafts (blockAt F b .name) ≡ b
     unfolding blockNumber
-    number b h = draft-number (F .blocks) (c .names) b h
+    number b h =
+        let names = map blockName (F .blocks) in
+        let n = blockAt F b .name in
+        let named : getD names b [] ≡ n = List·getD-map blockName (F .blocks) b noBlock in
+        let l : b < length names = rw length-map h in
+        by-names drafts n ∙ ap (λ (l : List (List ℕ)). numbered (λ n. n) l n) (map-map openName (asDrafted F) (F .blocks))
+        ∙ ap (λ (m : List ℕ). numbered (λ n. n) names m) (sym named)
+        ∙ numbers (λ n. n) [] names [] (c .names) b l
+        ∙ zero-add b
 
-    entry-number : blockNumber f [] ≡ F .entry
-    entry-number = ap (blockNumber f) (sym (c .unnamed)) ∙ number (F .entry) (c .entry)
+    entry-number : blockNumber drafts [] ≡ F .entry
+    entry-number = ap (blockNumber drafts) (sym (c .unnamed)) ∙ number (F .entry) (c .entry)
 
-    module _ (ms : List Mention) (e : namesOf ms ≡ mentions F (rowsIn (F .blocks))) where
-      known : map (λ m. blockNumber f (m .name)) ms ≡ gather namedBy (rowsIn (F .blocks))
-      known =
-          sym (map-map (blockNumber f) (λ m. m .name) ms)
-          ∙ ap (map (blockNumber f)) (e ∙ sym (map-gather (λ b. blockAt F b .name) namedBy (rowsIn (F .blocks))))
-          ∙ map-map (blockNumber f) (λ b. blockAt F b .name) (gather namedBy (rowsIn (F .blocks)))
-          ∙ map-fixed (λ b. blockNumber f (blockAt F b .name)) (every-imp number (c .named))
+    resolved : resolve (headOf (F .name) (F .ssa) (F .result) (F .params) (F .registers)) drafts ≡ F
+    unfolding resolve
+    resolved =
+        let blocks = resolve-blocks F drafts (F .blocks) (every-imp number (c .named)) in
+        λ i.
+        record {
+          name = F .name;
+          ssa = F .ssa;
+          result = F .result;
+          params = F .params;
+          registers = F .registers;
+          blocks = blocks i;
+          entry = entry-number i;
+          placed = sym (c .placed) i;
+        }
 
-      resolved : resolve f ms ≡ F
-      unfolding resolve
-      resolved =
-          let blocks : map (resolveBlock (map (λ m. blockNumber f (m .name)) ms)) drafts ≡ F .blocks =
-          resolve-blocks (map (λ m. blockNumber f (m .name)) ms) [] [] (F .blocks) (known ∙ sym (append-nil (gather namedBy (rowsIn (F .blocks))))) in
-          λ i.
-          record {
-            name = F .name;
-            ssa = F .ssa;
-            result = F .result;
-            params = F .params;
-            registers = F .registers;
-            blocks = blocks i;
-            entry = entry-number i;
-            placed = sym (c .placed) i;
-          }
-
-      none-undeclared : undeclared f ms ≡ []
-      unfolding undeclared
-      none-undeclared =
-          kept-every (λ m. eqb (blockNumber f (m .name)) (length drafts))
-          (every-imp (λ m l. ne-eqb (blockNumber f (m .name)) (length drafts) (λ d. absurd (omega (arith, drafts-count))))
-          (every-unmap (λ m. blockNumber f (m .name)) ms (subst⁻¹ (Every (λ b. b < length (F .blocks))) known (c .named))))
+    none-undeclared : undeclared drafts ≡ []
+    unfolding undeclared
+    none-undeclared =
+        let all : gather mentionsIn (rowsIn drafts) ≡ map (aim F) (gather namedBy (blockRows (F .blocks))) =
+        ap (gather mentionsIn) (drafted-rows F (F .blocks)) ∙ mentions-rows F (blockRows (F .blocks)) in
+        ap (keep (λ m. eqb (blockNumber drafts (m .name)) (length drafts))) all
+        ∙ kept-every (λ m. eqb (blockNumber drafts (m .name)) (length drafts))
+        (every-map (aim F)
+        (λ b l. ne-eqb (blockNumber drafts (blockAt F b .name)) (length drafts) (λ d. absurd (omega (arith, drafts-count, number b l))))
+        (c .named))
 
     -- the closing brace
-    pub closed : Takes (atBlock fs F registers Stage.blocks drafts (mentions F (rowsIn (F .blocks)))) (Token.mark rightBrace ∷ []) (between (fs ++ (F ∷ [])))
-    unfolding Takes takeToken gram performAct endFunction
-    closed x a fs′ (more p none) =
-        let ms = a .mentions in
-        record {
-          mentions = [];
-          names = refl;
-          reads =
-              ap (λ (x : Parse). takeToken x (token p (Token.mark rightBrace))) (a .reads)
-              ∙ rw (entry-number, lt-ltb (F .entry) (length drafts) (omega (arith, drafts-count, c .entry)), none-undeclared ms (a .names), lt-ltb (length fs) maxFunctions (c .room), resolved ms (a .names));
-        }
+    pub closed : Takes (atBlock fs F registers Stage.blocks drafts) (Token.mark rightBrace ∷ []) (between (fs ++ (F ∷ [])))
+    unfolding nextMove performAct endFunction
+    closed =
+        step (atBlock fs F registers Stage.blocks drafts) (between (fs ++ (F ∷ []))) (Token.mark rightBrace) Act.endFunction refl
+        (rw (entry-number, lt-ltb (F .entry) (length drafts) (omega (arith, drafts-count, c .entry)), none-undeclared, resolved))

@@ -1,35 +1,25 @@
 -- Reading tokens whose places are not told: from one state of the reading to another. Assumes nothing.
-use mathlib.Core.List.{List, [], _∷_, _++_, map, foldl, foldl-append}
+use mathlib.Core.List.{List, [], _∷_, _++_, foldl, foldl-append}
 use mathlib.Core.Path.{_≡_, refl, _∙_, ap, subst, subst⁻¹}
 use Prim.Native.Nat.{ℕ, _+_, _-_, _<_}
 use native.Mathlib.Omega.{arith}
 use borrow.Author.Tests.{lt-ltb, le-leb}
 use Rattle.language.specs.Words.{firstType, firstInstruction}
-use Rattle.language.specs.Programs.{Block, Func}
 use Rattle.language.specs.Tokens.{Token, Found, token}
-use Rattle.language.specs.Grammar.{Stage, Act, Move, to, aType, gram}
-use Rattle.language.specs.Reading.{Parts, Mention, Draft, proceed, Parse, draftOf, performAct, afterAct, takeToken}
+use Rattle.language.specs.Grammar.{Stage, Act, Move, to, aType, nextMove}
+use Rattle.language.specs.Reading.{Draft, proceed, Parse, performAct, afterAct, takeToken}
 use Rattle.theorems.specs.RoundTrip.{FindsTokens, none, more}
+use Rattle.theorems.proofs.WritingPlaces.{nowhere, bare, perform-bare, proceeds-bare}
 
 -- What is read so far, without the places of the blocks mentioned.
 pub record State : Type 0 where
   pub stage : Stage
-  pub functions : List Func
-  pub function : Func
-  pub names : List (List ℕ)
-  pub block : Block
-  pub parts : Parts
-
-abbrev pub namesOf : List Mention → List (List ℕ)
-namesOf ms = map (λ m. m .name) ms
-
-abbrev pub draft : State → List Mention → Draft
-draft σ ms = draftOf (σ .functions) (σ .function) ms (σ .block) (σ .parts)
+  pub draft : Draft
 
 pub record At (σ : State) (x : Parse) : Type 0 where
-  pub mentions : List Mention
-  pub names : namesOf mentions ≡ σ .names
-  pub reads : x ≡ Parse.reading (σ .stage) (draft σ mentions)
+  pub draft : Draft
+  pub bares : bare draft ≡ σ .draft
+  pub reads : x ≡ Parse.reading (σ .stage) draft
 
 -- These tokens lead from one state to the other.
 unfoldable pub Takes : State → List Token → State → Type 0
@@ -64,35 +54,35 @@ after ts us σ τ υ f g x k fs h =
     subst (λ (fs : List Found). At υ (foldl takeToken x fs)) (r .joined)
     (subst⁻¹ (At υ) (foldl-append takeToken x (r .left) (r .right)) (g (foldl takeToken x (r .left)) (f x k (r .left) (r .first)) (r .right) (r .second)))
 
--- a token whose act changes no mention
+-- a token and its act
 pub step :
     (σ τ : State) (t : Token) (a : Act)
-    → gram (σ .stage) t ≡ to (τ .stage) a
-    → ((p : ℕ) (ms : List Mention) → namesOf ms ≡ σ .names → performAct a p (draft σ ms) ≡ proceed (draft τ ms))
-    → σ .names ≡ τ .names
+    → nextMove (σ .stage) t ≡ to (τ .stage) a
+    → performAct a nowhere (σ .draft) ≡ proceed (τ .draft)
     → Takes σ (t ∷ []) τ
 unfolding Takes takeToken
-step σ τ t a e f d x k fs (more p none) =
+step σ τ t a e f x k fs (more p none) =
+    let r = proceeds-bare (performAct a p (k .draft)) (τ .draft) (perform-bare a p (k .draft) ∙ rw (k .bares, f)) in
     record {
-      mentions = k .mentions;
-      names = k .names ∙ d;
+      draft = r .draft;
+      bares = r .bares;
       reads =
           ap (λ (x : Parse). takeToken x (token p t)) (k .reads)
-          ∙ ap (λ (m : Move). afterAct (m .stage) (performAct (m .act) p (draft σ (k .mentions)))) e
-          ∙ ap (afterAct (τ .stage)) (f p (k .mentions) (k .names));
+          ∙ ap (λ (m : Move). afterAct (m .stage) (performAct (m .act) p (k .draft))) e
+          ∙ ap (afterAct (τ .stage)) (r .outcome);
     }
 
 -- a token that only leads to another stage
 abbrev pub stage-to : State → Stage → State
-stage-to σ s = record { stage = s; functions = σ .functions; function = σ .function; names = σ .names; block = σ .block; parts = σ .parts }
+stage-to σ s = record { stage = s; draft = σ .draft }
 
-pub passes : (σ : State) (s : Stage) (t : Token) → gram (σ .stage) t ≡ to s Act.pass → Takes σ (t ∷ []) (stage-to σ s)
+pub passes : (σ : State) (s : Stage) (t : Token) → nextMove (σ .stage) t ≡ to s Act.pass → Takes σ (t ∷ []) (stage-to σ s)
 unfolding performAct
-passes σ s t e = step σ (stage-to σ s) t Act.pass e (λ p ms h. refl) refl
+passes σ s t e = step σ (stage-to σ s) t Act.pass e refl
 
 -- such a token, then the others
 pub pass-then :
-    (σ : State) (s : Stage) (υ : State) (t : Token) (ts : List Token) → gram (σ .stage) t ≡ to s Act.pass → Takes (stage-to σ s) ts υ → Takes σ (t ∷ ts) υ
+    (σ : State) (s : Stage) (υ : State) (t : Token) (ts : List Token) → nextMove (σ .stage) t ≡ to s Act.pass → Takes (stage-to σ s) ts υ → Takes σ (t ∷ ts) υ
 pass-then σ s υ t ts e f = then σ (stage-to σ s) υ t ts (passes σ s t e) f
 
 -- a type's word

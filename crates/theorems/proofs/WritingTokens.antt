@@ -18,7 +18,7 @@ use Rattle.language.specs.Words.{words, wordOf, wordCount}
 use Rattle.language.specs.Names.{Spelling, spell, nextSpelled, firstSpelled, insideQuotes, whole, spelled}
 use Rattle.language.specs.Programs.{maxName}
 use Rattle.language.specs.Listing.{digits}
-use Rattle.language.specs.Tokens.{Token, Found, token, Mode, Lexer, Lexed, lexer₀, quiet, finds, begun, begunName, longerName, longerNumber, begunNumber, digitMode, begin, beginAs, nameOrWord, ended, endedAs, ends, extends, quotes, closes, endsNumber, decimalDigit, stepAs, lexStep, lexEnd, lexMore, tokensOf}
+use Rattle.language.specs.Tokens.{Token, Found, token, Mode, Lexer, Lexed, lexer₀, quiet, finds, begun, begunName, longerName, longerNumber, begunNumber, digitMode, begin, beginAs, nameOrWord, ended, endedAs, ends, extends, quotes, closes, endsNumber, decimalDigit, stepAs, lexStep, lexEnd, lexMore, tokensFrom, tokensOf}
 use Rattle.language.proofs.Digits.{digits-by}
 use Rattle.language.proofs.SpelledNames.{right, wrong-stays, right-before}
 use Rattle.theorems.specs.RoundTrip.{FindsTokens, none, more}
@@ -572,7 +572,7 @@ lines-on (l ∷ ls) us x (every-cons p h) k =
 
 -- the tokens of a text of lines, whatever their places, and the end
 pub lexes : (ls : List (List Token)) → Every (Every Spellable) ls → FindsTokens (gather (λ l. l) ls ++ (Token.end ∷ [])) (tokensOf (gather lineBytes ls))
-unfolding tokensOf lexEnd ended
+unfolding tokensFrom tokensOf lexEnd ended
 lexes ls h =
     let x = foldl lexMore (quiet lexer₀) (gather lineBytes ls) in
     let k : Between (gather (λ l. l) ls) x = lines-on ls [] (quiet lexer₀) h (record { mode = refl; found = none }) in

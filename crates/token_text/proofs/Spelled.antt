@@ -28,7 +28,7 @@ use Rattle.page.specs.Page.{Page, puts}
 use Rattle.page.proofs.Pages.{puts-append}
 use Rattle.token_text.specs.Spaced.{spaced}
 use Rattle.token_text.proofs.Lines.{spaced-append}
-use Rattle.token_text.specs.Spellings.{lettersOf, sizeOf}
+use Rattle.vocabulary.specs.Letters.{lettersOf, letterCount}
 
 -- one part after the other
 pub puts-then : {q r : Page} (p : Page) (xs ys : List ℕ) → q ≡ puts p xs → r ≡ puts q ys → r ≡ puts p (xs ++ ys)
@@ -37,22 +37,26 @@ puts-then p xs ys first second = second ∙ ap (λ (q : Page). puts q ys) first 
 pub spaced-one : (t : Token) → bytesFor t ++ (spaceByte ∷ []) ≡ spaced (t ∷ [])
 spaced-one t = sym (append-nil (bytesFor t ++ (spaceByte ∷ [])))
 
--- ---- the letters kept for a word, as many as its size says: one test of all words, by computation
+-- ---- the letters kept for a word, those of the word and a space: one test of all words, by computation
 
-module _ {n : ℕ} {l : List ℕ} (w : ℕ) (h : w < wordCount) (size : n ≡ sizeOf w) (letters : l ≡ lettersOf w) where
-  pub word-letters : take n l ≡ spaced (Token.word w ∷ [])
-  unfolding bytesFor words sizeOf lettersOf
+module _ {n : ℕ} {l : List ℕ} (w : ℕ) (h : w < wordCount) (count : n ≡ letterCount w) (letters : l ≡ lettersOf w) where
+  pub word-letters : take (n + 1) l ≡ spaced (Token.word w ∷ [])
+  unfolding bytesFor words letterCount lettersOf
   word-letters =
-      rw (size, letters)
-      (same-eq (take (sizeOf w) (lettersOf w)) (getD words w [] ++ (spaceByte ∷ []))
+      rw (count, letters)
+      (same-eq (take (letterCount w + 1) (lettersOf w)) (getD words w [] ++ (spaceByte ∷ []))
       (all-at (λ n. same (take (length n + 1) (take 10 (n ++ replicate 10 spaceByte))) (n ++ (spaceByte ∷ []))) words w [] tt h)
       ∙ spaced-one (Token.word w))
 
-  pub word-fits : n ≤ length l
-  unfolding words sizeOf lettersOf
+  pub word-fits : n + 1 ≤ length l
+  unfolding words letterCount lettersOf
   word-fits =
-      rw (size, letters)
-      (leb→le (sizeOf w) (length (lettersOf w)) (all-at (λ n. leb (length n + 1) (length (take 10 (n ++ replicate 10 spaceByte)))) words w [] tt h))
+      rw (count, letters)
+      (leb→le (letterCount w + 1) (length (lettersOf w)) (all-at (λ n. leb (length n + 1) (length (take 10 (n ++ replicate 10 spaceByte)))) words w [] tt h))
+
+  pub word-short : n + 1 ≤ 10
+  unfolding words letterCount
+  word-short = rw count (leb→le (letterCount w + 1) 10 (all-at (λ n. leb (length n + 1) 10) words w [] tt h))
 
 -- a result: void, or a type
 pub result-void : {k : ℕ} → k ≡ void → spaced (resultToken void ∷ []) ≡ spaced (resultToken k ∷ [])

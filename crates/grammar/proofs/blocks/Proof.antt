@@ -1,12 +1,12 @@
 -- `grammar::blocks`: the brace, or the word.
 use borrow.Author.Needs.{needs}
-use Rattle.language.specs.Grammar.{gram}
+use Rattle.language.specs.Grammar.{nextMove}
 use Rattle.grammar.proofs.Taken.{taken}
 use Rattle.grammar.proofs.blocks.Statement.{statement}
 use Rattle.grammar.proofs.blocks.Tie as tie
 
 pub blocks-spec : {M : Type 1} → statement M
-unfolding gram
+unfolding nextMove
 blocks-spec =
     tie.close
     (tie.spec

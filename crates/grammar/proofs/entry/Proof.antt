@@ -1,12 +1,12 @@
 -- `grammar::entry`: the name is taken apart.
 use borrow.Author.Needs.{needs}
-use Rattle.language.specs.Grammar.{gram}
+use Rattle.language.specs.Grammar.{nextMove}
 use Rattle.grammar.proofs.Taken.{taken}
 use Rattle.grammar.proofs.entry.Statement.{statement}
 use Rattle.grammar.proofs.entry.Tie as tie
 
 pub entry-spec : {M : Type 1} → statement M
-unfolding gram
+unfolding nextMove
 entry-spec =
     tie.close
     (tie.spec

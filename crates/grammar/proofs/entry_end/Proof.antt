@@ -1,12 +1,12 @@
 -- `grammar::entry_end`: one mark, or the other.
 use borrow.Author.Needs.{needs}
-use Rattle.language.specs.Grammar.{gram}
+use Rattle.language.specs.Grammar.{nextMove}
 use Rattle.grammar.proofs.Taken.{taken}
 use Rattle.grammar.proofs.entry_end.Statement.{statement}
 use Rattle.grammar.proofs.entry_end.Tie as tie
 
 pub entry-end-spec : {M : Type 1} → statement M
-unfolding gram
+unfolding nextMove
 entry-end-spec =
     tie.close
     (tie.spec

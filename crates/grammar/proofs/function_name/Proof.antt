@@ -1,12 +1,12 @@
 -- `grammar::function_name`: the name is taken apart.
 use borrow.Author.Needs.{needs}
-use Rattle.language.specs.Grammar.{gram}
+use Rattle.language.specs.Grammar.{nextMove}
 use Rattle.grammar.proofs.Taken.{taken}
 use Rattle.grammar.proofs.function_name.Statement.{statement}
 use Rattle.grammar.proofs.function_name.Tie as tie
 
 pub function-name-spec : {M : Type 1} → statement M
-unfolding gram
+unfolding nextMove
 function-name-spec =
     tie.close
     (tie.spec

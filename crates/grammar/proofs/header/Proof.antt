@@ -1,12 +1,12 @@
 -- `grammar::header`: the word is taken apart, and then tested as the definition does.
 use borrow.Author.Needs.{needs}
-use Rattle.language.specs.Grammar.{gram}
+use Rattle.language.specs.Grammar.{nextMove}
 use Rattle.grammar.proofs.Taken.{taken}
 use Rattle.grammar.proofs.header.Statement.{statement}
 use Rattle.grammar.proofs.header.Tie as tie
 
 pub header-spec : {M : Type 1} → statement M
-unfolding gram
+unfolding nextMove
 header-spec =
     tie.close
     (tie.spec

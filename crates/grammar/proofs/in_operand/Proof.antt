@@ -13,8 +13,6 @@ in-operand-spec =
     (λ c κs. search needs)
     (λ c κs. search needs)
     (λ c κs. search needs)
-    (λ c κs. search needs)
-    (λ c. search (taken, numbers, needs))
     (λ c. search (taken, numbers, needs))
     (λ c. search (taken, numbers, needs))
     (λ c. search (taken, numbers, needs))

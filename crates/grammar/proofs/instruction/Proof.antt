@@ -1,12 +1,12 @@
 -- `grammar::instruction`: the word is taken apart.
 use borrow.Author.Needs.{needs}
-use Rattle.language.specs.Grammar.{gram}
+use Rattle.language.specs.Grammar.{nextMove}
 use Rattle.grammar.proofs.Taken.{taken}
 use Rattle.grammar.proofs.instruction.Statement.{statement}
 use Rattle.grammar.proofs.instruction.Tie as tie
 
 pub instruction-spec : {M : Type 1} → statement M
-unfolding gram
+unfolding nextMove
 instruction-spec =
     tie.close
     (tie.spec

@@ -1,18 +1,16 @@
--- `grammar::mention`: the name of a block is taken apart.
+-- `grammar::mention`: whether the token names a block, and then its bytes.
 use borrow.Author.Needs.{needs}
-use Rattle.language.specs.Grammar.{gram}
+use Rattle.language.specs.Grammar.{nextMove}
 use Rattle.grammar.proofs.Taken.{taken}
 use Rattle.grammar.proofs.mention.Statement.{statement}
 use Rattle.grammar.proofs.mention.Tie as tie
 
 pub mention-spec : {M : Type 1} → statement M
-unfolding gram
+unfolding nextMove
 mention-spec =
     tie.close
     (tie.spec
     (λ c κs. search needs)
-    (λ c. search needs)
-    (λ c. search needs)
     (λ c κs. search needs)
     (λ c s. search (taken, needs))
     (λ c κs. search needs)

@@ -1,12 +1,12 @@
 -- `grammar::number`: the number is taken apart.
 use borrow.Author.Needs.{needs}
-use Rattle.language.specs.Grammar.{gram}
+use Rattle.language.specs.Grammar.{nextMove}
 use Rattle.grammar.proofs.Taken.{taken}
 use Rattle.grammar.proofs.number.Statement.{statement}
 use Rattle.grammar.proofs.number.Tie as tie
 
 pub number-spec : {M : Type 1} → statement M
-unfolding gram
+unfolding nextMove
 number-spec =
     tie.close
     (tie.spec

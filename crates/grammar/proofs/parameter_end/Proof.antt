@@ -1,12 +1,12 @@
 -- `grammar::parameter_end`: one mark, or the other.
 use borrow.Author.Needs.{needs}
-use Rattle.language.specs.Grammar.{gram}
+use Rattle.language.specs.Grammar.{nextMove}
 use Rattle.grammar.proofs.Taken.{taken}
 use Rattle.grammar.proofs.parameter_end.Statement.{statement}
 use Rattle.grammar.proofs.parameter_end.Tie as tie
 
 pub parameter-end-spec : {M : Type 1} → statement M
-unfolding gram
+unfolding nextMove
 parameter-end-spec =
     tie.close
     (tie.spec

@@ -1,12 +1,12 @@
 -- `grammar::result`: the word is taken apart.
 use borrow.Author.Needs.{needs}
-use Rattle.language.specs.Grammar.{gram}
+use Rattle.language.specs.Grammar.{nextMove}
 use Rattle.grammar.proofs.Taken.{taken}
 use Rattle.grammar.proofs.result.Statement.{statement}
 use Rattle.grammar.proofs.result.Tie as tie
 
 pub result-spec : {M : Type 1} → statement M
-unfolding gram
+unfolding nextMove
 result-spec =
     tie.close
     (tie.spec

@@ -1,12 +1,12 @@
 -- `grammar::top`: the end, or the word.
 use borrow.Author.Needs.{needs}
-use Rattle.language.specs.Grammar.{gram}
+use Rattle.language.specs.Grammar.{nextMove}
 use Rattle.grammar.proofs.Taken.{taken}
 use Rattle.grammar.proofs.top.Statement.{statement}
 use Rattle.grammar.proofs.top.Tie as tie
 
 pub top-spec : {M : Type 1} → statement M
-unfolding gram
+unfolding nextMove
 top-spec =
     tie.close
     (tie.spec

@@ -17,4 +17,6 @@ word-alone-spec =
     (λ c κs. search needs)
     (λ c s. search (taken, numbers, needs))
     (λ c κs. search needs)
+    (λ c κs. search needs)
+    (λ c κs. search needs)
     (λ c s. search (taken, numbers, needs)))

@@ -15,6 +15,8 @@ word-with-target-spec =
     (λ c. search (numbers, needs))
     (λ c κs. search needs)
     (λ c κs. search needs)
+    (λ c κs. search needs)
+    (λ c κs. search needs)
     (λ c s. search (taken, numbers, needs))
     (λ c κs. search needs)
     (λ c s. search (taken, numbers, needs)))

@@ -6,9 +6,4 @@ use Rattle.lexer.specs.Advancing.{singleAt}
 
 pub single-spec : {M : Type 1} → statement M
 unfolding singleAt
-single-spec =
-    tie.close
-    (tie.spec
-    (λ c. search branches)
-    (λ c. search branches)
-    (λ c. search branches))
+single-spec = tie.close (tie.spec (λ c. search branches) (λ c. search branches))

@@ -11,11 +11,7 @@ ended-spec =
     tie.close
     (tie.spec
     (λ c. search needs)
-    (λ c. search needs)
-    (λ c. search needs)
-    (λ c κs. search needs)
-    (λ c κs. search needs)
-    (λ c. rw (c .name-or-word .ensures, c .before .word .ensures) (search branches))
+    (λ c. search branches depth 12)
     (λ c. search branches depth 12)
     (λ c. search branches depth 12)
     (λ c. search branches depth 12)

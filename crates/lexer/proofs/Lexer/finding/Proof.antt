@@ -11,7 +11,8 @@ finding-spec =
     tie.close
     (tie.spec
     (λ c κs. search needs)
-    (λ c. search branches depth 12)
+    (λ c κs. search needs)
+    (λ c. rw (c .ended .ensures, c .before .idle .ensures) (search branches depth 12))
     (λ c κs. search needs)
     (λ c. rw (c .before .begun .ensures) (search branches depth 12))
     (λ c. search needs)

@@ -1,7 +1,7 @@
--- `reader::reading::next`: a scan before the end of the text, else the end.
+-- `reader::reading::next`: a scan, or the end.
 use borrow.Author.Needs.{needs}
-use mathlib.Core.Path.{refl}
-use Rattle.reader.specs.Parse.{Nexts}
+use native.Mathlib.Omega.{arith}
+use Rattle.reader.specs.Text.{Nexts}
 use Rattle.reader.proofs.reading.next.Statement.{statement}
 use Rattle.reader.proofs.reading.next.Tie as tie
 
@@ -12,4 +12,4 @@ next-spec =
     (λ c κs. search needs)
     (λ c. Nexts.scanned (c .before .if1 .taken) (c .scan .ensures))
     (λ c κs. search needs)
-    (λ c. Nexts.ended (c .before .if1 .left) (c .finish .ensures) refl))
+    (λ c. Nexts.finished (omega arith) (c .finish .ensures)))

@@ -7,9 +7,9 @@ use borrow.Author.Needs.{needs}
 use borrow.Author.Tests.{not-true, not-false}
 use Rattle.laws.specs.Lists.{all}
 use Rattle.language.specs.Checking.{spelledOrNone}
-use Rattle.spelling.specs.Names.{namesIn}
+use Rattle.name_index.specs.Names.{namesIn}
 use Rattle.table.proofs.NamesLaws.{room}
-use Rattle.spelling.proofs.InTable.{all-on, all-off}
+use Rattle.name_index.proofs.InTable.{all-on, all-off}
 use Rattle.spelling.proofs.names.all_spelled.Statement.{statement}
 use Rattle.spelling.proofs.names.all_spelled.Tie as tie
 

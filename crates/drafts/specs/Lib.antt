@@ -1,0 +1,4 @@
+pub mod Mentions
+pub mod Cells
+pub mod State
+pub mod Ending

@@ -1,0 +1,4 @@
+pub mod ChainLaws
+pub mod Distinct
+pub mod Ends
+pub mod InTable

@@ -1,0 +1,3 @@
+pub mod Chains
+pub mod Hashes
+pub mod Names

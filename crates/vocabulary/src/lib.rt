@@ -1,0 +1,10 @@
+// What the bytes of a text are: the class of each, and the words, from their letters to their numbers and back.
+mod class_table;
+pub mod kinds;
+mod lookup;
+mod spellings;
+
+pub use class_table::classes;
+pub use lookup::word;
+pub use spellings::letter_count;
+pub use spellings::letters;
