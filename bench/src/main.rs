@@ -197,6 +197,35 @@ fn quoted_text() -> String {
     s
 }
 
+/// A text of nearly as many bytes that is words and marks: 16 functions with registers of every type, and in each of eight blocks every instruction but
+/// three of those that end one. Names have one letter: they are too short for a word.
+fn words_text() -> String {
+    const TYPES: [&str; 10] = ["int8", "int16", "int32", "int64", "uint8", "uint16", "uint32", "uint64", "int", "uint"];
+    const TWO: [&str; 18] = [
+        "ari.add", "ari.sub", "ari.mul", "ari.div", "ari.rem", "bit.and", "bit.or", "bit.xor", "shl", "shr", "rol", "ror", "cmp.eq", "cmp.neq", "cmp.gt", "cmp.lt",
+        "cmp.gteq", "cmp.lteq",
+    ];
+    const LOADS: [&str; 8] = ["load.i8", "load.ui8", "load.i16", "load.ui16", "load.i32", "load.ui32", "load.i64", "load.ui64"];
+    let mut rows = vec!["nop;".to_string(), "a=phi(b);".to_string()];
+    rows.extend(LOADS.iter().map(|w| format!("a={w}(1);")));
+    rows.extend(TWO.iter().map(|w| format!("a={w} b,c;")));
+    rows.extend(["ari.neg", "bit.neg", "conv", "copy"].iter().map(|w| format!("a={w} b;")));
+    let letter = |n: usize| char::from(b'a' + n as u8);
+    let mut s = String::new();
+    for f in 0..16 {
+        s += &format!("function void {}(){{", letter(f));
+        (0..26).for_each(|r| s += &format!("register {} {};", TYPES[r % 10], letter(r)));
+        for b in 0..8 {
+            s += &if b == 0 { "block entry{".to_string() } else { format!("block {}{{", letter(b)) };
+            (0..32).for_each(|k| s += &rows[(b * 7 + k * 5) % rows.len()]);
+            s += ["jump(b);}", "jump.cond a(b,c);}", "return a;}", "leave;}"][b % 4];
+        }
+        s += "}";
+    }
+    assert!(s.len() <= 65536, "{}", s.len());
+    s
+}
+
 fn median(mut times: Vec<f64>) -> f64 {
     times.sort_by(f64::total_cmp);
     times[times.len() / 2]
@@ -254,20 +283,21 @@ fn report(name: &str, other: &str, rounds: &[(f64, f64)]) -> f64 {
 }
 
 fn main() {
-    let (long, quoted) = (long_text(), quoted_text());
+    let (long, quoted, words) = (long_text(), quoted_text(), words_text());
     let comment = format!("//{}", "lexed and never taken ".repeat(2978));
     let (mut a, mut b) = (vec![255u8; ial_baseline::TABLE], vec![255u8; ial_baseline::TABLE]);
-    for text in [long.as_bytes(), quoted.as_bytes(), comment.as_bytes(), TURN.as_bytes(), b"", b"function void f() {"] {
+    for text in [long.as_bytes(), quoted.as_bytes(), words.as_bytes(), comment.as_bytes(), TURN.as_bytes(), b"", b"function void f() {"] {
         assert_eq!(verified_read(text, &mut a), plain_read(text, &mut b));
         assert!(a == b);
     }
-    println!("texts of {} and, with quoted names, {} bytes", long.len(), quoted.len());
+    println!("texts of {}, with quoted names {}, of words {} bytes", long.len(), quoted.len(), words.len());
     let works = [
         ("read, 64 KB", long.as_bytes(), 2000),
         ("read, 64 KB of quoted names", quoted.as_bytes(), 2000),
         ("read, a comment of 64 KB", comment.as_bytes(), 4000),
         ("read, turn", TURN.as_bytes(), 10000),
         ("read, nothing (a table cleared)", &b""[..], 10000),
+        ("read, 64 KB of words", words.as_bytes(), 2000),
     ];
     let times = works.map(|(name, text, rounds)| {
         assert_eq!(verified_read(text, &mut a), (0, 0));

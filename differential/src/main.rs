@@ -8,6 +8,7 @@ mod histories;
 mod library;
 mod lists;
 mod loops;
+mod near_words;
 mod readings;
 mod rng;
 mod stores;

@@ -1,6 +1,7 @@
-//! Texts for what reading keeps while it reads: names that are nearly the same, blocks mentioned up to the most that can be declared and past it, registers and
+//! Texts for what reading keeps while it reads: names that are nearly the same or nearly words, blocks mentioned up to the most that can be declared and past it, registers and
 //! functions up to their limits, comments of every short length, and texts that end anywhere. Most of them break rules of the check, and are only read.
 
+use crate::near_words;
 use crate::rng::Rng;
 use ial_baseline::TABLE;
 use std::collections::BTreeSet;
@@ -231,8 +232,11 @@ fn between(text: &mut Vec<u8>, mark: bool, comments: usize, rng: &mut Rng) {
     text.extend(rng.of(&[" ", " ", "\n", "\r\n", "\t  "]).bytes());
 }
 
-/// One of these texts: whole, or cut off anywhere, with a comment at its end or not.
+/// One of these texts: whole, or cut off anywhere, with a comment at its end or not; or one of names that are nearly words.
 pub fn text(rng: &mut Rng) -> Vec<u8> {
+    if rng.once_in(6) {
+        return near_words::text(rng);
+    }
     let (mut words, names) = (Words::default(), Names::new(rng));
     let count = *rng.of(&[1, 1, 1, 1, 2, 3, 15, 16, 17, 18]);
     let twice = if rng.once_in(6) { 1 + rng.below(count) } else { count };

@@ -1,5 +1,6 @@
 //! Names that writing may have to make or to pass by, and the table that a text read back must give.
 
+use crate::near_words;
 use crate::rng::Rng;
 use ial_baseline::table::{block_at, function_at, register_at, Function, FunctionMut, Row, Table};
 use ial_baseline::TABLE;
@@ -22,8 +23,11 @@ fn set_name(table: &mut [u8], at: usize, name: &[u8]) {
     table[at + 1..][..name.len()].copy_from_slice(name);
 }
 
-/// A name like a made one, often one that will be made, or one that only looks so; rarely a name that no text can spell.
+/// A name like a made one, often one that will be made, or one that only looks so, or nearly a word; rarely a name that no text can spell.
 fn clash(rng: &mut Rng) -> Vec<u8> {
+    if rng.once_in(6) {
+        return near_words::name(rng);
+    }
     let kind = *rng.of(&["p", "p", "e", "e", "q"]);
     let n = if rng.once_in(6) { rng.below(600) } else { rng.below(12) };
     let name = match rng.below(20) {

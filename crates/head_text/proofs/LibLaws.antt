@@ -62,7 +62,7 @@ parameters-are f n h =
 
 pub head-parts : (f : Func) →
     lineBytes (headLine f)
-    ≡ bytesOf "function "
+    ≡ spaced (Token.word functionWord ∷ [])
     ++ (spaced (ssaPart f)
     ++ (spaced (resultToken (f .result) ∷ [])
     ++ (spaced (Token.name (f .name) ∷ []) ++ (bytesOf "( " ++ (spaced (parted (map parameterPart (take (f .params) (f .registers)))) ++ bytesOf ") {\n")))))
@@ -72,7 +72,7 @@ head-parts f =
     let before : List Token = resultToken (f .result) ∷ Token.name (f .name) ∷ inParens ps in
     ap (λ (l : List Token). lineBytes (Token.word functionWord ∷ l)) (sym (append-assoc (ssaPart f) before (Token.mark leftBrace ∷ [])))
     ∙ line-ends (Token.word functionWord ∷ (ssaPart f ++ before)) (Token.mark leftBrace)
-    ∙ ap (λ (l : List ℕ). bytesOf "function " ++ l)
+    ∙ ap (λ (l : List ℕ). spaced (Token.word functionWord ∷ []) ++ l)
     (ap (λ (l : List ℕ). l ++ (leftBrace ∷ lineFeed ∷ [])) (spaced-append (ssaPart f) before ∙ ap (λ (l : List ℕ). spaced (ssaPart f) ++ l) (tail-parts ps))
     ∙ simp (append-assoc, append-nil))
   where
@@ -83,7 +83,7 @@ head-parts f =
         (spaced-append (Token.name (f .name) ∷ []) (inParens ps)
         ∙ ap (λ (l : List ℕ). spaced (Token.name (f .name) ∷ []) ++ (leftParen ∷ spaceByte ∷ l)) (spaced-append ps (Token.mark rightParen ∷ [])))
 
-pub register-parts : (f : Func) (r : ℕ) → registerBytes f r ≡ bytesOf "register " ++ (typedBytes f r ++ bytesOf ";\n")
+pub register-parts : (f : Func) (r : ℕ) → registerBytes f r ≡ spaced (Token.word registerWord ∷ []) ++ (typedBytes f r ++ bytesOf ";\n")
 unfolding bytesFor words
 register-parts f r = line-ends (Token.word registerWord ∷ parameterPart (getD (f .registers) r noRegister)) (Token.mark semicolon)
 
@@ -106,7 +106,7 @@ pub parameter-later : (f : Func) (r : ℕ) → (r ≡ 0 → ⊥) → (comma ∷ 
 parameter-later f r h = ap (λ (b : Bool). cond b [] (comma ∷ spaceByte ∷ []) ++ typedBytes f r) (sym (ne-eqb r 0 h))
 
 -- the mark, and none
-pub mark-there : (t : List ℕ) (a : ℕ) {k : ℕ} → k ≡ functionSsa t a → k ≡ 1 → bytesOf "ssa " ≡ spaced (ssaPart (decodeFunction t a))
+pub mark-there : (t : List ℕ) (a : ℕ) {k : ℕ} → k ≡ functionSsa t a → k ≡ 1 → spaced (Token.word ssaWord ∷ []) ≡ spaced (ssaPart (decodeFunction t a))
 unfolding bytesFor words decodeFunction
 mark-there t a e h = ap (λ (b : Bool). spaced (cond b (Token.word ssaWord ∷ []) [])) (sym (eq-eqb (functionSsa t a) 1 (sym e ∙ h)))
 
@@ -117,12 +117,12 @@ mark-none t a e h = ap (λ (b : Bool). spaced (cond b (Token.word ssaWord ∷ []
 -- a head by the cells
 pub head-by-cells : (t : List ℕ) (a : ℕ) {k : ℕ} {n : List ℕ} → k ≡ functionResult t a → n ≡ functionName t a →
     let g = namedFunction (decodeFunction t a) in
-    bytesOf "function "
+    spaced (Token.word functionWord ∷ [])
     ++ (spaced (ssaPart (decodeFunction t a))
     ++ (spaced (resultToken k ∷ []) ++ (spaced (Token.name n ∷ []) ++ (bytesOf "( " ++ (spaced (parted (map parameterPart (take (functionParams t a) (g .registers)))) ++ bytesOf ") {\n")))))
     ≡ lineBytes (headLine g)
 unfolding namedFunction decodeFunction
 head-by-cells t a e d =
     let g = namedFunction (decodeFunction t a) in
-    ap₂ (λ (k : ℕ) (n : List ℕ). bytesOf "function " ++ (spaced (ssaPart g) ++ (spaced (resultToken k ∷ []) ++ (spaced (Token.name n ∷ []) ++ (bytesOf "( " ++ (spaced (parted (map parameterPart (take (functionParams t a) (g .registers)))) ++ bytesOf ") {\n")))))) e d
+    ap₂ (λ (k : ℕ) (n : List ℕ). spaced (Token.word functionWord ∷ []) ++ (spaced (ssaPart g) ++ (spaced (resultToken k ∷ []) ++ (spaced (Token.name n ∷ []) ++ (bytesOf "( " ++ (spaced (parted (map parameterPart (take (functionParams t a) (g .registers)))) ++ bytesOf ") {\n")))))) e d
     ∙ sym (head-parts (namedFunction (decodeFunction t a)))

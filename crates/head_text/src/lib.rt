@@ -12,6 +12,7 @@ ghost use Rattle.page.specs.Page.{page, puts};
 ghost use Rattle.token_text.specs.Spaced.{spaced};
 ghost use Rattle.head_text.specs.Heads.{typedBytes, parameterBytes, registerBytes, Declared};
 ghost use Rattle.language.specs.Programs.{maxRegisters};
+use instructions::words;
 use page::put_part;
 use table::function_name;
 use table::function_params;
@@ -23,6 +24,7 @@ use token_text::put_name;
 use token_text::put_register;
 use token_text::put_result;
 use token_text::put_type;
+use token_text::put_word;
 
 // The mark of an ssa function.
 const SSA: u8 = 1;
@@ -71,7 +73,7 @@ fn put_mark(t: &[u8], a: usize, out: &mut [u8], at: usize) -> usize
     ensures { λ p. ⌜ page (now (out .exit)) p ≡ puts (page (now (out .entry)) at) (spaced (ssaPart (decodeFunction (now (t .entry)) a))) ⌝ }
 {
     if function_ssa(t, a) == SSA {
-        return put_part(out, at, b"ssa ");
+        return put_word(words::SSA, out, at);
     }
     at
 }
@@ -81,7 +83,7 @@ pub fn put_head(t: &[u8], a: usize, made: &[u16], out: &mut [u8], at: usize) -> 
     requires { ⌜ Declared (now t) a × RegistersNumbered (decodeFunction (now t) a) (now made) × (maxRegisters ≤ length (now made)) ⌝ }
     ensures { λ p. ⌜ page (now (out .exit)) p ≡ puts (page (now (out .entry)) at) (lineBytes (headLine (namedFunction (decodeFunction (now (t .entry)) a)))) ⌝ }
 {
-    let word = put_part(out, at, b"function ");
+    let word = put_word(words::FUNCTION, out, at);
     let mark = put_mark(t, a, out, word);
     let result = put_result(function_result(t, a), out, mark);
     let name = put_name(function_name(t, a), out, result);
@@ -95,7 +97,7 @@ fn put_declaration(t: &[u8], a: usize, made: &[u16], r: usize, out: &mut [u8], a
     requires { ⌜ Declared (now t) a × RegistersNumbered (decodeFunction (now t) a) (now made) × (maxRegisters ≤ length (now made)) × (r < registerCount (now t) a) ⌝ }
     ensures { λ p. ⌜ page (now (out .exit)) p ≡ puts (page (now (out .entry)) at) (registerBytes (namedFunction (decodeFunction (now (t .entry)) a)) r) ⌝ }
 {
-    let word = put_part(out, at, b"register ");
+    let word = put_word(words::REGISTER, out, at);
     let name = put_typed(t, a, made, r, out, word);
     put_part(out, name, b";\n")
 }

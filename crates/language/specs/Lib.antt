@@ -18,3 +18,4 @@ pub mod Listing
 pub mod Writing
 pub mod MadeNames
 pub mod Answers
+pub mod Candidates

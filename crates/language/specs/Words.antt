@@ -5,6 +5,7 @@ use mathlib.Core.List.{List, [], _∷_, map}
 use Prim.Native.Nat.{ℕ, suc, _+_, _-_}
 use Prim.Native.String.{String}
 use lib.Dec.{ltb, leb}
+use lib.ListN.{getD}
 use Rattle.laws.specs.Lists.{position, same}
 use Rattle.language.specs.Bytes.{bytesOf}
 use Rattle.language.specs.Instructions.{typeCount, instructionCount}
@@ -26,6 +27,10 @@ spellings =
 
 unfoldable pub words : List (List ℕ)
 words = map bytesOf spellings
+
+-- How word number w is spelled.
+abbrev pub spellingOf : ℕ → List ℕ
+spellingOf w = getD words w []
 
 abbrev pub functionWord : ℕ
 functionWord = 0

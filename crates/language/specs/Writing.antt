@@ -9,7 +9,7 @@ use lib.IntN.{ℤ, pos, negsuc}
 use lib.ListN.{getD, take, drop}
 use Rattle.laws.specs.Lists.{gather}
 use Rattle.language.specs.Bytes.{minus, lineFeed, leftParen, rightParen, leftBrace, rightBrace, comma, semicolon, equals}
-use Rattle.language.specs.Words.{words, functionWord, ssaWord, voidWord, registerWord, blockWord, entryWord, firstType, firstInstruction}
+use Rattle.language.specs.Words.{spellingOf, functionWord, ssaWord, voidWord, registerWord, blockWord, entryWord, firstType, firstInstruction}
 use Rattle.language.specs.Instructions.{void, loadType}
 use Rattle.language.specs.Arithmetic.{meaning}
 use Rattle.language.specs.Programs.{Row, Register, Block, Func, Program, noRegister, blockAt, isSsa, opOf, targetsOf, sourcesOf}
@@ -24,7 +24,7 @@ spaceByte = 32
 -- "shortest decimal numbers"; names as they are kept.
 unfoldable pub bytesFor : Token → List ℕ
 bytesFor (Token.name n) = n
-bytesFor (Token.word w) = getD words w []
+bytesFor (Token.word w) = spellingOf w
 bytesFor (Token.number negative magnitude) = cond negative (minus ∷ digits magnitude) (digits magnitude)
 bytesFor (Token.mark b) = b ∷ []
 bytesFor Token.end = []

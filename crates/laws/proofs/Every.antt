@@ -172,6 +172,14 @@ every-member (x ∷ xs) =
     more (ap (λ b. b || member x xs) (eq-eqb x x refl))
     (every-imp (λ y e. ap (λ b. eqb x y || b) e ∙ or-true (eqb x y)) (every-member xs))
 
+pub every-found : {P : ℕ → Type 0} (n : ℕ) {xs : List ℕ} → Every P xs → member n xs ≡ true → P n
+every-found n none e = absurd (false≢true e)
+every-found {P} n (more {x = x} {xs = xs} p h) e = case (eqb x n) refl e (every-found n h)
+  where
+    case : (b : Bool) → eqb x n ≡ b → (b || member n xs) ≡ true → (member n xs ≡ true → P n) → P n
+    case true v e later = subst P (eqb-true x n v) p
+    case false v e later = later e
+
 pub member-below : (n i : ℕ) → i < n → member i (below n) ≡ true
 member-below n i l = every-below-at n (every-member (below n)) i l
 

@@ -135,3 +135,16 @@ module _ {A : Type 0} (p : A → Bool) where
           → any p (cond (not b) (x ∷ keep (λ x. not (p x)) xs) (keep (λ x. not (p x)) xs)) ≡ false
       case true e later = later
       case false e later = ap (λ (b : Bool). b || any p (keep (λ x. not (p x)) xs)) e ∙ later
+
+-- what passes both tests, where one asks for the other
+pub keep-twice : {A : Type 0} (p q : A → Bool) → ((x : A) → q x ≡ true → p x ≡ true) → (xs : List A) → keep q (keep p xs) ≡ keep q xs
+keep-twice p q h [] = refl
+keep-twice p q h (x ∷ xs) = case (p x) refl (q x) refl (keep-twice p q h xs)
+  where
+    case :
+        (a : Bool) → p x ≡ a → (b : Bool) → q x ≡ b → keep q (keep p xs) ≡ keep q xs
+        → keep q (cond a (x ∷ keep p xs) (keep p xs)) ≡ cond b (x ∷ keep q xs) (keep q xs)
+    case true u true v later = keep-pass q x (keep p xs) v ∙ ap (λ r. x ∷ r) later
+    case true u false v later = keep-fail q x (keep p xs) v ∙ later
+    case false u true v later = absurd (false≢true (rw u at (h x v)))
+    case false u false v later = later

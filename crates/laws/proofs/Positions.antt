@@ -4,13 +4,13 @@ use mathlib.Core.Path.{_≡_, refl, sym, ap, _∙_}
 use mathlib.Core.Bool.{Bool, true, false, cond, _||_}
 use mathlib.Core.List.{List, [], _∷_, _++_}
 use Prim.Native.Nat.{ℕ, zero, suc, _+_, _≤_, _<_, zero-le, suc-le-suc}
-use native.Mathlib.Nat.{not-suc-le-zero, le-of-suc-le-suc, zero-lt-suc, add-zero, zero-add}
+use native.Mathlib.Nat.{not-suc-le-zero, le-of-suc-le-suc, zero-lt-suc, add-zero, zero-add, add-suc, suc-add}
 use native.Mathlib.Omega.{arith}
 use lib.Dec.{T, eqb, ltb, eqb→eq, leb·suc-suc}
 use borrow.Author.Tests.{eq-eqb, lt-ltb}
 use mir.Facts.{and-yes}
 use lib.ListN.{length, getD}
-use Rattle.laws.specs.Lists.{any, from, below, position, same}
+use Rattle.laws.specs.Lists.{any, keep, from, below, position, same}
 use Rattle.laws.proofs.Tests.{both-ways}
 
 -- the first number from k on that passes is r steps on, or there is none among the n
@@ -30,6 +30,21 @@ position-from p k (suc n) (suc r) h b f =
 pub position-below : (p : ℕ → Bool) (n r : ℕ) → r ≤ n → ((i : ℕ) → i < r → p i ≡ false) → (r < n → p r ≡ true) → r ≡ position p (below n)
 position-below p n r h b f =
     position-from p zero n r h (λ i c. ap p (zero-add i) ∙ b i c) (λ c. ap p (zero-add r) ∙ f c)
+
+-- the first of the numbers that pass is the first found, and where none does there is none to find
+pub first-kept-from : (p : ℕ → Bool) (k n : ℕ) → getD (keep p (from k n)) 0 (k + n) ≡ k + position p (from k n)
+first-kept-from p k zero = refl
+first-kept-from p k (suc n) = by (p k) (first-kept-from p (suc k) n)
+  where
+    by :
+        (b : Bool) → getD (keep p (from (suc k) n)) 0 (suc k + n) ≡ suc k + position p (from (suc k) n)
+        → getD (cond b (k ∷ keep p (from (suc k) n)) (keep p (from (suc k) n))) 0 (k + suc n)
+        ≡ k + cond b zero (suc (position p (from (suc k) n)))
+    by true ih = sym (add-zero k)
+    by false ih = simp add-suc (simp suc-add at ih)
+
+pub first-kept : (p : ℕ → Bool) (n : ℕ) → getD (keep p (below n)) 0 n ≡ position p (below n)
+first-kept p n = simp zero-add at (first-kept-from p zero n)
 
 module _ {A : Type 0} (p : A → Bool) (q : ℕ → Bool) (d : A) where
   -- a search by numbers is one of the elements they stand for

@@ -8,11 +8,13 @@ ghost use Rattle.language.specs.Writing.{blockLines, lineBytes};
 ghost use Rattle.page.specs.Page.{page, puts};
 ghost use Rattle.row_text.specs.Ready.{TextReady, titled};
 use crate::rows::put_rows;
+use instructions::words;
 use page::put_part;
 use table::block_count;
 use table::block_first;
 use table::block_rows;
 use token_text::put_block;
+use token_text::put_word;
 
 // The lines of block b.
 fn put_block_lines(
@@ -27,7 +29,7 @@ fn put_block_lines(
     requires { ⌜ TextReady (now t) a (now registers) (now blocks) × (b < blockCount (now t) a) ⌝ }
     ensures { λ e. ⌜ page (now (out .exit)) e ≡ puts (page (now (out .entry)) at) (gather lineBytes (blockLines (titled (now (t .entry)) a) (blockAt (titled (now (t .entry)) a) b))) ⌝ }
 {
-    let e = put_part(out, at, b"block ");
+    let e = put_word(words::BLOCK, out, at);
     let f = put_block(t, a, blocks, b, out, e);
     let g = put_part(out, f, b"{\n");
     let h = put_rows(

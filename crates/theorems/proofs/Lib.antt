@@ -55,3 +55,4 @@ pub mod WritingAgain
 pub mod RoundTrip
 pub mod RoundTripTranslation
 pub mod TurnWritten
+pub mod Candidates

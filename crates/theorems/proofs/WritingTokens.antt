@@ -8,13 +8,13 @@ use Prim.Native.Nat.{ℕ, zero, suc, _+_, _-_, _*_, _/_, _%_, _≤_, _<_}
 use native.Mathlib.Nat.{div-add-mod, mod-lt}
 use native.Mathlib.Omega.{arith}
 use lib.Dec.{T, eqb, ltb, leb, leb→le, eqb→eq, lit<}
-use lib.ListN.{length, getD, length-append}
+use lib.ListN.{length, length-append}
 use mir.Facts.{and-yes}
 use borrow.Author.Tests.{lt-ltb, eq-eqb, ne-eqb}
 use Rattle.laws.specs.Lists.{all, below, gather}
 use Rattle.laws.proofs.Every.{Every, more as every-cons, every-all, every-below-at}
 use Rattle.language.specs.Bytes.{Class, classOf, nameByte, digitByte, quoteByte, backslash, letterX, digitZero, lineFeed, minus}
-use Rattle.language.specs.Words.{words, wordOf, wordCount}
+use Rattle.language.specs.Words.{words, wordOf, wordCount, spellingOf}
 use Rattle.language.specs.Names.{Spelling, spell, nextSpelled, firstSpelled, insideQuotes, whole, spelled}
 use Rattle.language.specs.Programs.{maxName}
 use Rattle.language.specs.Listing.{digits}
@@ -332,7 +332,7 @@ plainly-is Spelling.wrong h = absurd h
 
 -- every word is spelled like a plain name, and is itself
 word-test : ℕ → Bool
-word-test w = let n = getD words w [] in plainly (foldl spell Spelling.none n) && leb (length n) maxName && eqb (wordOf n) w
+word-test w = let n = spellingOf w in plainly (foldl spell Spelling.none n) && leb (length n) maxName && eqb (wordOf n) w
 
 words-tested : T (all word-test (below wordCount))
 unfolding word-test plainly words wordOf classOf
@@ -351,10 +351,10 @@ module _ (c : ℕ) (space : classOf c ≡ Class.space) (us : List Token) (x : Le
       name-ends c space (foldl lexMore x n)
       (subst (λ (s : Spelling). Stands s n us (foldl lexMore x n)) e (spells-all n us x k h (rw e tt) (plain-is-none _ e)))
 
-  word-then : (w : ℕ) → w < wordCount → Between (us ++ (Token.word w ∷ [])) (lexMore (foldl lexMore x (getD words w [])) c)
+  word-then : (w : ℕ) → w < wordCount → Between (us ++ (Token.word w ∷ [])) (lexMore (foldl lexMore x (spellingOf w)) c)
   unfolding word-test nameOrWord
   word-then w h =
-      let n = getD words w [] in
+      let n = spellingOf w in
       let s = foldl spell Spelling.none n in
       let t : T (word-test w) = every-below-at wordCount (every-all word-test (below wordCount) words-tested) w h in
       let p = and-yes (plainly s && leb (length n) maxName) (eqb (wordOf n) w) t in

@@ -9,3 +9,4 @@ pub mod Values
 pub mod NeverStuck
 pub mod Predecessors
 pub mod RoundTrip
+pub mod Candidates

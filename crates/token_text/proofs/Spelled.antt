@@ -5,7 +5,7 @@ use mathlib.Core.Path.{_≡_, refl, sym, ap, _∙_}
 use Prim.Native.Nat.{ℕ, _+_, _≤_, _<_}
 use native.Mathlib.Omega.{arith}
 use lib.Dec.{leb, leb→le}
-use lib.ListN.{length, getD, take, replicate}
+use lib.ListN.{length, take, replicate}
 use lib.IntN.{ℤ, pos, negsuc}
 use borrow.Author.Tests.{ne-eqb}
 use Rattle.laws.specs.Lists.{same}
@@ -19,7 +19,7 @@ use Rattle.language.specs.Instructions.{void}
 use Rattle.language.specs.Listing.{digits}
 use Rattle.language.specs.MadeNames.{madeName}
 use Rattle.language.specs.Tokens.{Token}
-use Rattle.language.specs.Words.{words, wordCount}
+use Rattle.language.specs.Words.{words, wordCount, spellingOf}
 use Rattle.language.specs.Writing.{spaceByte, bytesFor, typeToken, resultToken, meantToken, numberToken}
 use Rattle.decimal.specs.declared.ranges.Meant.{Meant}
 use Rattle.decimal.specs.Meanings.{meantBy}
@@ -44,7 +44,7 @@ module _ {n : ℕ} {l : List ℕ} (w : ℕ) (h : w < wordCount) (count : n ≡ l
   unfolding bytesFor words letterCount lettersOf
   word-letters =
       rw (count, letters)
-      (same-eq (take (letterCount w + 1) (lettersOf w)) (getD words w [] ++ (spaceByte ∷ []))
+      (same-eq (take (letterCount w + 1) (lettersOf w)) (spellingOf w ++ (spaceByte ∷ []))
       (all-at (λ n. same (take (length n + 1) (take 10 (n ++ replicate 10 spaceByte))) (n ++ (spaceByte ∷ []))) words w [] tt h)
       ∙ spaced-one (Token.word w))
 

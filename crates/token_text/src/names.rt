@@ -12,6 +12,8 @@ ghost use Rattle.naming.specs.Numbered.{RegistersNumbered, BlocksNumbered};
 ghost use Rattle.page.specs.Page.{page, puts};
 ghost use Rattle.token_text.specs.Spaced.{spaced};
 use crate::digits::put_spaced_digits;
+use crate::word_tokens::put_word;
+use instructions::words;
 use page::put_part;
 use table::block_name;
 use table::function_entry;
@@ -57,7 +59,7 @@ pub fn put_block(t: &[u8], a: usize, made: &[u16], b: usize, out: &mut [u8], at:
         return put_name(name, out, at);
     }
     if b == function_entry(t, a) {
-        return put_part(out, at, b"entry ");
+        return put_word(words::ENTRY, out, at);
     }
     put_made(b"e.", made[b], out, at)
 }

@@ -9,7 +9,7 @@ ghost use Rattle.language.specs.Words.{wordCount};
 ghost use Rattle.page.specs.Page.{page, puts};
 ghost use Rattle.token_text.specs.Spaced.{spaced};
 use instructions::types;
-use instructions::words::FIRST_TYPE;
+use instructions::words;
 use page::put_part;
 use vocabulary::letter_count;
 use vocabulary::letters;
@@ -29,7 +29,7 @@ pub fn put_type(kind: u8, out: &mut [u8], at: usize) -> usize
     requires { ⌜ kind < typeCount ⌝ }
     ensures { λ r. ⌜ page (now (out .exit)) r ≡ puts (page (now (out .entry)) at) (spaced (typeToken kind ∷ [])) ⌝ }
 {
-    put_word(FIRST_TYPE + kind, out, at)
+    put_word(words::FIRST_TYPE + kind, out, at)
 }
 
 // The same of a result, which may be `void`.
@@ -38,7 +38,7 @@ pub fn put_result(kind: u8, out: &mut [u8], at: usize) -> usize
     ensures { λ r. ⌜ page (now (out .exit)) r ≡ puts (page (now (out .entry)) at) (spaced (resultToken kind ∷ [])) ⌝ }
 {
     if kind == types::VOID {
-        return put_part(out, at, b"void ");
+        return put_word(words::VOID, out, at);
     }
     put_type(kind, out, at)
 }

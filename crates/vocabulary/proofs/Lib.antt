@@ -1,2 +1,4 @@
 pub mod ByteClasses
-pub mod Keys
+pub mod Packing
+pub mod LetterLaws
+pub mod ChainLaws

@@ -1,3 +1,4 @@
 pub mod Classes
-pub mod Keys
+pub mod Packed
 pub mod Letters
+pub mod Chains

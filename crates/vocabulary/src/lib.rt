@@ -1,4 +1,5 @@
 // What the bytes of a text are: the class of each, and the words, from their letters to their numbers and back.
+mod candidates;
 mod class_table;
 pub mod kinds;
 mod lookup;

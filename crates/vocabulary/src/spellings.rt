@@ -1,68 +1,121 @@
-// Words as letters, by their numbers.
+// The words by their numbers. In the code their letters stand here alone: the look-up and the writer both go by this list.
 ghost use mathlib.Core.Path.{_≡_};
-ghost use Prim.Native.Nat.{_<_};
-ghost use Rattle.language.specs.Words.{wordCount};
-ghost use Rattle.vocabulary.specs.Letters.{lettersOf, letterCount};
+ghost use Prim.Native.Nat.{_<_, _≤_};
+ghost use lib.ListN.{length, drop};
+ghost use Rattle.language.specs.Words.{wordCount, spellingOf};
+ghost use Rattle.language.specs.Candidates.{firstByte};
+ghost use Rattle.vocabulary.specs.Packed.{packed};
+ghost use Rattle.vocabulary.specs.Chains.{shortest, longest};
+ghost use Rattle.vocabulary.specs.Letters.{lettersOf, letterCount, spacesBehind};
+use instructions::words::*;
+use numbers::put_eight;
+
+// How many bytes words have.
+pub const SHORTEST: usize = 3;
+
+pub const LONGEST: usize = 9;
+
+// A word: how many bytes it has, the first of them, and the others as one number, low byte first.
+pub struct Spelling {
+    pub count: usize,
+    pub first: u8,
+    pub rest: usize,
+}
+
+fn spelled(count: usize, first: u8, rest: usize) -> Spelling
+    ensures { λ r. ⌜ (r .count ≡ count) × (r .first ≡ first) × (r .rest ≡ rest) ⌝ }
+{
+    Spelling { count, first, rest }
+}
+
+// Word number w.
+pub fn spelling_of(w: u8) -> Spelling
+    requires { ⌜ w < wordCount ⌝ }
+    ensures { λ r. ⌜ (r .count ≡ length (spellingOf w)) × (r .first ≡ firstByte (spellingOf w)) × (r .rest ≡ packed (drop 1 (spellingOf w))) ⌝ }
+{
+    match w {
+        FUNCTION => spelled(8, b'f', 0x6e6f6974636e75),
+        SSA => spelled(3, b's', 0x6173),
+        VOID => spelled(4, b'v', 0x64696f),
+        REGISTER => spelled(8, b'r', 0x72657473696765),
+        BLOCK => spelled(5, b'b', 0x6b636f6c),
+        ENTRY => spelled(5, b'e', 0x7972746e),
+        INT8 => spelled(4, b'i', 0x38746e),
+        INT16 => spelled(5, b'i', 0x3631746e),
+        INT32 => spelled(5, b'i', 0x3233746e),
+        INT64 => spelled(5, b'i', 0x3436746e),
+        UINT8 => spelled(5, b'u', 0x38746e69),
+        UINT16 => spelled(6, b'u', 0x3631746e69),
+        UINT32 => spelled(6, b'u', 0x3233746e69),
+        UINT64 => spelled(6, b'u', 0x3436746e69),
+        INT => spelled(3, b'i', 0x746e),
+        UINT => spelled(4, b'u', 0x746e69),
+        NOP => spelled(3, b'n', 0x706f),
+        LOAD_I8 => spelled(7, b'l', 0x38692e64616f),
+        LOAD_UI8 => spelled(8, b'l', 0x3869752e64616f),
+        LOAD_I16 => spelled(8, b'l', 0x3631692e64616f),
+        LOAD_UI16 => spelled(9, b'l', 0x363169752e64616f),
+        LOAD_I32 => spelled(8, b'l', 0x3233692e64616f),
+        LOAD_UI32 => spelled(9, b'l', 0x323369752e64616f),
+        LOAD_I64 => spelled(8, b'l', 0x3436692e64616f),
+        LOAD_UI64 => spelled(9, b'l', 0x343669752e64616f),
+        ARI_ADD => spelled(7, b'a', 0x6464612e6972),
+        ARI_SUB => spelled(7, b'a', 0x6275732e6972),
+        ARI_MUL => spelled(7, b'a', 0x6c756d2e6972),
+        ARI_DIV => spelled(7, b'a', 0x7669642e6972),
+        ARI_REM => spelled(7, b'a', 0x6d65722e6972),
+        ARI_NEG => spelled(7, b'a', 0x67656e2e6972),
+        BIT_AND => spelled(7, b'b', 0x646e612e7469),
+        BIT_OR => spelled(6, b'b', 0x726f2e7469),
+        BIT_XOR => spelled(7, b'b', 0x726f782e7469),
+        BIT_NEG => spelled(7, b'b', 0x67656e2e7469),
+        SHL => spelled(3, b's', 0x6c68),
+        SHR => spelled(3, b's', 0x7268),
+        ROL => spelled(3, b'r', 0x6c6f),
+        ROR => spelled(3, b'r', 0x726f),
+        CMP_EQ => spelled(6, b'c', 0x71652e706d),
+        CMP_NEQ => spelled(7, b'c', 0x71656e2e706d),
+        CMP_GT => spelled(6, b'c', 0x74672e706d),
+        CMP_LT => spelled(6, b'c', 0x746c2e706d),
+        CMP_GTEQ => spelled(8, b'c', 0x716574672e706d),
+        CMP_LTEQ => spelled(8, b'c', 0x7165746c2e706d),
+        CONV => spelled(4, b'c', 0x766e6f),
+        COPY => spelled(4, b'c', 0x79706f),
+        PHI => spelled(3, b'p', 0x6968),
+        JUMP => spelled(4, b'j', 0x706d75),
+        JUMP_COND => spelled(9, b'j', 0x646e6f632e706d75),
+        RETURN => spelled(6, b'r', 0x6e72757465),
+        _ => spelled(5, b'l', 0x65766165), // leave
+    }
+}
+
+// Spaces behind a word of `count` bytes up to the ninth, as they are added to its bytes after the first.
+fn spaces_behind(count: usize) -> usize
+    requires { ⌜ (shortest ≤ count) × (count ≤ longest) ⌝ }
+    ensures { λ r. ⌜ r ≡ spacesBehind count ⌝ }
+{
+    match count {
+        3 => 0x2020202020200000,
+        4 => 0x2020202020000000,
+        5 => 0x2020202000000000,
+        6 => 0x2020200000000000,
+        7 => 0x2020000000000000,
+        8 => 0x2000000000000000,
+        _ => 0,
+    }
+}
 
 // The bytes of word number w, with spaces to ten.
 pub fn letters(w: u8) -> [u8; 10]
     requires { ⌜ w < wordCount ⌝ }
     ensures { λ r. ⌜ r ≡ lettersOf w ⌝ }
 {
-    match w {
-        0 => [b'f', b'u', b'n', b'c', b't', b'i', b'o', b'n', b' ', b' '],
-        1 => [b's', b's', b'a', b' ', b' ', b' ', b' ', b' ', b' ', b' '],
-        2 => [b'v', b'o', b'i', b'd', b' ', b' ', b' ', b' ', b' ', b' '],
-        3 => [b'r', b'e', b'g', b'i', b's', b't', b'e', b'r', b' ', b' '],
-        4 => [b'b', b'l', b'o', b'c', b'k', b' ', b' ', b' ', b' ', b' '],
-        5 => [b'e', b'n', b't', b'r', b'y', b' ', b' ', b' ', b' ', b' '],
-        6 => [b'i', b'n', b't', b'8', b' ', b' ', b' ', b' ', b' ', b' '],
-        7 => [b'i', b'n', b't', b'1', b'6', b' ', b' ', b' ', b' ', b' '],
-        8 => [b'i', b'n', b't', b'3', b'2', b' ', b' ', b' ', b' ', b' '],
-        9 => [b'i', b'n', b't', b'6', b'4', b' ', b' ', b' ', b' ', b' '],
-        10 => [b'u', b'i', b'n', b't', b'8', b' ', b' ', b' ', b' ', b' '],
-        11 => [b'u', b'i', b'n', b't', b'1', b'6', b' ', b' ', b' ', b' '],
-        12 => [b'u', b'i', b'n', b't', b'3', b'2', b' ', b' ', b' ', b' '],
-        13 => [b'u', b'i', b'n', b't', b'6', b'4', b' ', b' ', b' ', b' '],
-        14 => [b'i', b'n', b't', b' ', b' ', b' ', b' ', b' ', b' ', b' '],
-        15 => [b'u', b'i', b'n', b't', b' ', b' ', b' ', b' ', b' ', b' '],
-        16 => [b'n', b'o', b'p', b' ', b' ', b' ', b' ', b' ', b' ', b' '],
-        17 => [b'l', b'o', b'a', b'd', b'.', b'i', b'8', b' ', b' ', b' '],
-        18 => [b'l', b'o', b'a', b'd', b'.', b'u', b'i', b'8', b' ', b' '],
-        19 => [b'l', b'o', b'a', b'd', b'.', b'i', b'1', b'6', b' ', b' '],
-        20 => [b'l', b'o', b'a', b'd', b'.', b'u', b'i', b'1', b'6', b' '],
-        21 => [b'l', b'o', b'a', b'd', b'.', b'i', b'3', b'2', b' ', b' '],
-        22 => [b'l', b'o', b'a', b'd', b'.', b'u', b'i', b'3', b'2', b' '],
-        23 => [b'l', b'o', b'a', b'd', b'.', b'i', b'6', b'4', b' ', b' '],
-        24 => [b'l', b'o', b'a', b'd', b'.', b'u', b'i', b'6', b'4', b' '],
-        25 => [b'a', b'r', b'i', b'.', b'a', b'd', b'd', b' ', b' ', b' '],
-        26 => [b'a', b'r', b'i', b'.', b's', b'u', b'b', b' ', b' ', b' '],
-        27 => [b'a', b'r', b'i', b'.', b'm', b'u', b'l', b' ', b' ', b' '],
-        28 => [b'a', b'r', b'i', b'.', b'd', b'i', b'v', b' ', b' ', b' '],
-        29 => [b'a', b'r', b'i', b'.', b'r', b'e', b'm', b' ', b' ', b' '],
-        30 => [b'a', b'r', b'i', b'.', b'n', b'e', b'g', b' ', b' ', b' '],
-        31 => [b'b', b'i', b't', b'.', b'a', b'n', b'd', b' ', b' ', b' '],
-        32 => [b'b', b'i', b't', b'.', b'o', b'r', b' ', b' ', b' ', b' '],
-        33 => [b'b', b'i', b't', b'.', b'x', b'o', b'r', b' ', b' ', b' '],
-        34 => [b'b', b'i', b't', b'.', b'n', b'e', b'g', b' ', b' ', b' '],
-        35 => [b's', b'h', b'l', b' ', b' ', b' ', b' ', b' ', b' ', b' '],
-        36 => [b's', b'h', b'r', b' ', b' ', b' ', b' ', b' ', b' ', b' '],
-        37 => [b'r', b'o', b'l', b' ', b' ', b' ', b' ', b' ', b' ', b' '],
-        38 => [b'r', b'o', b'r', b' ', b' ', b' ', b' ', b' ', b' ', b' '],
-        39 => [b'c', b'm', b'p', b'.', b'e', b'q', b' ', b' ', b' ', b' '],
-        40 => [b'c', b'm', b'p', b'.', b'n', b'e', b'q', b' ', b' ', b' '],
-        41 => [b'c', b'm', b'p', b'.', b'g', b't', b' ', b' ', b' ', b' '],
-        42 => [b'c', b'm', b'p', b'.', b'l', b't', b' ', b' ', b' ', b' '],
-        43 => [b'c', b'm', b'p', b'.', b'g', b't', b'e', b'q', b' ', b' '],
-        44 => [b'c', b'm', b'p', b'.', b'l', b't', b'e', b'q', b' ', b' '],
-        45 => [b'c', b'o', b'n', b'v', b' ', b' ', b' ', b' ', b' ', b' '],
-        46 => [b'c', b'o', b'p', b'y', b' ', b' ', b' ', b' ', b' ', b' '],
-        47 => [b'p', b'h', b'i', b' ', b' ', b' ', b' ', b' ', b' ', b' '],
-        48 => [b'j', b'u', b'm', b'p', b' ', b' ', b' ', b' ', b' ', b' '],
-        49 => [b'j', b'u', b'm', b'p', b'.', b'c', b'o', b'n', b'd', b' '],
-        50 => [b'r', b'e', b't', b'u', b'r', b'n', b' ', b' ', b' ', b' '],
-        _ => [b'l', b'e', b'a', b'v', b'e', b' ', b' ', b' ', b' ', b' '],
-    }
+    let s = spelling_of(w);
+    let rest = s.rest + spaces_behind(s.count);
+    let mut bytes = [b' '; 10];
+    bytes[0] = s.first;
+    put_eight(&mut bytes, 1, rest as u64);
+    bytes
 }
 
 // How many of them are the word.
@@ -70,58 +123,6 @@ pub fn letter_count(w: u8) -> usize
     requires { ⌜ w < wordCount ⌝ }
     ensures { λ r. ⌜ r ≡ letterCount w ⌝ }
 {
-    match w {
-        0 => 8, // function
-        1 => 3, // ssa
-        2 => 4, // void
-        3 => 8, // register
-        4 => 5, // block
-        5 => 5, // entry
-        6 => 4, // int8
-        7 => 5, // int16
-        8 => 5, // int32
-        9 => 5, // int64
-        10 => 5, // uint8
-        11 => 6, // uint16
-        12 => 6, // uint32
-        13 => 6, // uint64
-        14 => 3, // int
-        15 => 4, // uint
-        16 => 3, // nop
-        17 => 7, // load.i8
-        18 => 8, // load.ui8
-        19 => 8, // load.i16
-        20 => 9, // load.ui16
-        21 => 8, // load.i32
-        22 => 9, // load.ui32
-        23 => 8, // load.i64
-        24 => 9, // load.ui64
-        25 => 7, // ari.add
-        26 => 7, // ari.sub
-        27 => 7, // ari.mul
-        28 => 7, // ari.div
-        29 => 7, // ari.rem
-        30 => 7, // ari.neg
-        31 => 7, // bit.and
-        32 => 6, // bit.or
-        33 => 7, // bit.xor
-        34 => 7, // bit.neg
-        35 => 3, // shl
-        36 => 3, // shr
-        37 => 3, // rol
-        38 => 3, // ror
-        39 => 6, // cmp.eq
-        40 => 7, // cmp.neq
-        41 => 6, // cmp.gt
-        42 => 6, // cmp.lt
-        43 => 8, // cmp.gteq
-        44 => 8, // cmp.lteq
-        45 => 4, // conv
-        46 => 4, // copy
-        47 => 3, // phi
-        48 => 4, // jump
-        49 => 9, // jump.cond
-        50 => 6, // return
-        _ => 5, // leave
-    }
+    let s = spelling_of(w);
+    s.count
 }

@@ -16,19 +16,18 @@ returns c =
     let result = name .before .before .before .before .before in
     let mark = result .before .before .before .before .before in
     let word = mark .before .before .before .before in
-    let s = word .before .before .before .before .before .before in
-    puts-then _ _ _ (word .put-part .ensures)
+    let s = word .before .before .before .before .before in
+    puts-then _ _ _ (word .put-word .ensures)
     (puts-then _ _ _ (mark .put-mark .ensures)
     (puts-then _ _ _ (result .put-result .ensures)
     (puts-then _ _ _ (name .put-name .ensures)
-    (puts-then _ _ _ (open-paren .put-part2 .ensures) (puts-then _ _ _ (parameters .put-parameters .ensures) (last .put-part3 .ensures))))))
+    (puts-then _ _ _ (open-paren .put-part .ensures) (puts-then _ _ _ (parameters .put-parameters .ensures) (last .put-part2 .ensures))))))
     ∙ ap (puts _) (head-by-cells (s .args .t .now) (s .args .a) (result .before .before .function-result .ensures) (name .before .before .function-name .ensures))
 
 pub put-head-spec : {M : Type 1} → statement M
 put-head-spec =
     tie.close
     (tie.spec
-    (λ c. search needs)
     (λ c κs. search needs)
     (λ c κs. search needs)
     (λ c κs. search needs)

@@ -8,9 +8,9 @@ use Rattle.head_text.proofs.put_mark.Tie as tie
 
 there : tie.Need-returns
 there c =
-    let test = c .before .before .before .before .before in
+    let test = c .before .before .before .before in
     let s = test .before .before .before .before in
-    c .before .before .put-part .ensures ∙ ap (puts _) (mark-there (s .args .t .now) (s .args .a) (test .before .function-ssa .ensures) (test .if1 .taken))
+    c .before .before .put-word .ensures ∙ ap (puts _) (mark-there (s .args .t .now) (s .args .a) (test .before .function-ssa .ensures) (test .if1 .taken))
 
 none : tie.Need-returns-2
 unfolding puts
@@ -23,7 +23,6 @@ put-mark-spec =
     tie.close
     (tie.spec
     (λ c κs. search needs)
-    (λ c. search needs)
     (λ c κs. search needs)
     (λ c. search needs)
     there

@@ -5,8 +5,7 @@ use Prim.Native.Nat.{ℕ}
 use borrow.Author.Needs.{needs}
 use lib.ListN.{length}
 use Rattle.language.specs.Tokens.{Token}
-use Rattle.language.specs.Words.{words}
-use Rattle.language.specs.Writing.{bytesFor, blockToken}
+use Rattle.language.specs.Writing.{blockToken}
 use Rattle.page.specs.Page.{puts}
 use Rattle.token_text.specs.Spaced.{spaced}
 use Rattle.token_text.proofs.NamesLaws.{named-token, block-given, block-entry, block-made}
@@ -23,13 +22,12 @@ returns c =
     (name ∙ block-given (s .args .t .now) (s .args .a) (s .args .made .now) (s .args .b) (s .pre .1 .1) (s .pre .1 .0) (λ e. c .before .before .before .before .if1 .taken (ap length name ∙ e))))
 
 returns-2 : tie.Need-returns-2
-unfolding bytesFor words
 returns-2 c =
-    let s = c .before .before .before .before .before .before .before .before .before .before .before .before in
-    let name = c .before .before .before .before .before .before .before .before .block-name .ensures in
-    c .before .before .put-part .ensures
+    let s = c .before .before .before .before .before .before .before .before .before .before .before in
+    let name = c .before .before .before .before .before .before .before .block-name .ensures in
+    c .before .before .put-word .ensures
     ∙ ap (puts _) (ap (λ (n : List ℕ). spaced (blockToken n ∷ []))
-    (block-entry (s .args .t .now) (s .args .a) (s .args .made .now) (s .args .b) (s .pre .1 .1) (s .pre .1 .0) (ap length (sym name) ∙ c .before .before .before .before .before .before .before .if1 .left) (c .before .before .before .before .before .if2 .taken ∙ c .before .before .before .before .before .before .function-entry .ensures .0)))
+    (block-entry (s .args .t .now) (s .args .a) (s .args .made .now) (s .args .b) (s .pre .1 .1) (s .pre .1 .0) (ap length (sym name) ∙ c .before .before .before .before .before .before .if1 .left) (c .before .before .before .before .if2 .taken ∙ c .before .before .before .before .before .function-entry .ensures .0)))
 
 returns-3 : tie.Need-returns-3
 returns-3 c =
@@ -48,7 +46,6 @@ put-block-spec =
     (λ c. search needs)
     returns
     (λ c κs. search needs)
-    (λ c. search needs)
     (λ c κs. search needs)
     (λ c. search needs)
     returns-2
