@@ -18,6 +18,7 @@ use Rattle.language.specs.Programs.{Row, namedBy, opOf, formIn, maxRows, maxEnt
 use Rattle.language.specs.Table.{rowCells, twoBytes, eightBytes, rowLength, rowsLength, rowsOffset}
 use Rattle.language.specs.Reading.{Draft, Parts, Mention, OpenRow, OpenBlock, noMention, noParts, draftOf, openRows, phiEntries, entriesIn, mentionsIn, rowAs, rowOf}
 use Rattle.language.proofs.FormLaws.{by-form}
+use Rattle.language.proofs.TableLaws.{eight-of-one, eight-of-ones}
 use Rattle.theorems.proofs.TableParts.{length-row}
 use Rattle.drafts.specs.Mentions.{maxNames, nameNumber, mentionsOf, kept}
 use Rattle.drafts.specs.Cells.{WithinSizes, Stores, inForm, openForm, numberedRow, numberedRows, mentionCell, cellsAs, instructionCells, openHead, openRegisters, openBlocks, openRowCells, openEntries}
@@ -33,7 +34,7 @@ written d =
 
 -- ---- the cells of a row
 
--- two numbers of two bytes, or of one, as one of eight
+-- two numbers of two bytes as one of eight
 eight-of-twos : (x y : ℕ) → x < 65536 → y < 65536 → eightBytes (x + 65536 * y) ≡ twoBytes x ++ (twoBytes y ++ replicate 4 0)
 eight-of-twos x y h k =
     let n : ℕ = x + 65536 * y in
@@ -43,21 +44,6 @@ eight-of-twos x y h k =
     let b : (x / 256 + 256 * y) % 256 ≡ x / 256 % 256 = omega arith in
     let e : n / 4294967296 ≡ 0 = omega arith in
     rw (e, p, q, a, b)
-
-eight-of-ones : (x y : ℕ) → x < 256 → y < 256 → eightBytes (x + 256 * y) ≡ x ∷ y ∷ replicate 6 0
-eight-of-ones x y h k =
-    let n : ℕ = x + 256 * y in
-    let a : n % 256 ≡ x = omega arith in
-    let q : n / 256 ≡ y = omega arith in
-    let b : y % 256 ≡ y = omega arith in
-    let p : n / 65536 ≡ 0 = omega arith in
-    let e : n / 4294967296 ≡ 0 = omega arith in
-    rw (e, p, q, a, b)
-
-eight-of-one : (x : ℕ) → x < 256 → eightBytes x ≡ x ∷ replicate 7 0
-eight-of-one x h =
-    let e : x ≡ x + 256 * 0 = omega arith in
-    ap (λ n. eightBytes n) e ∙ eight-of-ones x 0 h (omega arith)
 
 module _ (ks : List Mention) (x : Parts) where
   -- a row has the number of its instruction, and its form

@@ -2,7 +2,7 @@
 -- Assumes nothing.
 use mathlib.Core.Path.{_≡_, refl, ap, ap₂, _∙_}
 use mathlib.Core.List.{List, [], _∷_, _++_}
-use Prim.Native.Nat.{ℕ, suc, _+_, _-_, _≤_}
+use Prim.Native.Nat.{ℕ, suc, _+_, _-_, _*_, _/_, _%_, _≤_, _<_}
 use native.Mathlib.Nat.{zero-lt-suc}
 use native.Mathlib.Omega.{arith}
 use lib.ListN.{length, getD, replicate, length-append}
@@ -10,7 +10,7 @@ use Rattle.laws.specs.Sections.{At, pad}
 use Rattle.laws.proofs.Sections.{at-right, at-cell, at-part, at-pad, length-pad}
 use Rattle.language.specs.Answers.{zeros}
 use Rattle.language.specs.Programs.{Register}
-use Rattle.language.specs.Table.{nameAt, listAt, BlockRecord, nameCells, registerCells, predecessorCells, blockCells, blockLength, nameLength, predecessorsLength, registerLength}
+use Rattle.language.specs.Table.{eightBytes, nameAt, listAt, BlockRecord, nameCells, registerCells, predecessorCells, blockCells, blockLength, nameLength, predecessorsLength, registerLength}
 
 -- ---- lengths
 
@@ -79,3 +79,20 @@ module _ {t : List ℕ} where
 pub zeros-made : (n : ℕ) → replicate n 0 ≡ zeros n
 unfolding zeros
 zeros-made n = refl
+
+-- ---- small numbers in eight cells
+
+pub eight-of-ones : (x y : ℕ) → x < 256 → y < 256 → eightBytes (x + 256 * y) ≡ x ∷ y ∷ replicate 6 0
+eight-of-ones x y h k =
+    let n : ℕ = x + 256 * y in
+    let a : n % 256 ≡ x = omega arith in
+    let q : n / 256 ≡ y = omega arith in
+    let b : y % 256 ≡ y = omega arith in
+    let p : n / 65536 ≡ 0 = omega arith in
+    let e : n / 4294967296 ≡ 0 = omega arith in
+    rw (e, p, q, a, b)
+
+pub eight-of-one : (x : ℕ) → x < 256 → eightBytes x ≡ x ∷ replicate 7 0
+eight-of-one x h =
+    let e : x ≡ x + 256 * 0 = omega arith in
+    ap (λ n. eightBytes n) e ∙ eight-of-ones x 0 h (omega arith)

@@ -158,6 +158,10 @@ module _ {A : Type 0} (t : A → Bool) where
   kept-every none = refl
   kept-every (more {x = x} {xs = xs} p h) = ap (λ (b : Bool). cond b (x ∷ keep t xs) (keep t xs)) p ∙ kept-every h
 
+-- a test that every number below n passes
+pub all-below-at : (t : ℕ → Bool) (n : ℕ) → T (all t (below n)) → (i : ℕ) → i < n → T (t i)
+all-below-at t n h i l = every-below-at n (every-all t (below n) h) i l
+
 -- every number is below n
 pub every-under : (n : ℕ) (xs : List ℕ) → T (all (λ x. ltb x n) xs) → Every (λ x. x < n) xs
 every-under n xs h = every-imp (λ x. ltb→lt x n) (every-all (λ x. ltb x n) xs h)

@@ -10,7 +10,7 @@ use lib.ListN.{length, getD}
 use borrow.Author.Tests.{eq-eqb}
 use Rattle.laws.specs.Lists.{all, same, below}
 use Rattle.laws.proofs.Tests.{of-true}
-use Rattle.laws.proofs.Every.{Every, none, more, every-keep, every-below, every-below-at, every-all, every-found, member-below, member-keep}
+use Rattle.laws.proofs.Every.{Every, none, more, every-keep, every-below, all-below-at, every-found, member-below, member-keep}
 use Rattle.laws.proofs.Keep.{keep-twice}
 use Rattle.laws.proofs.Positions.{position-of, first-kept, same-eq}
 use Rattle.language.specs.Words.{words, wordOf, wordCount, spellingOf}
@@ -42,7 +42,7 @@ of-each t z h l b = by (candidates l b) refl (every-such l b)
     by : (ws : List ℕ) → candidates l b ≡ ws → Every (Such l b) ws → T (t ws)
     by [] e none = z
     by (w ∷ ws) e (more s ss) =
-        let here : T (t (alike w)) = every-below-at wordCount (every-all (λ w. t (alike w)) (below wordCount) h) w (s .word) in
+        let here : T (t (alike w)) = all-below-at (λ w. t (alike w)) wordCount h w (s .word) in
         rw (s .long, s .first, e) at here
 
 pub all-such : AllSuch

@@ -31,7 +31,7 @@ use Rattle.translator.proofs.Filling.{filled-all}
 use Rattle.translator.proofs.Items.{copies-in, copies-out, jumps-on, phi-within, target-is, entry-is, entry-within, new-within}
 use Rattle.translator.proofs.KeptLaws.{length-built, bare-stored, one-row, one-block}
 use Rattle.translator.proofs.RegistersLaws.{target-laid, new-next, new-most}
-use Rattle.translator.proofs.Renaming.{eight-of-one}
+use Rattle.language.proofs.TableLaws.{eight-of-one}
 use Rattle.translator.proofs.SizesLaws.{phis-here, pairs-here}
 
 -- a pair is one of a block with phi

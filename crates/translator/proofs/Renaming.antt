@@ -2,11 +2,11 @@
 -- Assumes nothing.
 use mathlib.Core.Path.{_≡_, refl, ap, _∙_}
 use mathlib.Core.Bool.{true, false, true≢false}
-use mathlib.Core.List.{List, _∷_}
-use Prim.Native.Nat.{ℕ, _+_, _*_, _/_, _%_, _≤_, _<_}
+use mathlib.Core.List.{List}
+use Prim.Native.Nat.{ℕ, _+_, _≤_, _<_}
 use native.Mathlib.Omega.{arith}
 use lib.Dec.{eqb, ltb, lit<, ltb→lt}
-use lib.ListN.{length, getD, replicate}
+use lib.ListN.{length, getD}
 use borrow.Author.Tests.{eq-eqb}
 use Rattle.laws.specs.Lists.{position}
 use Rattle.laws.specs.Sections.{pad}
@@ -14,9 +14,10 @@ use Rattle.laws.proofs.Indexing.{any-at, all-at}
 use Rattle.language.specs.Instructions.{Form, formOf}
 use Rattle.language.specs.Programs.{Row, Func, rowsAt, isPhi, isTerminator, namedBy, opOf}
 use Rattle.language.specs.Checking.{goesTo, lastRow}
-use Rattle.language.specs.Table.{eightBytes, rowCells, rowOp, jumpFirst, jumpSecond, blockCount, storedPredecessors, decodeAs, decodeFunction}
+use Rattle.language.specs.Table.{rowCells, rowOp, jumpFirst, jumpSecond, blockCount, storedPredecessors, decodeAs, decodeFunction}
 use Rattle.language.specs.Translating.{edgeOf, retargeted, retarget, translation}
 use Rattle.instructions.specs.Shapes.{shapeOf}
+use Rattle.language.proofs.TableLaws.{eight-of-one, eight-of-ones}
 use Rattle.language.proofs.TableView.{block-count, stored-is}
 use Rattle.theorems.specs.Clean.{Clean}
 use Rattle.theorems.proofs.SimulationRows.{rowOf, in-range, last-row, named-known}
@@ -28,23 +29,6 @@ use Rattle.flow.specs.Sized.{Sized}
 use Rattle.translator.specs.Source.{Planned, Nameable, renamedAs, keptOperand, keptCells}
 use Rattle.translator.proofs.Counting.{by-count}
 use Rattle.translator.proofs.SizesLaws.{phis-here}
-
--- ---- a small number in eight cells
-
-pub eight-of-two : (u v : ℕ) → u < 256 → v < 256 → eightBytes (u + 256 * v) ≡ u ∷ v ∷ replicate 6 0
-eight-of-two u v h k =
-    let n : ℕ = u + 256 * v in
-    let a : n % 256 ≡ u = omega arith in
-    let b : n / 256 ≡ v = omega arith in
-    let d : v % 256 ≡ v = omega arith in
-    let e : n / 65536 ≡ 0 = omega arith in
-    let g : n / 4294967296 ≡ 0 = omega arith in
-    rw (a, b, d, e, g)
-
-pub eight-of-one : (u : ℕ) → u < 256 → eightBytes u ≡ u ∷ replicate 7 0
-eight-of-one u h =
-    let e : u ≡ u + 256 * 0 = omega arith in
-    ap (λ n. eightBytes n) e ∙ eight-of-two u 0 h (lit< tt)
 
 -- ---- the blocks a row names
 
@@ -114,7 +98,7 @@ module _ (t : List ℕ) (a : ℕ) (m plan : List ℕ) (x r : ℕ) where
   cells-as Form.phi e o n k = absurd (true≢false n)
   cells-as Form.jump e o n k = rw (e, ← o, k .is, eight-of-one (retargeted (decodeFunction t a) x (jumpFirst t a r)) (k .byte))
   cells-as Form.branch e o n k =
-      rw (e, ← o, k .0 .is, k .1 .is, eight-of-two (retargeted (decodeFunction t a) x (jumpFirst t a r)) (retargeted (decodeFunction t a) x (jumpSecond t a r)) (k .0 .byte) (k .1 .byte))
+      rw (e, ← o, k .0 .is, k .1 .is, eight-of-ones (retargeted (decodeFunction t a) x (jumpFirst t a r)) (retargeted (decodeFunction t a) x (jumpSecond t a r)) (k .0 .byte) (k .1 .byte))
   cells-as Form.return e o n k = rw (e, ← o)
   cells-as Form.leave e o n k = rw (e, ← o)
   cells-as Form.unknown e o n k = rw e

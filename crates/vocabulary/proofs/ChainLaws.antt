@@ -1,5 +1,5 @@
 -- From one candidate to the next, and what is found among them. What is computed is computed over the word list once. Assumes nothing.
-use mathlib.Core.Bool.{Bool, true, false, _||_, true≢false}
+use mathlib.Core.Bool.{true, false, _||_, true≢false}
 use mathlib.Core.Logic.{_⊎_, inl, inr}
 use mathlib.Core.Path.{_≡_, refl, sym, ap, _∙_}
 use mathlib.Core.List.{List, [], _∷_, map}
@@ -13,7 +13,7 @@ use borrow.Author.Tests.{eq-eqb, ne-eqb}
 use Rattle.laws.specs.Lists.{any, all, keep, member, same, below}
 use Rattle.laws.specs.Sections.{Bytes}
 use Rattle.laws.proofs.Agreeing.{keep-every}
-use Rattle.laws.proofs.Every.{Every, none, more, every-all, every-below-at, every-imp}
+use Rattle.laws.proofs.Every.{Every, none, more, all-below-at, every-imp}
 use Rattle.laws.proofs.Indexing.{all-at}
 use Rattle.laws.proofs.Matches.{NoneOf, none-of}
 use Rattle.laws.proofs.Positions.{same-eq}
@@ -27,14 +27,10 @@ use Rattle.vocabulary.specs.Chains.{shortest, longest, lengths, firstCan
 use Rattle.vocabulary.proofs.LetterLaws.{word-length}
 use Rattle.vocabulary.proofs.Packing.{same-packed, packed-at}
 
--- a test that every word passes
-tested : (t : ℕ → Bool) → T (all t (below wordCount)) → (w : ℕ) → w < wordCount → T (t w)
-tested t h w l = every-below-at wordCount (every-all t (below wordCount) h) w l
-
 -- ---- the first
 
 -- where no such word can be, there is no candidate
-pub no-such : (l b : ℕ) → ((w : ℕ) → Such l b w → ⊥) → candidates l b ≡ []
+no-such : (l b : ℕ) → ((w : ℕ) → Such l b w → ⊥) → candidates l b ≡ []
 no-such l b h = by (candidates l b) (every-such l b)
   where
     by : (ws : List ℕ) → Every (Such l b) ws → ws ≡ []
@@ -50,7 +46,7 @@ no-first-of : (ns : List ℕ) → T (all (λ w. member (firstByte (spellingOf w)
 no-first-of ns t b h l =
     no-such l b
     (λ w s.
-    let begins = is-true (member (firstByte (spellingOf w)) ns) (tested (λ w. member (firstByte (spellingOf w)) ns) t w (s .word)) in
+    let begins = is-true (member (firstByte (spellingOf w)) ns) (all-below-at (λ w. member (firstByte (spellingOf w)) ns) wordCount t w (s .word)) in
     true≢false (sym begins ∙ ap (λ x. member x ns) (s .first) ∙ none-of ns b h))
 
 pub no-first : (b : ℕ) → NoneOf firsts b → (l : ℕ) → candidates l b ≡ []
@@ -82,8 +78,8 @@ first-at l b h u =
 pub next-above : (w : ℕ) → w < wordCount → (w < nextAlike w) × (nextAlike w ≤ wordCount)
 unfolding nextAlike candidates words
 next-above w h = (
-  ltb→lt w (nextAlike w) (tested (λ w. ltb w (nextAlike w)) tt w h),
-  leb→le (nextAlike w) wordCount (tested (λ w. leb (nextAlike w) wordCount) tt w h),
+  ltb→lt w (nextAlike w) (all-below-at (λ w. ltb w (nextAlike w)) wordCount tt w h),
+  leb→le (nextAlike w) wordCount (all-below-at (λ w. leb (nextAlike w) wordCount) wordCount tt w h),
 )
 
 -- the words that another one alike comes after
@@ -95,7 +91,7 @@ no-next-of :
     (ns : List ℕ) → T (all (λ w. member w ns || eqb wordCount (nextAlike w)) (below wordCount))
     → (w : ℕ) → w < wordCount → NoneOf ns w → wordCount ≡ nextAlike w
 no-next-of ns t w h n =
-    eqb→eq wordCount (nextAlike w) (rw (none-of ns w n) at (tested (λ w. member w ns || eqb wordCount (nextAlike w)) t w h))
+    eqb→eq wordCount (nextAlike w) (rw (none-of ns w n) at (all-below-at (λ w. member w ns || eqb wordCount (nextAlike w)) wordCount t w h))
 
 pub no-next : (w : ℕ) → w < wordCount → NoneOf followed w → wordCount ≡ nextAlike w
 unfolding followed nextAlike candidates words
@@ -103,7 +99,7 @@ no-next = no-next-of followed tt
 
 pub links : (w : ℕ) → w < wordCount → fromOn w ≡ w ∷ fromOn (nextAlike w)
 unfolding nextAlike fromOn candidates words
-links w h = same-eq (fromOn w) (w ∷ fromOn (nextAlike w)) (tested (λ w. same (fromOn w) (w ∷ fromOn (nextAlike w))) tt w h)
+links w h = same-eq (fromOn w) (w ∷ fromOn (nextAlike w)) (all-below-at (λ w. same (fromOn w) (w ∷ fromOn (nextAlike w))) wordCount tt w h)
 
 pub from-first : (l b : ℕ) → fromOn (firstOf (candidates l b)) ≡ candidates l b
 unfolding fromOn candidates words

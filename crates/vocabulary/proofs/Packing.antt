@@ -1,11 +1,11 @@
 -- Bytes as one number: names of one length that have one number are the same, and a shift takes the first bytes away. Assumes nothing.
 use mathlib.Core.Bool.{_&&_}
-use mathlib.Core.Path.{_≡_, refl, ap}
+use mathlib.Core.Path.{_≡_, refl, sym, ap, _∙_}
 use mathlib.Core.List.{List, [], _∷_}
 use Prim.Native.Nat.{ℕ, zero, suc, _+_, _-_, _*_, _/_, _%_, _^_, _≤_, _<_}
 use native.Mathlib.Decide.{ℕ-discrete}
 use native.Mathlib.Omega.{arith}
-use native.Mathlib.Nat.{zero-div, div-one}
+use native.Mathlib.Nat.{zero-div, div-one, add-zero}
 use lib.Dec.{eqb}
 use lib.ListN.{length, drop, getD, length-drop}
 use lib.Pow.{shr-shr}
@@ -21,7 +21,7 @@ pub bytes-each : (xs : List ℕ) → ((k : ℕ) → getD xs k 0 < 256) → Bytes
 bytes-each [] h = tt
 bytes-each (x ∷ xs) h = (h 0, bytes-each xs (λ k. h (suc k)))
 
-pub bytes-drop : (k : ℕ) (xs : List ℕ) → Bytes xs → Bytes (drop k xs)
+bytes-drop : (k : ℕ) (xs : List ℕ) → Bytes xs → Bytes (drop k xs)
 bytes-drop zero xs h = h
 bytes-drop (suc k) [] h = tt
 bytes-drop (suc k) (x ∷ xs) h = bytes-drop k xs (h .1)
@@ -39,7 +39,7 @@ same-packed (x ∷ xs) (y ∷ ys) l a b = by (ℕ-discrete x y) (same-packed xs 
     by (no e) ih = rw (ne-eqb x y e) (ne-eqb (x + 256 * packed xs) (y + 256 * packed ys) (λ h. e (omega (arith, h, a .0, b .0))))
 
 -- the bytes past the first k
-pub packed-drop : (k : ℕ) (xs : List ℕ) → Bytes xs → packed xs / 2 ^ (8 * k) ≡ packed (drop k xs)
+packed-drop : (k : ℕ) (xs : List ℕ) → Bytes xs → packed xs / 2 ^ (8 * k) ≡ packed (drop k xs)
 packed-drop zero xs h = div-one (packed xs)
 packed-drop (suc k) [] h = zero-div (2 ^ (8 * suc k))
 packed-drop (suc k) (x ∷ xs) h =
@@ -49,13 +49,12 @@ packed-drop (suc k) (x ∷ xs) h =
 
 -- and the first of them
 pub packed-at : (k : ℕ) (xs : List ℕ) → Bytes xs → packed xs / 2 ^ (8 * k) % 256 ≡ getD xs k 0
-packed-at zero [] h = refl
-packed-at zero (x ∷ xs) h = rw (div-one (x + 256 * packed xs)) (omega (arith, h .0))
-packed-at (suc k) [] h = rw (zero-div (2 ^ (8 * suc k)))
-packed-at (suc k) (x ∷ xs) h =
-    let first : (x + 256 * packed xs) / 2 ^ 8 ≡ packed xs = omega (arith, h .0) in
-    let more : 8 * suc k ≡ 8 + 8 * k = omega arith in
-    rw (more, ← shr-shr (x + 256 * packed xs) 8 (8 * k), first) (packed-at k xs (h .1))
+packed-at k xs h =
+    rw (packed-drop k xs h) (first (drop k xs) (bytes-drop k xs h) ∙ getD-drop k xs 0 0 ∙ ap (λ n. getD xs n 0) (add-zero k))
+  where
+    first : (ys : List ℕ) → Bytes ys → packed ys % 256 ≡ getD ys 0 0
+    first [] b = refl
+    first (y ∷ ys) b = omega (arith, b .0)
 
 -- ---- the last bytes of a name
 
@@ -82,36 +81,22 @@ four-drop k xs =
     (ap (λ n. two xs k + 65536 * (getD xs (k + 2) 0 + 256 * getD xs n 0)) (omega arith))
 
 module _ (n : List ℕ) (b : Bytes n) where
-  -- shifted to their place
-  shifted-two : 2 ≤ length n → length n ≤ 4 → two n (length n - 2) / 2 ^ (8 * (4 - length n)) ≡ packed (drop 2 n)
-  shifted-two l u =
-      let k = length n - 2 in
-      let end : length (drop k n) ≡ 2 = simp length-drop (omega arith) in
-      let all : k + (4 - length n) ≡ 2 = omega arith in
-      rw (
-        ← two-drop k n,
-        last-two (drop k n) end,
-        packed-drop (4 - length n) (drop k n) (bytes-drop k n b),
-        drop-drop (4 - length n) k n,
-        all,
-      )
+  -- shifted to their place: of a name of at most k bytes the last w, which stand at its end, become those from k - w on
+  shifted : (w k v : ℕ) → w ≤ length n → length n ≤ k → v ≡ packed (drop (length n - w) n) → v / 2 ^ (8 * (k - length n)) ≡ packed (drop (k - w) n)
+  shifted w k v l u e =
+      let at = length n - w in
+      let all : at + (k - length n) ≡ k - w = omega arith in
+      rw (e, packed-drop (k - length n) (drop at n) (bytes-drop at n b), drop-drop (k - length n) at n, all)
 
-  shifted-four : 4 ≤ length n → length n ≤ 9 → four n (length n - 4) / 2 ^ (8 * (9 - length n)) ≡ packed (drop 5 n)
-  shifted-four l u =
-      let k = length n - 4 in
-      let end : length (drop k n) ≡ 4 = simp length-drop (omega arith) in
-      let all : k + (9 - length n) ≡ 5 = omega arith in
-      rw (
-        ← four-drop k n,
-        last-four (drop k n) end,
-        packed-drop (9 - length n) (drop k n) (bytes-drop k n b),
-        drop-drop (9 - length n) k n,
-        all,
-      )
+  end : (w : ℕ) → w ≤ length n → length (drop (length n - w) n) ≡ w
+  end w l = simp length-drop (omega arith)
 
   pub rest-short :
       3 ≤ length n → length n < 5 → getD n 1 0 + 256 * (two n (length n - 2) / 2 ^ (8 * (4 - length n))) ≡ packed (drop 1 n)
-  rest-short l u = rw (shifted-two (omega arith) (omega arith)) (second n l)
+  rest-short l u =
+      let at = length n - 2 in
+      let last : two n at ≡ packed (drop at n) = sym (two-drop at n) ∙ last-two (drop at n) (end 2 (omega arith)) in
+      rw (shifted 2 4 (two n at) (omega arith) (omega arith) last) (second n l)
     where
       second : (n : List ℕ) → 3 ≤ length n → getD n 1 0 + 256 * packed (drop 2 n) ≡ packed (drop 1 n)
       second [] l = absurd (omega arith)
@@ -120,7 +105,10 @@ module _ (n : List ℕ) (b : Bytes n) where
 
   pub rest-long :
       5 ≤ length n → length n ≤ 9 → four n 1 + 4294967296 * (four n (length n - 4) / 2 ^ (8 * (9 - length n))) ≡ packed (drop 1 n)
-  rest-long l u = rw (shifted-four (omega arith) u) (next-four n l)
+  rest-long l u =
+      let at = length n - 4 in
+      let last : four n at ≡ packed (drop at n) = sym (four-drop at n) ∙ last-four (drop at n) (end 4 (omega arith)) in
+      rw (shifted 4 9 (four n at) (omega arith) u last) (next-four n l)
     where
       next-four : (n : List ℕ) → 5 ≤ length n → four n 1 + 4294967296 * packed (drop 5 n) ≡ packed (drop 1 n)
       next-four [] l = absurd (omega arith)
