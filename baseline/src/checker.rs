@@ -1,8 +1,8 @@
 //! Answers 9 to 17.
 
 use crate::flow::{members, Flow};
-use crate::lexer::is_name;
 use crate::names::Names;
+use crate::spelling::is_spellable;
 use crate::table::{place, Function, Row, Table, BLOCKS, ENTRIES, FUNCTIONS, REGISTERS, ROWS};
 use crate::words::*;
 use crate::Refusal;
@@ -60,7 +60,7 @@ fn fits<'a>(f: &Function<'a>, names: &mut Names<'a>) -> bool {
         && f.parameters() <= f.registers()
         && f.blocks() <= BLOCKS
         && f.entry() < f.blocks()
-        && is_name(f.name())
+        && is_spellable(f.name())
         && registers_fit(f, names)
         && blocks_fit(f, names)
         && rows_fit(f)
@@ -68,7 +68,7 @@ fn fits<'a>(f: &Function<'a>, names: &mut Names<'a>) -> bool {
 
 /// A name of a register or block: of no bytes, or one that a text can spell and that is new.
 fn name_fits<'a>(name: &'a [u8], names: &mut Names<'a>) -> bool {
-    name.is_empty() || is_name(name) && names.add(name, 0)
+    name.is_empty() || is_spellable(name) && names.add(name, 0)
 }
 
 fn registers_fit<'a>(f: &Function<'a>, names: &mut Names<'a>) -> bool {

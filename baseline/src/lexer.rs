@@ -35,6 +35,7 @@ static CLASS: [u8; 256] = {
 
 #[derive(Clone, Copy, Debug, PartialEq, Eq)]
 pub enum Kind<'a> {
+    /// By its contents.
     Name(&'a [u8]),
     Word(Word),
     /// The magnitude is absent from 2^64 on.
@@ -53,11 +54,14 @@ pub struct Token<'a> {
 pub struct Lexer<'a> {
     text: &'a [u8],
     at: usize,
+    /// For contents that are not a part of the text as they stand.
+    room: &'a mut [u8],
 }
 
 impl<'a> Lexer<'a> {
-    pub fn new(text: &'a [u8]) -> Lexer<'a> {
-        Lexer { text, at: 0 }
+    /// Of room the text's length always suffices.
+    pub fn new(text: &'a [u8], room: &'a mut [u8]) -> Lexer<'a> {
+        Lexer { text, at: 0, room }
     }
 
     /// The next token, or 2 where none stands.
@@ -105,11 +109,26 @@ impl<'a> Lexer<'a> {
         (length <= NAME).then_some(Kind::Name(spelling))
     }
 
+    /// Between the quotes stand the contents, less each backslash directly before a quote; they have 1 to 64 bytes.
     fn quoted(&mut self) -> Option<Kind<'a>> {
-        let rest = &self.text[self.at..];
-        let length = quoted_length(rest)?;
-        self.at += length;
-        Some(Kind::Name(&rest[..length]))
+        let rest = &self.text[self.at + 1..];
+        let inside = &rest[..closing(rest)?];
+        let escapes = inside.iter().filter(|&&b| b == b'\'').count();
+        let length = inside.len() - escapes;
+        if !(1..=NAME).contains(&length) {
+            return None;
+        }
+        self.at += inside.len() + 2;
+        Some(Kind::Name(if escapes == 0 { inside } else { self.unescaped(inside, length) }))
+    }
+
+    fn unescaped(&mut self, inside: &[u8], length: usize) -> &'a [u8] {
+        let (contents, room) = std::mem::take(&mut self.room).split_at_mut(length);
+        self.room = room;
+        let dropped = |i: usize| inside[i..].starts_with(b"\\'");
+        let kept = (0..inside.len()).filter(|&i| !dropped(i));
+        contents.iter_mut().zip(kept).for_each(|(byte, i)| *byte = inside[i]);
+        contents
     }
 
     fn number(&mut self) -> Option<Kind<'a>> {
@@ -145,20 +164,13 @@ fn plain_length(text: &[u8]) -> usize {
     text.iter().position(|b| !named(b)).unwrap_or(text.len())
 }
 
-/// The length of the quoted name at the beginning, quotes included; none if it is empty, too long or not closed.
-fn quoted_length(text: &[u8]) -> Option<usize> {
-    let closing = (1..text.len().min(NAME)).find(|&i| text[i] == b'\'' && text[i - 1] != b'\\')?;
-    (closing > 1).then_some(closing + 1)
+/// Where the quote stands that closes a name, if it is not too far for 64 bytes of contents, each with a backslash before it.
+fn closing(text: &[u8]) -> Option<usize> {
+    (0..text.len().min(2 * NAME + 1)).find(|&i| text[i] == b'\'' && (i == 0 || text[i - 1] != b'\\'))
 }
 
-/// Whether some text can spell this name: it is a name token, whole.
-pub fn is_name(name: &[u8]) -> bool {
-    let Some(&first) = name.first() else {
-        return false;
-    };
-    match CLASS[first as usize] {
-        LETTER => name.len() <= NAME && plain_length(name) == name.len() && word(name).is_none(),
-        QUOTE => quoted_length(name) == Some(name.len()),
-        _ => false,
-    }
+/// Whether these bytes are a plain name.
+pub fn is_plain(name: &[u8]) -> bool {
+    let begun = name.first().is_some_and(|&first| CLASS[first as usize] == LETTER);
+    begun && name.len() <= NAME && plain_length(name) == name.len() && word(name).is_none()
 }

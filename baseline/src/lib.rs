@@ -12,6 +12,7 @@ mod machine;
 pub mod merge;
 mod names;
 mod reader;
+mod spelling;
 pub mod table;
 mod translator;
 mod words;

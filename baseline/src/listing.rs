@@ -2,6 +2,7 @@
 
 use crate::checker::checked;
 use crate::reader::read;
+use crate::spelling::spelling;
 use crate::table::{Function, TABLE};
 
 pub fn listing(text: &[u8]) -> Vec<u8> {
@@ -15,7 +16,7 @@ pub fn listing(text: &[u8]) -> Vec<u8> {
     for i in 0..usize::from(table[0]) {
         let f = Function::of(table, i);
         let counts = format!("\t{}\t{}\t{}\t{}\n", f.ssa(), f.registers(), f.blocks(), f.rows());
-        lines.extend_from_slice(f.name());
+        lines.extend_from_slice(&spelling(f.name()));
         lines.extend_from_slice(counts.as_bytes());
     }
     lines

@@ -29,7 +29,8 @@ pub fn read(text: &[u8], out: &mut [u8]) -> Result<(), Refusal> {
 
 /// Reads all functions of a text into a table of zeros.
 fn program(text: &[u8], table: &mut Table) -> Result<(), Refusal> {
-    let mut reader = Reader::new(text)?;
+    let mut room = vec![0; text.len()];
+    let mut reader = Reader::new(text, &mut room)?;
     while reader.token.kind != Kind::End {
         let i = reader.functions.len();
         reader.function(table)?;
@@ -63,8 +64,8 @@ struct Reader<'a> {
 }
 
 impl<'a> Reader<'a> {
-    fn new(text: &'a [u8]) -> Result<Reader<'a>, Refusal> {
-        let mut lexer = Lexer::new(text);
+    fn new(text: &'a [u8], room: &'a mut [u8]) -> Result<Reader<'a>, Refusal> {
+        let mut lexer = Lexer::new(text, room);
         let token = lexer.next()?;
         Ok(Reader {
             lexer,

@@ -2,9 +2,11 @@
 
 use crate::checker::checked;
 use crate::reader::TEXT;
+use crate::spelling::spelling;
 use crate::table::{Function, Row, BLOCKS, REGISTERS};
 use crate::words::*;
 use crate::Refusal;
+use std::borrow::Cow;
 
 /// Writes a table that passes the check as text, and answers the text's length. Past it `out` is zero, after a refusal all of it.
 pub fn write(table: &[u8], out: &mut [u8]) -> Result<usize, Refusal> {
@@ -84,29 +86,35 @@ impl Digits {
 /// The longest made name, `p.255`.
 const MADE: usize = 5;
 
-/// The names of one kind in a function, N at most, those not there made.
+/// How those of one kind in a function are written, N at most; names not there are made.
 struct Called<'a, const N: usize> {
-    names: [&'a [u8]; N],
+    spellings: [Cow<'a, [u8]>; N],
     /// The made name of each that has none.
     made: [[u8; MADE]; N],
 }
 
 impl<'a, const N: usize> Called<'a, N> {
-    /// The unnamed ones take the smallest numbers that no name of the kind has.
-    fn of(count: usize, kind: u8, name: impl Fn(usize) -> &'a [u8]) -> Called<'a, N> {
-        let mut called = Called { names: [&[]; N], made: [[0; MADE]; N] };
+    /// The unnamed ones take the smallest numbers that no name of the kind has. The entry block is called by a word, which is no name.
+    fn of(count: usize, kind: u8, entry: Option<usize>, name: impl Fn(usize) -> &'a [u8]) -> Called<'a, N> {
+        let mut called = Called { spellings: [const { Cow::Borrowed(&[]) }; N], made: [[0; MADE]; N] };
         let mut used = [false; REGISTERS];
         let mut unnamed = 0;
         for i in 0..count {
-            called.names[i] = name(i);
-            unnamed += usize::from(name(i).is_empty());
-            if let Some(number) = made_number(name(i), kind) {
-                used[usize::from(number)] = true;
-            }
+            called.spellings[i] = match name(i) {
+                _ if entry == Some(i) => Cow::Borrowed(b"entry"),
+                [] => {
+                    unnamed += 1;
+                    continue;
+                }
+                name => {
+                    made_number(name, kind).inspect(|&number| used[usize::from(number)] = true);
+                    spelling(name)
+                }
+            };
         }
         if unnamed > 0 {
             let mut free = (0..REGISTERS).filter(|&number| !used[number]);
-            for i in (0..count).filter(|&i| name(i).is_empty()) {
+            for i in (0..count).filter(|&i| called.spellings[i].is_empty()) {
                 // There are as many numbers as registers, and each name uses one at most.
                 called.made[i] = made_name(kind, free.next().unwrap());
             }
@@ -117,14 +125,14 @@ impl<'a, const N: usize> Called<'a, N> {
     #[inline]
     fn name(&self, i: u8) -> &[u8] {
         let i = usize::from(i);
-        match self.names[i] {
+        match &*self.spellings[i] {
             [] => made_bytes(&self.made[i]),
-            name => name,
+            spelling => spelling,
         }
     }
 }
 
-/// The number of a name spelled as a made one, if it is one that a function may need.
+/// The number of a name like a made one, if it is one that a function may need.
 fn made_number(name: &[u8], kind: u8) -> Option<u8> {
     let digits = match name {
         [first, b'.', digits @ ..] if *first == kind => digits,
@@ -148,10 +156,8 @@ fn made_bytes(name: &[u8; MADE]) -> &[u8] {
 }
 
 fn write_function(f: &Function, page: &mut Page) {
-    let registers: Called<REGISTERS> = Called::of(f.registers(), b'p', |r| f.register_name(r));
-    // Entry takes no number: a name that is none of the made ones stands for it.
-    let block_name = |b: usize| if b == f.entry() { &b"entry"[..] } else { f.block_name(b) };
-    let blocks: Called<BLOCKS> = Called::of(f.blocks(), b'e', block_name);
+    let registers: Called<REGISTERS> = Called::of(f.registers(), b'p', None, |r| f.register_name(r));
+    let blocks: Called<BLOCKS> = Called::of(f.blocks(), b'e', Some(f.entry()), |b| f.block_name(b));
     write_head(f, &registers, page);
     for r in f.parameters()..f.registers() {
         page.put(b"register ");
@@ -181,7 +187,7 @@ fn write_head(f: &Function, registers: &Called<REGISTERS>, page: &mut Page) {
     page.put(if f.ssa() == 1 { b"function ssa " } else { b"function " });
     page.put(if f.result() == VOID { b"void" } else { type_spelling(f.result()) });
     page.put(b" ");
-    page.put(f.name());
+    page.put(&spelling(f.name()));
     page.put(b" (");
     for r in 0..f.parameters() {
         page.put(if r > 0 { b" , " } else { b" " });

@@ -1,9 +1,11 @@
-//! The outside vectors: every line of every expected answer.
+//! The outside vectors of texts, those of document 01 and of document 02's A2: every line of every expected answer.
 
+mod naming;
 mod outside;
 
 use ial_baseline::table::{block_at, entry_at, function_at, predecessors_at, register_at, row_at};
-use ial_baseline::{check, listing, read, run, translate, Ran, TABLE};
+use ial_baseline::{check, listing, read, run, translate, Ran, Refusal, TABLE};
+use naming::edited;
 use outside::{all, Expected};
 use std::fmt::Write;
 
@@ -169,6 +171,12 @@ fn assert_clean(table: &[u8], needed: &[bool]) {
     assert!(table.iter().zip(needed).all(|(&cell, &needed)| needed || cell == 0), "a cell that is not needed");
 }
 
+/// An answer as its line begins.
+fn answer_line(word: &str, answer: Result<(), Refusal>) -> String {
+    let (number, place) = answer.err().unwrap_or((0, 0));
+    format!("{word}\t{number}\t{place}")
+}
+
 /// One vector; the number of lines and dumps compared.
 fn vector(text: &[u8], expected: &[u8]) -> usize {
     let mut expected = Expected(expected);
@@ -176,11 +184,16 @@ fn vector(text: &[u8], expected: &[u8]) -> usize {
     let mut table = vec![1; TABLE];
     let mut lent = Vec::new();
     let mut translation = vec![1; TABLE];
+    let mut renamed = Vec::new();
     while !expected.0.is_empty() {
         let line = expected.line();
         let fields: Vec<&str> = line.split('\t').collect();
         match fields[0] {
             "listing" => assert_eq!(listing(text), expected.bytes(fields[1].parse().unwrap())),
+            "read" => assert_eq!(answer_line("read", read(text, &mut table)) + "\t0\t0", line),
+            "check" => assert_eq!(answer_line("check", check(&table)) + "\t0\t0", line),
+            "edited" => renamed = edited(&table, fields[1].parse().unwrap(), &mut expected),
+            "check.edited" => assert_eq!(answer_line("check.edited", check(&renamed)), line),
             "table" => {
                 assert_eq!(read(text, &mut table), Ok(()));
                 let (dumped, needed) = dump(&table);
@@ -221,4 +234,5 @@ fn vector(text: &[u8], expected: &[u8]) -> usize {
 #[test]
 fn all_vectors() {
     all(".", vector);
+    all("requests/a2", vector);
 }

@@ -1,39 +1,11 @@
-//! Tables written as text: the outside vectors of document 02's A1, and cases of its words.
+//! Tables written as text: the outside vectors of document 02's A1 with A2, and cases of its words.
 
+mod naming;
 mod outside;
 
-use ial_baseline::table::{block_at, function_at, register_at};
 use ial_baseline::{check, listing, read, translate, write, Refusal, TABLE};
+use naming::{edited, name_line, set_name};
 use outside::{all, Expected};
-
-/// Where a name's length cell is.
-fn name_at(kind: &str, function: usize, index: usize) -> usize {
-    let at = function_at(function);
-    match kind {
-        "function" => at + 8,
-        "register" => register_at(at, index) + 1,
-        _ => block_at(at, index) + 4,
-    }
-}
-
-/// Replaces a name; of one too long the length is set and the first bytes are kept.
-fn set_name(table: &mut [u8], kind: &str, function: usize, index: usize, name: &[u8]) {
-    let at = name_at(kind, function, index);
-    let kept = &name[..name.len().min(64)];
-    table[at] = name.len() as u8;
-    table[at + 1..at + 65].fill(0);
-    table[at + 1..][..kept.len()].copy_from_slice(kept);
-}
-
-fn unhex(hex: &str) -> Vec<u8> {
-    let hex = hex.trim_matches('-');
-    (0..hex.len()).step_by(2).map(|i| u8::from_str_radix(&hex[i..i + 2], 16).unwrap()).collect()
-}
-
-/// The name that a line's last four fields put into a table.
-fn name_line(table: &mut [u8], fields: &[&str]) {
-    set_name(table, fields[0], fields[1].parse().unwrap(), fields[2].parse().unwrap(), &unhex(fields[3]));
-}
 
 /// Writes to a buffer of so many bytes that hold something; what it holds afterwards past the text is 0.
 fn written(table: &[u8], room: usize) -> Result<Vec<u8>, Refusal> {
@@ -119,13 +91,7 @@ fn vector(text: &[u8], expected: &[u8]) -> usize {
                 assert_eq!(answer.err().unwrap_or((0, 0)), refusal());
             }
             "write" => session.write(&fields[1..], &mut expected),
-            "edited" => {
-                session.edited = session.own.clone();
-                for _ in 0..fields[1].parse().unwrap() {
-                    let line = expected.line();
-                    name_line(&mut session.edited, &line.split('\t').collect::<Vec<_>>()[1..]);
-                }
-            }
+            "edited" => session.edited = edited(&session.own, fields[1].parse().unwrap(), &mut expected),
             "check.edited" => assert_eq!(check(&session.edited).err().unwrap_or((0, 0)), refusal()),
             "made" => name_line(&mut session.named, &fields[2..]),
             "translate" => {
@@ -142,7 +108,7 @@ fn vector(text: &[u8], expected: &[u8]) -> usize {
 
 #[test]
 fn all_vectors() {
-    all("requests/a1", vector);
+    all("requests/a2-write", vector);
 }
 
 fn table(text: &str) -> Vec<u8> {

@@ -109,7 +109,7 @@ fn phi_text() -> String {
 
 /// Writing, the check included: the texts above and translations, each in a buffer of the longest text, which is zeroed past the text; `turn` also
 /// in one that is just as long.
-fn write_texts(long: &str) {
+fn write_texts(long: &str, quoted: &str) {
     let table = |text: &str| {
         let mut t = vec![0u8; ial_baseline::TABLE];
         ial_baseline::read(text.as_bytes(), &mut t).unwrap();
@@ -124,6 +124,7 @@ fn write_texts(long: &str) {
     let exact = plain_write(&table(TURN), &mut vec![0u8; whole]).1;
     let works = [
         ("the 64 KB text", table(long), whole, 2000),
+        ("the 64 KB text of quoted names", table(quoted), whole, 2000),
         ("turn", table(TURN), whole, 10000),
         ("turn, no room to spare", table(TURN), exact, 10000),
         ("turn translated", translation(TURN), whole, 10000),
@@ -177,19 +178,20 @@ fn long_text() -> String {
     s
 }
 
-/// A text of nearly as many bytes whose names are quoted: 12 functions of 32 registers and 8 blocks.
-fn quoted_text() -> String {
+/// A text of nearly as many bytes whose names but one are in quotes, and need them: 12 functions of 32 registers and 8 blocks. Registers, the most of its names by far, are
+/// called like this, with a number behind it.
+fn quoted_text(register: &str) -> String {
     let mut s = String::new();
     for f in 0..12 {
         s += &format!("function uint64 'limit no. {f}'(uint64 'a reading', uint64 bound) {{\n");
-        (0..30).for_each(|r| s += &format!(" register uint64 'client\\'s value {r}';\n"));
+        (0..30).for_each(|r| s += &format!(" register uint64 '{register} {r}';\n"));
         for b in 0..8 {
             s += &if b == 0 { " block entry {\n".to_string() } else { format!(" block 'step no. {b}' {{\n") };
             for i in 0..7 {
                 let (t, l) = ((b * 7 + i) % 30, (b * 7 + i + 29) % 30);
-                s += &format!("  'client\\'s value {t}' = ari.add 'a reading', 'client\\'s value {l}';\n");
+                s += &format!("  '{register} {t}' = ari.add 'a reading', '{register} {l}';\n");
             }
-            s += &if b < 7 { format!("  jump ('step no. {}');\n }}\n", b + 1) } else { "  return 'client\\'s value 0';\n }\n".to_string() };
+            s += &if b < 7 { format!("  jump ('step no. {}');\n }}\n", b + 1) } else { format!("  return '{register} 0';\n }}\n") };
         }
         s += "}\n";
     }
@@ -283,21 +285,24 @@ fn report(name: &str, other: &str, rounds: &[(f64, f64)]) -> f64 {
 }
 
 fn main() {
-    let (long, quoted, words) = (long_text(), quoted_text(), words_text());
+    // With a backslash in the name of each register, and with none.
+    let (quoted, unescaped) = (quoted_text("client\\'s value"), quoted_text("a client: value"));
+    let (long, words) = (long_text(), words_text());
     let comment = format!("//{}", "lexed and never taken ".repeat(2978));
     let (mut a, mut b) = (vec![255u8; ial_baseline::TABLE], vec![255u8; ial_baseline::TABLE]);
-    for text in [long.as_bytes(), quoted.as_bytes(), words.as_bytes(), comment.as_bytes(), TURN.as_bytes(), b"", b"function void f() {"] {
+    for text in [long.as_bytes(), quoted.as_bytes(), unescaped.as_bytes(), words.as_bytes(), comment.as_bytes(), TURN.as_bytes(), b"", b"function void f() {"] {
         assert_eq!(verified_read(text, &mut a), plain_read(text, &mut b));
         assert!(a == b);
     }
     println!("texts of {}, with quoted names {}, of words {} bytes", long.len(), quoted.len(), words.len());
     let works = [
         ("read, 64 KB", long.as_bytes(), 2000),
-        ("read, 64 KB of quoted names", quoted.as_bytes(), 2000),
+        ("read, 64 KB of quoted names, most with an escape", quoted.as_bytes(), 2000),
         ("read, a comment of 64 KB", comment.as_bytes(), 4000),
         ("read, turn", TURN.as_bytes(), 10000),
         ("read, nothing (a table cleared)", &b""[..], 10000),
         ("read, 64 KB of words", words.as_bytes(), 2000),
+        ("read, 64 KB of quoted names without escapes", unescaped.as_bytes(), 2000),
     ];
     let times = works.map(|(name, text, rounds)| {
         assert_eq!(verified_read(text, &mut a), (0, 0));
@@ -305,6 +310,6 @@ fn main() {
     });
     println!("lex, a comment of {} bytes: verified {:.0} MB/s", comment.len(), comment.len() as f64 * 1000.0 / (times[2] - times[4]));
     judge_run_translate();
-    write_texts(&long);
+    write_texts(&long, &quoted);
     merging::merge_and_join();
 }

@@ -21,6 +21,11 @@
  *               number plus the row
  *     43        stopped: budget used up; likewise, the next row
  * After a refusal every lent output is all zero. Numbers that are not stated are 0.
+ *
+ * Names are kept and compared by their contents: of a name in quotes the bytes between them, without each backslash that stands
+ * directly before a quote. So `x` and `'x'` are one name of one byte, and `'jump'` is a name although `jump` is a word. Contents have
+ * 1 to 64 bytes; any byte may stand in them, but a backslash is not the last. docs/TABLE.md says where in a table they are. A text
+ * that is written has a name in quotes only where plain spelling is not possible, with a backslash before each quote in it.
  */
 #ifndef IAL_H
 #define IAL_H

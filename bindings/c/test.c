@@ -1,4 +1,4 @@
-/* What the header says and no proof covers: the stack that each call needs, and that NULL will do for a length of 0.
+/* What the header says and no proof covers: the stack that each call needs, and that NULL will do for a length of 0. And its example of names.
  * `test measure` prints the least stack in KiB with which each call answers. */
 #include "ial.h"
 #include "stacks.h"
@@ -101,6 +101,26 @@ static int nulls(void) {
     return wrong;
 }
 
+/* `x` and `'x'` are one name; the table has its contents, and a text that is written the plain spelling. */
+static int names(void) {
+    static const char quoted[] = "function uint 'f'(uint x) { block entry { return 'x'; } }";
+    static const char plain[] = "function uint f ( uint x ) {\nblock entry {\nreturn x ;\n}\n}\n";
+    static const char keyword[] = "function uint 'jump' ( uint x ) {";
+    /* In docs/TABLE.md: the length of the first function's name, and of its first register's. */
+    enum { FUNCTION = 1 + 8, REGISTER = 1 + 73 + 1 };
+    static uint8_t other[IAL_TABLE], shown[IAL_TEXT];
+    int wrong = is("x and 'x'", ial_read((const uint8_t *)quoted, sizeof quoted - 1, other, IAL_TABLE), 0, 0);
+    wrong |= memcmp(other + FUNCTION, "\1f", 2) != 0 || memcmp(other + REGISTER, "\1x", 2) != 0;
+    wrong |= is("x written", ial_write(other, IAL_TABLE, shown, IAL_TEXT), 0, 0) | (strcmp((char *)shown, plain) != 0);
+    memcpy(other + FUNCTION, "\4jump", 5);
+    wrong |= is("a word as a name", ial_write(other, IAL_TABLE, shown, IAL_TEXT), 0, 0) | (memcmp(shown, keyword, sizeof keyword - 1) != 0);
+    other[FUNCTION + 4] = '\\';
+    wrong |= is("a backslash at the end", ial_check(other, IAL_TABLE), 9, 0);
+    if (wrong)
+        printf("names are not as they should be\n");
+    return wrong;
+}
+
 int main(int argc, char **argv) {
     write_text();
     if (is("the text", ial_read(text, sizeof text, table, IAL_TABLE), 0, 0)
@@ -108,5 +128,5 @@ int main(int argc, char **argv) {
         return 1;
     if (argc == 2 && strcmp(argv[1], "measure") == 0)
         return measure(entries, ENTRIES);
-    return stacks(entries, ENTRIES) | nulls();
+    return stacks(entries, ENTRIES) | nulls() | names();
 }

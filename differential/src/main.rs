@@ -9,6 +9,7 @@ mod library;
 mod lists;
 mod loops;
 mod near_words;
+mod quoted;
 mod readings;
 mod rng;
 mod stores;
@@ -22,13 +23,15 @@ use ial_baseline::{Answer, TABLE};
 use lists::Wrong;
 use rng::Rng;
 
-/// Two tables that hold the same rubbish, how often each number was answered, of all calls and of texts for reading alone, how often a list was made wrong in
-/// each way, and what was run by many budgets.
+/// Two tables that hold the same rubbish; how often each number was answered, of all calls, of texts for reading alone, of texts of names in quotes, and of checks of
+/// tables with other names; how often a list was made wrong in each way; and what was run by many budgets.
 struct Bench {
     one: Vec<u8>,
     two: Vec<u8>,
     seen: [u64; 64],
     read: [u64; 64],
+    quoted: [u64; 64],
+    stored: [u64; 64],
     lists: [u64; Wrong::ALL.len()],
     budgets: budgets::Counts,
 }
@@ -152,6 +155,25 @@ impl Bench {
         if rng.once_in(2) {
             self.reads(rng)?;
         }
+        self.names(rng).map_err(|what| format!("names: {what}"))
+    }
+
+    /// What both make of a text of names in quotes and of its table, and of this with contents of any kind put in.
+    fn names(&mut self, rng: &mut Rng) -> Result<(), String> {
+        let text = quoted::text(rng);
+        let (mut one, mut two) = (vec![0xa5; TABLE], vec![0xa5; TABLE]);
+        let a = library::read(&text, &mut one, &mut two)?;
+        self.quoted[a.number as usize] += 1;
+        if a.number != 0 {
+            return Ok(());
+        }
+        self.table(&one, rng)?;
+        for _ in 0..2 {
+            let mut renamed = one.clone();
+            quoted::rename(&mut renamed, rng);
+            self.stored[library::check(&renamed)?.number as usize] += 1;
+            self.table(&renamed, rng).map_err(|what| format!("stored: {what}"))?;
+        }
         Ok(())
     }
 
@@ -243,7 +265,8 @@ fn disturb(table: &mut Vec<u8>, rng: &mut Rng) {
 
 /// These rounds, and what was counted. A difference ends the program.
 fn rounds(numbers: impl Iterator<Item = u64>) -> Bench {
-    let mut bench = Bench { one: vec![], two: vec![], seen: [0; 64], read: [0; 64], lists: [0; Wrong::ALL.len()], budgets: Default::default() };
+    let none = [0; 64];
+    let mut bench = Bench { one: vec![], two: vec![], seen: none, read: none, quoted: none, stored: none, lists: [0; Wrong::ALL.len()], budgets: Default::default() };
     for round in numbers {
         if let Err(what) = bench.round(&mut Rng::new(round + 1)) {
             println!("round {round}: {what}");
@@ -258,7 +281,7 @@ fn main() {
     let count = words.next().unwrap_or(6_000);
     let first = words.next().unwrap_or(0);
     let threads = std::thread::available_parallelism().map_or(1, usize::from);
-    let (mut seen, mut read) = ([0; 64], [0; 64]);
+    let [mut seen, mut read, mut quoted, mut stored] = [[0; 64]; 4];
     let mut lists = [0; Wrong::ALL.len()];
     let mut budgets = budgets::Counts::default();
     std::thread::scope(|scope| {
@@ -266,8 +289,9 @@ fn main() {
         let parts: Vec<_> = (0..threads).map(part).collect();
         for part in parts {
             let more = part.join().expect("no call panics");
-            (0..64).for_each(|n| seen[n] += more.seen[n]);
-            (0..64).for_each(|n| read[n] += more.read[n]);
+            for (all, part) in [(&mut seen, more.seen), (&mut read, more.read), (&mut quoted, more.quoted), (&mut stored, more.stored)] {
+                (0..64).for_each(|n| all[n] += part[n]);
+            }
             (0..lists.len()).for_each(|n| lists[n] += more.lists[n]);
             budgets.add(&more.budgets);
         }
@@ -276,5 +300,6 @@ fn main() {
     let lists: Vec<String> = Wrong::ALL.iter().zip(lists).map(|(wrong, n)| format!("{wrong:?}: {n}")).collect();
     println!("{count} rounds agree; answers by number: {}; lists of predecessors by what was wrong: {}", numbers(seen), lists.join(", "));
     println!("texts of many names read for outputs of {} lengths each; answers by number: {}", readings::OUTPUTS.len(), numbers(read));
+    println!("texts of names in quotes; answers by number: {}; checks of their tables with other names: {}", numbers(quoted), numbers(stored));
     println!("{budgets}");
 }

@@ -9,6 +9,10 @@ const WORDS: [&str; 52] = [
     "jump.cond", "return", "leave",
 ];
 
+pub fn is_word(name: &[u8]) -> bool {
+    WORDS.iter().any(|word| word.as_bytes() == name)
+}
+
 /// A word with one byte changed, left out, put in or in the other case, or the first bytes of one word and the last of another; seldom the word itself.
 pub fn name(rng: &mut Rng) -> Vec<u8> {
     let mut name = rng.of(&WORDS).as_bytes().to_vec();
@@ -37,7 +41,7 @@ pub fn name(rng: &mut Rng) -> Vec<u8> {
 pub fn text(rng: &mut Rng) -> Vec<u8> {
     let mut names: Vec<Vec<u8>> = (0..2 + rng.below(40)).map(|_| name(rng)).collect();
     if !rng.once_in(4) {
-        names.retain(|n| !WORDS.iter().any(|w| w.as_bytes() == n));
+        names.retain(|n| !is_word(n));
     }
     names.sort();
     names.dedup();

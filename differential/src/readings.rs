@@ -2,6 +2,7 @@
 //! functions up to their limits, comments of every short length, and texts that end anywhere. Most of them break rules of the check, and are only read.
 
 use crate::near_words;
+use crate::quoted::spelled;
 use crate::rng::Rng;
 use ial_baseline::TABLE;
 use std::collections::BTreeSet;
@@ -11,7 +12,7 @@ pub const OUTPUTS: [usize; 6] = [TABLE, 0, 1, TABLE - 1, TABLE + 1, 2 * TABLE];
 
 const LETTERS: &[u8; 54] = b"abcdefghijklmnopqrstuvwxyzABCDEFGHIJKLMNOPQRSTUVWXYZ._";
 
-/// Names that differ in two letters alone, or as long as it will do in one, with these bytes before and behind them.
+/// Names whose contents differ in two letters alone, or as long as it will do in one, with these bytes before and behind them.
 struct Alike {
     one: bool,
     front: Vec<u8>,
@@ -21,9 +22,9 @@ struct Alike {
 impl Alike {
     fn new(rng: &mut Rng) -> Alike {
         let length = *rng.of(&[1, 2, 3, 4, 5, 6, 7, 8, 9, 10, 12, 17, 63, 64]) + usize::from(rng.once_in(100));
-        let quoted = length > 4 && rng.once_in(3);
-        let pieces: &[&str] = if quoted { &["a", "0", " ", "//", "\\'", "\n", "\0"] } else { &["a", "0", "_"] };
-        let more = length.saturating_sub(if quoted { 4 } else { 2 });
+        let quoted = length > 2 && rng.once_in(3);
+        let pieces: &[&str] = if quoted { &["a", "0", " ", "//", "'", "\\", "\\'", "\n", "\0"] } else { &["a", "0", "_"] };
+        let more = length.saturating_sub(2);
         let any = rng.below(more + 1);
         let split = *rng.of(&[0, more, more.saturating_sub(8), any]);
         let mut fill = |n: usize| {
@@ -35,11 +36,11 @@ impl Alike {
             bytes
         };
         let (mut front, mut back) = (fill(split), fill(more - split));
-        if quoted {
-            front.insert(0, b'\'');
-            back.push(b'\'');
-        } else if let Some(first) = front.first_mut() {
+        if let Some(first) = front.first_mut().filter(|_| !quoted) {
             *first = b'a';
+        }
+        if let Some(last) = back.last_mut().filter(|last| **last == b'\\') {
+            *last = b'\'';
         }
         Alike { one: length == 1, front, back }
     }
@@ -53,29 +54,35 @@ impl Names {
         Names((0..1 + rng.below(3)).map(|_| Alike::new(rng)).collect())
     }
 
-    fn name(&self, i: usize) -> Vec<u8> {
+    fn name(&self, i: usize) -> Word {
         let Alike { one, front, back } = &self.0[i % self.0.len()];
         let letters = [LETTERS[i / 54 % 54], LETTERS[i % 54]];
         let own = if *one && i < 54 { &letters[1..] } else { &letters };
-        [front, own, back].concat()
+        Word::Name([front, own, back].concat())
     }
+}
+
+/// A word or mark, or a name by its contents.
+enum Word {
+    Said(Vec<u8>),
+    Name(Vec<u8>),
 }
 
 /// The words of a text, one after the other.
 #[derive(Default)]
-struct Words(Vec<Vec<u8>>);
+struct Words(Vec<Word>);
 
 impl Words {
     fn say(&mut self, words: &str) {
-        self.0.extend(words.split(' ').map(|word| word.as_bytes().to_vec()));
+        self.0.extend(words.split(' ').map(|word| Word::Said(word.as_bytes().to_vec())));
     }
 
-    fn name(&mut self, name: Vec<u8>) {
+    fn name(&mut self, name: Word) {
         self.0.push(name);
     }
 
     /// Names in parentheses, parted by commas.
-    fn list(&mut self, names: Vec<Vec<u8>>) {
+    fn list(&mut self, names: Vec<Word>) {
         for (i, name) in names.into_iter().enumerate() {
             self.say(if i == 0 { "(" } else { "," });
             self.name(name);
@@ -85,17 +92,19 @@ impl Words {
 }
 
 /// Now and then another name that is nearly this one.
-fn almost(mut name: Vec<u8>, rng: &mut Rng) -> Vec<u8> {
-    if rng.once_in(150) {
-        let at = rng.below(name.len());
-        match rng.below(4) {
-            0 => drop(name.remove(at)),
-            1 => name.insert(at, b'a'),
-            2 => name[at] = *rng.of(LETTERS),
-            _ => drop(name.pop()),
-        }
+fn almost(word: Word, rng: &mut Rng) -> Word {
+    if !rng.once_in(150) {
+        return word;
     }
-    name
+    let (Word::Said(mut name) | Word::Name(mut name)) = word;
+    let at = rng.below(name.len());
+    match rng.below(4) {
+        0 => drop(name.remove(at)),
+        1 => name.insert(at, b'a'),
+        2 => name[at] = *rng.of(LETTERS),
+        _ => drop(name.pop()),
+    }
+    Word::Name(name)
 }
 
 fn shuffle<T>(items: &mut [T], rng: &mut Rng) {
@@ -126,7 +135,7 @@ fn blocks(words: &mut Words, names: &Names, rng: &mut Rng) {
     if !rng.once_in(8) {
         missing.remove(&entry);
     }
-    let block = |i: usize| if i == entry { b"entry".to_vec() } else { names.name(i) };
+    let block = |i: usize| if i == entry { Word::Said(b"entry".to_vec()) } else { names.name(i) };
     let mut declared: Vec<usize> = (0..count.max(entry + 1)).filter(|i| !missing.contains(i)).collect();
     if rng.once_in(2) {
         shuffle(&mut declared, rng);
@@ -200,7 +209,7 @@ fn registers(words: &mut Words, names: &Names, rng: &mut Rng) {
     words.say("leave ; }");
 }
 
-fn function(words: &mut Words, name: Vec<u8>, small: bool, rng: &mut Rng) {
+fn function(words: &mut Words, name: Word, small: bool, rng: &mut Rng) {
     words.say(if rng.once_in(2) { "function ssa void" } else { "function void" });
     words.name(name);
     match rng.below(if small { 1 } else { 3 }) {
@@ -245,11 +254,14 @@ pub fn text(rng: &mut Rng) -> Vec<u8> {
         function(&mut words, name, count > 3 && !rng.once_in(count), rng);
     }
     let comments = *rng.of(&[0, 0, 1, 8, 30]);
-    let is_mark = |word: &[u8]| matches!(word, [b] if b"{}(),;=".contains(b));
+    let is_mark = |word: &Word| matches!(word, Word::Said(said) if matches!(said[..], [b] if b"{}(),;=".contains(&b)));
     let mut text = vec![];
     for (i, word) in words.0.iter().enumerate() {
-        text.extend(word);
-        between(&mut text, is_mark(word) || words.0.get(i + 1).is_some_and(|next| is_mark(next)), comments, rng);
+        match word {
+            Word::Said(word) => text.extend(word),
+            Word::Name(contents) => text.extend(spelled(contents, rng)),
+        }
+        between(&mut text, is_mark(word) || words.0.get(i + 1).is_some_and(is_mark), comments, rng);
     }
     if rng.once_in(3) {
         text.truncate(rng.below(text.len() + 1));

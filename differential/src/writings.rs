@@ -23,7 +23,7 @@ fn set_name(table: &mut [u8], at: usize, name: &[u8]) {
     table[at + 1..][..name.len()].copy_from_slice(name);
 }
 
-/// A name like a made one, often one that will be made, or one that only looks so, or nearly a word; rarely a name that no text can spell.
+/// A name like a made one, often one that will be made, or one that only looks so, or a word or nearly one; rarely contents that no text can spell.
 fn clash(rng: &mut Rng) -> Vec<u8> {
     if rng.once_in(6) {
         return near_words::name(rng);
@@ -37,16 +37,17 @@ fn clash(rng: &mut Rng) -> Vec<u8> {
         3 => format!("{kind}."),
         4 => format!("{kind}{n}"),
         5 => format!("{kind}.{}", rng.number()),
-        6 => "'\\''".to_string(),
-        7 if rng.once_in(8) => format!("{n}.{kind}"),
+        6 => "'".to_string(),
+        7 => format!("{n}.{kind}"),
+        8 if rng.once_in(8) => format!("{kind}.{n}\\"),
         _ => format!("{kind}.{n}"),
     };
     name.into_bytes()
 }
 
-/// A name of 64 bytes that no other place has.
-fn long(i: usize) -> Vec<u8> {
-    format!("{i:x>64}").into_bytes()
+/// A name of 64 bytes that no other place has: plain, or most of them quotes, which are spelled with twice as many.
+fn long(i: usize, quotes: bool) -> Vec<u8> {
+    if quotes { format!("{i:'>64}") } else { format!("{i:x>64}") }.into_bytes()
 }
 
 /// All names are made long, so that a text may exceed its limit.
@@ -60,6 +61,7 @@ fn first_registers(table: &[u8]) -> usize {
 pub fn rename(table: &mut [u8], rng: &mut Rng) {
     let large = table[0] > 3 || first_registers(table) > 60;
     let style = if large && rng.once_in(2) { LONG } else { rng.below(4) };
+    let quotes = rng.once_in(3);
     for f in 0..usize::from(table[0]) {
         let cells: &Table = (&*table).try_into().unwrap();
         let function = Function::of(cells, f);
@@ -69,7 +71,7 @@ pub fn rename(table: &mut [u8], rng: &mut Rng) {
             match style {
                 0 => set_name(table, at, b""),
                 1 if rng.once_in(2) => set_name(table, at, b""),
-                LONG => set_name(table, at, &long(i)),
+                LONG => set_name(table, at, &long(i, quotes)),
                 _ if rng.once_in(if registers < 40 { 8 } else { 60 }) => set_name(table, at, &clash(rng)),
                 _ if rng.once_in(4) => set_name(table, at, b""),
                 _ => {}

@@ -10,6 +10,9 @@
 //! # Ok::<(), ial::Refused>(())
 //! ```
 //!
+//! Names are kept and compared by their contents: `x` and `'x'` are one name, and of `'it\'s'` the table has four bytes. [`Table::write`] puts a name in quotes only
+//! where plain spelling is not possible.
+//!
 //! A call needs free stack, since the library has no heap: [`READ_STACK`], [`CHECK_STACK`], [`SIGNATURE_STACK`], [`RUN_STACK`], [`RUN_EACH_STACK`],
 //! [`TRANSLATE_STACK`] and [`WRITE_STACK`] say how much. Give a thread that calls it some KiB more for itself: `std::thread::Builder::new().stack_size(ial::READ_STACK + 16 * 1024)`.
 

@@ -75,6 +75,20 @@ fn texts_are_written_and_read_back() {
     assert_eq!(Table::from_cells(&[255; TABLE]).unwrap().write(), Err(Refused { number: 9, place: 0 }));
 }
 
+/// The name of function 0 is at cell 9, behind its length, by docs/TABLE.md.
+#[test]
+fn names_are_their_contents() {
+    let quoted = Table::read(b"function uint 'it\\'s'(uint x) { block 'entry' { jump (entry); } block entry { return 'x'; } }").unwrap();
+    assert_eq!(quoted.cells()[9..14], *b"\x04it's");
+    let written = b"function uint 'it\\'s' ( uint x ) {\nblock 'entry' {\njump ( entry ) ;\n}\nblock entry {\nreturn x ;\n}\n}\n";
+    assert_eq!(quoted.write().unwrap(), written);
+    assert_eq!(Table::read(written), Ok(quoted.clone()));
+    let mut cells = quoted.cells().to_vec();
+    cells[13] = b'\\';
+    assert_eq!(Table::from_cells(&cells).unwrap().check(), Err(Refused { number: 9, place: 0 }));
+    assert_eq!(Table::read(b"function uint f(uint x, uint 'x'"), Err(Refused { number: 6, place: 29 }));
+}
+
 #[test]
 fn stops_and_refusals_arrive() {
     let table = turn();

@@ -20,11 +20,11 @@ most = 18446744073709551615
 
 -- ---- a function
 
--- The function with this name, or how many there are: then no function has that number.
+-- The function whose name has these contents, or how many there are: then no function has that number.
 unfoldable pub functionNamed : Program → List ℕ → ℕ
 functionNamed p word = position (λ f. same (f .name) word) p
 
--- A word that says a number without a minus is that number, of any size; another is a name.
+-- A word that says a number without a minus is that number, of any size; another is a name by its contents.
 abbrev pub numberOr : Decimal → ℕ → ℕ
 numberOr decimals.Malformed k = k
 numberOr (decimals.Value s n) k = cond s k n

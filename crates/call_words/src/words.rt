@@ -20,7 +20,7 @@ pub enum Budget {
     Wrong,
 }
 
-// The function with this name, or how many there are.
+// The function whose name has these contents, or how many there are.
 fn function_named(t: &[u8], word: &[u8]) -> u64
     requires { ⌜ checkAnswer (now t) ≡ Verdictᴸ.accepted ⌝ }
     ensures { λ r. ⌜ r ≡ functionNamed (decode (now (t .entry))) (now (word .entry)) ⌝ }

@@ -24,9 +24,8 @@ COUNTS = [('257 registers', {5: 1, 6: 1}), ('65 blocks', {7: 65}), ('1,025 rows'
           ('entry beyond the blocks', {8: 4})]
 
 # "a name no text can spell (no bytes excepted as above), or one declared twice"
-NAMES = [('function without a name', {9: 0}), ('name of 65 bytes', {9: 65}), ('name that begins with a digit', {10: ord('1')}),
-         ('name that is a word', {9: 3, 10: ord('s'), 11: ord('s'), 12: ord('a')}), ('quoted name not closed', {10: ord("'")}),
-         ('quoted name closed before its end', {10: ord("'"), 12: ord("'")}), ('register named twice', {REGISTER + 2: ord('b')}),
+NAMES = [('function without a name', {9: 0}), ('name of 65 bytes', {9: 65}), ('name that ends in a backslash', {13: ord('\\')}),
+         ('register named twice', {REGISTER + 2: ord('b')}),
          ('entry block with a name', {8: 1}), ('block named twice', {BLOCK[2] + 4: 1, BLOCK[3] + 4: 1, BLOCK[3] + 5: ord('b')})]
 
 

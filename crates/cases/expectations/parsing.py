@@ -1,7 +1,7 @@
-"""The functions of a text that reading accepts, whatever its white space, comments and spellings of numbers."""
+"""The functions of a text that reading accepts, whatever its white space, comments and spellings of numbers and names."""
 import re
 
-from .programs import Function, Row
+from .programs import Function, Row, contents, spelling
 from .tables import INSTRUCTIONS
 
 # A quote directly behind a backslash is part of a name.
@@ -18,8 +18,9 @@ class Tokens:
     def take(self, expected=None):
         m = TOKENS.match(self.text, self.at)
         self.at = m.end()
-        assert expected is None or m.group(1) == expected, (expected, m.group(1), m.start())
-        return m.group(1)
+        token = m.group(1)
+        assert expected is None or token == expected, (expected, token, m.start())
+        return spelling(contents(token)) if token[0] == "'" else token
 
     def list(self, item):
         """Items parted by commas, in parentheses."""

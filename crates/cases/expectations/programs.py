@@ -1,5 +1,23 @@
-"""Functions as document 01 has them: their text, their dump, and their translation out of ssa."""
+"""Functions as document 01 has them: their text, their dump, and their translation out of ssa. Their names are spelled as document 02's A2 says."""
+import re
 from dataclasses import dataclass, field
+
+from .tables import INSTRUCTIONS, TYPES
+
+PLAIN = re.compile(r'[A-Za-z._][A-Za-z._0-9]*')
+WORDS = {'function', 'ssa', 'register', 'block', 'entry', *TYPES, *INSTRUCTIONS}
+
+
+def contents(name):
+    """"No outer quotes, and each backslash directly before a quote is dropped." """
+    return name[1:-1].replace("\\'", "'") if name[0] == "'" else name
+
+
+def spelling(name):
+    """The spelling of contents: "quotes only where plain spelling isn't possible"."""
+    if PLAIN.fullmatch(name) and name not in WORDS:
+        return name
+    return "'" + name.replace("'", "\\'") + "'"
 
 
 @dataclass
@@ -41,7 +59,7 @@ class Function:
         registers = self.params + self.registers
         at = {n: i for i, (_, n) in enumerate(registers)}
         block = {n: i for i, (n, _) in enumerate(self.blocks)}
-        shown = lambda n: '-' if n == 'entry' or n[0] == ' ' else n.encode('latin-1').hex()
+        shown = lambda n: '-' if n == 'entry' or n[0] == ' ' else contents(n).encode('latin-1').hex()
         r, b, rows = self.sizes()
         out = ['\t'.join(('function', str(index), shown(self.name), 'ssa' if self.ssa else 'plain', self.result, f'params={len(self.params)}',
                           f'registers={r}', f'blocks={b}', f'rows={rows}', f'entry={block["entry"]}'))]

@@ -50,13 +50,11 @@ def items(script):
 
 
 def names(script):
-    """"A name has 1 to 64 bytes so counted.", else 2 at the name."""
-    for name in ('a' * 64, "'" + 'a' * 62 + "'", 'a' * 65, "'" + 'a' * 63 + "'"):
-        f = Function(name, blocks=[('entry', [LEAVE])])
+    """"1 to 64 bytes", else 2 at the name."""
+    for n in (64, 65):
+        f = Function('a' * n, blocks=[('entry', [LEAVE])])
         t = text([f])
-        long = 64 < len(name)
-        label = f'{"quoted" if name[0] == chr(39) else "plain"} name of {len(name)} bytes '
-        script.read(label, t, {} if long else cells(dump([f])), (2, t.index(name.encode())) if long else None)
+        script.read(f'plain name of {n} bytes ', t, {} if 64 < n else cells(dump([f])), (2, t.index(b'aa')) if 64 < n else None)
 
 
 def texts(script):

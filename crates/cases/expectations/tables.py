@@ -84,6 +84,14 @@ def cells(lines):
     return {k: v for k, v in needed(lines).items() if v}
 
 
+def name_cells(kind, function, index, name):
+    """A name's length cell and those of its bytes, as many as there is room for."""
+    a, i = function_at(int(function)), int(index)
+    k = {'function': a + NAME_OFFSET, 'register': register_at(a, i) + 1, 'block': block_at(a, i) + 4}[kind]
+    b = b'' if name == '-' else bytes.fromhex(name)
+    return {k: len(b), **{k + 1 + i: c for i, c in enumerate(b[:64].ljust(64, b'\0'))}}
+
+
 def gaps(lines):
     """Where cells that are not needed begin and end."""
     out, at = [], 0

@@ -1,15 +1,10 @@
-"""Outside vectors of A1: each text read, its table checked and written, also with names taken away or changed and translated; what is written is read
+"""The outside vectors of A1's writer: each text read, its table checked and written, also with names taken away or changed and translated; what is written is read
 back and written again."""
-from .layout import NAME_OFFSET, block_at, function_at, register_at
 from .parsing import parse
 from .programs import dump, translation
-from .script import PAGE, Script
-from .tables import cells
+from .script import PAGE
+from .tables import cells, name_cells
 from .writing import written
-
-# Short ones of each of the ten kinds, by number mod 10.
-CHOSEN = (10, 20, 60, 70, 80, 120, 41, 61, 81, 121, 131, 2, 12, 62, 82, 112, 132, 53, 23, 84, 124, 125, 76, 116, 77, 37, 78, 88, 98, 108, 118, 128,
-          9, 19, 29, 39, 49, 59, 69, 79, 89, 99, 109, 119, 129)
 
 
 class Lines:
@@ -27,14 +22,6 @@ class Lines:
 
     def more(self):
         return self.at < len(self.data)
-
-
-def name_cells(kind, function, index, name):
-    """A name's length cell and those of its bytes, as many as there is room for."""
-    a, i = function_at(int(function)), int(index)
-    k = {'function': a + NAME_OFFSET, 'register': register_at(a, i) + 1, 'block': block_at(a, i) + 4}[kind]
-    b = b'' if name == '-' else bytes.fromhex(name)
-    return {k: len(b), **{k + 1 + i: c for i, c in enumerate(b[:64].ljust(64, b'\0'))}}
 
 
 class Vector:
@@ -115,11 +102,3 @@ def vector(script, name, text, data):
             script.translate(f' translation.{rest[0]} ', int(rest[0]), {}, rest[2:4])
             v.translated = None
     v.back()
-
-
-def vectors_written(bytes_of):
-    script = Script()
-    for i in CHOSEN:
-        name = f'{i:04d}'
-        vector(script, name, bytes_of(f'requests/a1/{name}.ial'), bytes_of(f'requests/a1/{name}.expect'))
-    return script

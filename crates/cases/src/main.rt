@@ -34,7 +34,11 @@ fn main() {
     script(b"sizes.case");
     script(b"texts.case");
     script(b"faults.case");
+    script(b"names.case");
     script(b"texts_written.case");
     script(b"limits_written.case");
-    script(b"vectors_written.case");
+    script(b"vectors_named_0.case");
+    script(b"vectors_named_1.case");
+    script(b"vectors_written_0.case");
+    script(b"vectors_written_1.case");
 }

@@ -10,10 +10,10 @@ use Rattle.laws.specs.Lists.{any, all, below, same, position}
 use Rattle.laws.proofs.Indexing.{length-below}
 use Rattle.laws.proofs.Positions.{any-position, same-sym}
 use Rattle.laws.proofs.Ranges.{any-below-suc}
-use Rattle.language.specs.Names.{spelled}
+use Rattle.language.specs.Names.{spellable}
 use Rattle.language.specs.Table.{nameAt, functionAt, functionName, registerCount, blockCount}
 use Rattle.language.specs.Table.{blockLength, blockNamesOffset, functionLength, functionNamesOffset, registerLength, registerNamesOffset}
-use Rattle.language.specs.Checking.{spelledOrNone, distinct}
+use Rattle.language.specs.Checking.{spellableOrNone, distinct}
 use Rattle.table.specs.Named.{isNamed, firstNamed}
 use Rattle.name_index.specs.Names.{namesIn}
 use Rattle.checker.specs.Parts.{tableNamesBefore, listedRight, allNamesRight}
@@ -39,20 +39,20 @@ named-before t n i =
 -- ---- all of them
 
 module _ (t : List ℕ) (at stride n : ℕ) where
-  pub listed-wrong : all spelledOrNone (namesIn t at stride n) ≡ false → false ≡ listedRight t at stride n
+  pub listed-wrong : all spellableOrNone (namesIn t at stride n) ≡ false → false ≡ listedRight t at stride n
   unfolding listedRight
   listed-wrong e = rw e
 
-  pub listed-spelled : all spelledOrNone (namesIn t at stride n) ≡ true → distinct (namesIn t at stride n) ≡ listedRight t at stride n
+  pub listed-spellable : all spellableOrNone (namesIn t at stride n) ≡ true → distinct (namesIn t at stride n) ≡ listedRight t at stride n
   unfolding listedRight
-  listed-spelled e = rw e
+  listed-spellable e = rw e
 
 module _ (t : List ℕ) (i a : ℕ) where
-  pub own-wrong : spelled (functionName t a) ≡ false → false ≡ allNamesRight t i a
+  pub own-wrong : spellable (functionName t a) ≡ false → false ≡ allNamesRight t i a
   unfolding allNamesRight
   own-wrong e = rw e
 
-  module _ (own : spelled (functionName t a) ≡ true) where
+  module _ (own : spellable (functionName t a) ≡ true) where
     pub own-twice : any (same (functionName t a)) (tableNamesBefore t i) ≡ true → false ≡ allNamesRight t i a
     unfolding allNamesRight
     own-twice e = rw (own, e)

@@ -14,10 +14,10 @@ use Rattle.laws.proofs.Every.{every-all, every-below-at}
 use Rattle.laws.proofs.Tests.{both-ways}
 use Rattle.language.specs.Instructions.{typeCount, void}
 use Rattle.language.specs.Programs.{isSsa, blockAt, rowsOf, maxRegisters, maxBlocks, maxRows, maxEntries}
-use Rattle.language.specs.Names.{spelled}
+use Rattle.language.specs.Names.{spellable}
 use Rattle.language.specs.Table.{functionEntry, functionName, functionParams, functionSsa, functionResult, registerCount, registerName, blockCount, blockName, rowCount, entriesBefore, blocksPlaced, phisPlaced, predecessorsKept, decodeRegister, decodeBlock, decodeRow, decodeFunction}
 use Rattle.language.specs.Table.{InTable}
-use Rattle.language.specs.Checking.{inRange, spelledOrNone, distinct, sound}
+use Rattle.language.specs.Checking.{inRange, spellableOrNone, distinct, sound}
 use Rattle.theorems.proofs.AcceptanceCheck.{sound-parts, sound-apart, parts-sound-among}
 use Rattle.language.proofs.TableView.{register-count, block-count, block-is, rows-count, sequence-rows, sequence-entries}
 use Rattle.flow.specs.Sized.{Sized, Preparable}
@@ -32,8 +32,8 @@ use Rattle.checker.specs.Parts.{tableNamesBefore, headRight, typesRight,
 moved : {a b : Bool} → a ≡ b → T b → T a
 moved e h = rw e h
 
-spelled-names : {A : Type 0} (name : A → List ℕ) (xs : List A) {ns : List (List ℕ)} → map name xs ≡ ns → all (λ x. spelledOrNone (name x)) xs ≡ all spelledOrNone ns
-spelled-names name xs e = sym (all-map spelledOrNone name xs) ∙ ap (all spelledOrNone) e
+spellable-names : {A : Type 0} (name : A → List ℕ) (xs : List A) {ns : List (List ℕ)} → map name xs ≡ ns → all (λ x. spellableOrNone (name x)) xs ≡ all spellableOrNone ns
+spellable-names name xs e = sym (all-map spellableOrNone name xs) ∙ ap (all spellableOrNone) e
 
 module _ (t : List ℕ) (a : ℕ) where
   -- ---- each part of a program and of the cells
@@ -78,10 +78,10 @@ module _ (t : List ℕ) (a : ℕ) where
       pub entries : entriesBefore t a (rowCount t a) ≤ maxEntries
       pub ranges : T (all (λ k. inRange (decodeFunction t a) (decodeRow t a k)) (below (rowCount t a)))
       pub lists : T (predecessorsKept t a)
-      pub name : T (spelled (functionName t a))
+      pub name : T (spellable (functionName t a))
       pub apart : T (not (any (same (functionName t a)) (tableNamesBefore t i)))
-      pub registerNames : T (all spelledOrNone (map (registerName t a) (below (registerCount t a))))
-      pub blockNames : T (all spelledOrNone (map (blockName t a) (below (blockCount t a))))
+      pub registerNames : T (all spellableOrNone (map (registerName t a) (below (registerCount t a))))
+      pub blockNames : T (all spellableOrNone (map (blockName t a) (below (blockCount t a))))
       pub registersDistinct : T (distinct (map (registerName t a) (below (registerCount t a))))
       pub blocksDistinct : T (distinct (map (blockName t a) (below (blockCount t a))))
 
@@ -119,8 +119,8 @@ module _ (t : List ℕ) (a : ℕ) where
           lists = and-r (phisPlaced t a) (predecessorsKept t a) others;
           name = p .name;
           apart = sound-apart (tableNamesBefore t i) f h;
-          registerNames = moved (sym (spelled-names (λ r. r .name) (f .registers) register-names)) (p .registerNames);
-          blockNames = moved (sym (spelled-names (λ b. b .name) (f .blocks) block-names)) (p .blockNames);
+          registerNames = moved (sym (spellable-names (λ r. r .name) (f .registers) register-names)) (p .registerNames);
+          blockNames = moved (sym (spellable-names (λ b. b .name) (f .blocks) block-names)) (p .blockNames);
           registersDistinct = moved (sym (ap distinct register-names)) (p .registersDistinct);
           blocksDistinct = moved (sym (ap distinct block-names)) (p .blocksDistinct);
         }
@@ -150,8 +150,8 @@ module _ (t : List ℕ) (a : ℕ) where
           entry = omega (arith, block-count t a);
           unnamed = moved (entry-name (h .entry)) (h .unnamed);
           name = h .name;
-          registerNames = moved (spelled-names (λ r. r .name) (f .registers) register-names) (h .registerNames);
-          blockNames = moved (spelled-names (λ b. b .name) (f .blocks) block-names) (h .blockNames);
+          registerNames = moved (spellable-names (λ r. r .name) (f .registers) register-names) (h .registerNames);
+          blockNames = moved (spellable-names (λ b. b .name) (f .blocks) block-names) (h .blockNames);
           registersDistinct = moved (ap distinct register-names) (h .registersDistinct);
           blocksDistinct = moved (ap distinct block-names) (h .blocksDistinct);
         })

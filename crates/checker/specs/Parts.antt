@@ -7,10 +7,10 @@ use lib.Dec.{eqb, leb, ltb}
 use Rattle.laws.specs.Lists.{any, all, below, empty, same}
 use Rattle.language.specs.Instructions.{typeCount, void, phiOp}
 use Rattle.language.specs.Programs.{maxRegisters, maxBlocks, maxRows, maxEntries}
-use Rattle.language.specs.Names.{spelled}
+use Rattle.language.specs.Names.{spellable}
 use Rattle.language.specs.Table.{functionAt, functionSsa, functionResult, functionParams, registerCount, blockCount, functionEntry, functionName, registerType, blockName, rowOp, phiFirst, phiCount, rowCount, entriesBefore, blocksPlaced, phisPlaced, predecessorsKept, decodeRow, decodeFunction}
 use Rattle.language.specs.Table.{blockLength, blockNamesOffset, registerLength, registerNamesOffset}
-use Rattle.language.specs.Checking.{inRange, spelledOrNone, distinct}
+use Rattle.language.specs.Checking.{inRange, spellableOrNone, distinct}
 use Rattle.name_index.specs.Names.{namesIn}
 
 -- The names of the functions before number i, the last first.
@@ -53,12 +53,12 @@ rowsRight t a =
 
 -- Names that stand `stride` apart from cell `at` on: each is none or one that a text can spell, and none stands twice.
 unfoldable pub listedRight : List ℕ → ℕ → ℕ → ℕ → Bool
-listedRight t at stride count = all spelledOrNone (namesIn t at stride count) && distinct (namesIn t at stride count)
+listedRight t at stride count = all spellableOrNone (namesIn t at stride count) && distinct (namesIn t at stride count)
 
 -- The names of the function, its registers and its blocks.
 unfoldable pub allNamesRight : List ℕ → ℕ → ℕ → Bool
 allNamesRight t i a =
-    spelled (functionName t a)
+    spellable (functionName t a)
     && (not (any (same (functionName t a)) (tableNamesBefore t i))
     && (listedRight t (a + registerNamesOffset) registerLength (registerCount t a) && listedRight t (a + blockNamesOffset) blockLength (blockCount t a)))
 

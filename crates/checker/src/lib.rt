@@ -8,7 +8,6 @@ ghost use Rattle.language.specs.Programs.{isSsa, maxFunctions};
 ghost use Rattle.language.specs.Table.{functionAt, rowCount, decodeFunction, tableLength};
 ghost use Rattle.language.specs.Checking.{breaks17, rowsThat, firstFault, judge};
 ghost use Rattle.language.specs.Answers.{checkAnswer};
-ghost use Rattle.vocabulary.specs.Classes.{classTable};
 ghost use Rattle.flow.specs.Layout.{flowLength};
 ghost use Rattle.flow.specs.Sized.{Sized};
 ghost use Rattle.rules.specs.Cells.{SsaPrepared};
@@ -51,12 +50,12 @@ fn check_paths(t: &[u8], i: usize, a: usize, m: &[u16], rows: usize) -> Verdict
 }
 
 // Function i, from 9 to 17.
-fn check_function(t: &[u8], i: usize, classes: &[u8; 256], m: &mut [u16]) -> Verdict
-    requires { ⌜ (length (now t) ≡ tableLength) × (i < maxFunctions) × (now classes ≡ classTable) × (length (now m) ≡ flowLength) ⌝ }
+fn check_function(t: &[u8], i: usize, m: &mut [u16]) -> Verdict
+    requires { ⌜ (length (now t) ≡ tableLength) × (i < maxFunctions) × (length (now m) ≡ flowLength) ⌝ }
     ensures { λ r. ⌜ verdictOf r ≡ judge (tableNamesBefore (now (t .entry)) i) i (decodeFunction (now (t .entry)) (functionAt i)) ⌝ }
 {
     let a = function_at(i);
-    let rows = sound_rows(t, i, a, classes);
+    let rows = sound_rows(t, i, a);
     if MAX_ROWS < rows {
         return Verdict::Refused(9, i);
     }
@@ -79,11 +78,10 @@ pub fn check_table(t: &[u8]) -> Verdict
     if MAX_FUNCTIONS < n {
         return Verdict::Refused(9, 0);
     }
-    let classes = vocabulary::classes();
     let mut m = [0u16; FLOW_LENGTH];
     let mut i = 0;
     while i < n {
-        let Verdict::Refused(k, p) = check_function(t, i, &classes, &mut m) else {
+        let Verdict::Refused(k, p) = check_function(t, i, &mut m) else {
             i += 1;
             continue;
         };

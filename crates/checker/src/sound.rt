@@ -4,7 +4,6 @@ ghost use Prim.Native.Nat.{_<_, _≤_};
 ghost use lib.ListN.{length};
 ghost use Rattle.laws.specs.Lists.{any, same};
 ghost use Rattle.language.specs.Table.{registerCount, blockCount, functionName, rowCount, InTable, tableLength};
-ghost use Rattle.vocabulary.specs.Classes.{classTable};
 ghost use Rattle.checker.specs.Parts.{tableNamesBefore, headRight, typesRight, placedRows, entriesAfter, rowsRight, listedRight, allNamesRight, soundRows};
 ghost use Rattle.language.specs.Programs.{maxRows, maxBlocks, maxRegisters, maxFunctions};
 ghost use Rattle.table.specs.Named.{NamesWithin};
@@ -12,9 +11,9 @@ use instructions::ops;
 use instructions::types;
 use predecessors::predecessors_kept;
 use rules::in_range;
-use spelling::all_spelled;
+use spelling::all_spellable;
 use spelling::distinct_names;
-use spelling::spelled;
+use spelling::spellable;
 use table::BLOCK_LENGTH;
 use table::BLOCK_NAMES_OFFSET;
 use table::FUNCTION_LENGTH;
@@ -152,50 +151,37 @@ fn named_before(t: &[u8], i: usize, a: usize) -> bool
 }
 
 // Names that stand `stride` apart from cell `at` on: each is none or one that a text can spell, and none stands twice.
-fn listed_right(t: &[u8], at: usize, stride: usize, count: usize, classes: &[u8; 256]) -> bool
-    requires { ⌜ NamesWithin (now t) at stride count × (count ≤ maxRegisters) × (now classes ≡ classTable) ⌝ }
+fn listed_right(t: &[u8], at: usize, stride: usize, count: usize) -> bool
+    requires { ⌜ NamesWithin (now t) at stride count × (count ≤ maxRegisters) ⌝ }
     ensures { λ r. ⌜ r ≡ listedRight (now (t .entry)) at stride count ⌝ }
 {
-    if !all_spelled(t, at, stride, count, classes) {
+    if !all_spellable(t, at, stride, count) {
         return false;
     }
     distinct_names(t, at, stride, count)
 }
 
 // The names of the function, its registers and its blocks.
-fn names_right(
-    t: &[u8],
-    i: usize,
-    a: usize,
-    registers: usize,
-    blocks: usize,
-    classes: &[u8; 256],
-) -> bool
-    requires { ⌜ (length (now t) ≡ tableLength) × (i < maxFunctions) × (InTable (now t) a) × (now classes ≡ classTable) ⌝ }
+fn names_right(t: &[u8], i: usize, a: usize, registers: usize, blocks: usize) -> bool
+    requires { ⌜ (length (now t) ≡ tableLength) × (i < maxFunctions) × (InTable (now t) a) ⌝ }
     requires { ⌜ (registers ≡ registerCount (now t) a) × (registers ≤ maxRegisters) × (blocks ≡ blockCount (now t) a) × (blocks ≤ maxBlocks) ⌝ }
     ensures { λ r. ⌜ r ≡ allNamesRight (now (t .entry)) i a ⌝ }
 {
-    if !spelled(function_name(t, a), classes) {
+    if !spellable(function_name(t, a)) {
         return false;
     }
     if named_before(t, i, a) {
         return false;
     }
-    if !listed_right(
-        t,
-        a + REGISTER_NAMES_OFFSET,
-        REGISTER_LENGTH,
-        registers,
-        classes,
-    ) {
+    if !listed_right(t, a + REGISTER_NAMES_OFFSET, REGISTER_LENGTH, registers) {
         return false;
     }
-    listed_right(t, a + BLOCK_NAMES_OFFSET, BLOCK_LENGTH, blocks, classes)
+    listed_right(t, a + BLOCK_NAMES_OFFSET, BLOCK_LENGTH, blocks)
 }
 
 // How many rows the function has, if 9 does not hold of it; else one more than it may have.
-pub fn sound_rows(t: &[u8], i: usize, a: usize, classes: &[u8; 256]) -> usize
-    requires { ⌜ (length (now t) ≡ tableLength) × (i < maxFunctions) × (InTable (now t) a) × (now classes ≡ classTable) ⌝ }
+pub fn sound_rows(t: &[u8], i: usize, a: usize) -> usize
+    requires { ⌜ (length (now t) ≡ tableLength) × (i < maxFunctions) × (InTable (now t) a) ⌝ }
     ensures { λ r. ⌜ r ≡ soundRows (now (t .entry)) i a ⌝ }
 {
     if !head_right(t, a) {
@@ -216,7 +202,7 @@ pub fn sound_rows(t: &[u8], i: usize, a: usize, classes: &[u8; 256]) -> usize
     if !predecessors_kept(t, a, blocks) {
         return MAX_ROWS + 1;
     }
-    if !names_right(t, i, a, registers, blocks, classes) {
+    if !names_right(t, i, a, registers, blocks) {
         return MAX_ROWS + 1;
     }
     rows

@@ -8,7 +8,7 @@ use lib.ListN.{length, getD, replicate}
 use Rattle.laws.specs.Lists.{all, any, keep, from, below, member, same, gather}
 use Rattle.language.specs.Bytes.{bytesOf, classOf, classNumber, hexByte, hexValue}
 use Rattle.language.specs.Words.{words, wordOf, wordCount}
-use Rattle.language.specs.Names.{spelled}
+use Rattle.language.specs.Names.{unquoted, slashLast, spellable, plainName, escaped, spelling}
 
 -- The bytes of each class, by its number: "letter or `.` or `_`; digit; space (space, tab, CR, LF); quote; sign; slash; mark
 -- (`{ } ( ) , ; =`); other".
@@ -43,25 +43,36 @@ word-numbers : map wordOf words ≡ below wordCount
 unfolding words wordOf
 word-numbers = refl
 
-names : List String
-names = "a" ∷ "_.9" ∷ ".5" ∷ "'a'" ∷ "'\\''" ∷ "'a\\'b'" ∷ "'entry'" ∷ "entrys" ∷ "Entry" ∷ "' '" ∷ "'//'" ∷ "'a\\\\b'" ∷ "load.f32" ∷ []
+-- contents, and below each how it is spelled
+contents : List String
+contents =
+    "a" ∷ "_.9" ∷ ".5" ∷ "entrys" ∷ "Entry" ∷ "load.f32" ∷ "entry" ∷ "jump.cond" ∷ "9a" ∷ "a b" ∷ "//" ∷ "\n" ∷ "'" ∷ "a'b" ∷ "'a'" ∷ "\\x" ∷ "a\\'" ∷ "\\\\b" ∷ []
 
-no-names : List String
-no-names = "" ∷ "9a" ∷ "a b" ∷ "a'b'" ∷ "'" ∷ "''" ∷ "'\\'" ∷ "'a\\'" ∷ "'a'b'" ∷ "'a'b" ∷ "'a" ∷ "'a\\\\'" ∷ "entry" ∷ "uint" ∷ "jump.cond" ∷ []
+as-spelled : List String
+as-spelled =
+    "a" ∷ "_.9" ∷ ".5" ∷ "entrys" ∷ "Entry" ∷ "load.f32" ∷ "'entry'" ∷ "'jump.cond'" ∷ "'9a'" ∷ "'a b'" ∷ "'//'" ∷ "'\n'" ∷ "'\\''" ∷ "'a\\'b'" ∷ "'\\'a\\''" ∷ "'\\x'" ∷ "'a\\\\''" ∷ "'\\\\b'" ∷ []
 
-spelled-names : all (λ n. spelled (bytesOf n)) names ≡ true
-unfolding names spelled wordOf words classOf
-spelled-names = refl
+all-spelled : map (λ n. spelling (bytesOf n)) contents ≡ map bytesOf as-spelled
+unfolding contents as-spelled spelling plainName escaped wordOf words classOf
+all-spelled = refl
 
-unspelled-names : any (λ n. spelled (bytesOf n)) no-names ≡ false
-unfolding no-names spelled wordOf words classOf
-unspelled-names = refl
+all-spellable : all (λ n. spellable (bytesOf n)) contents ≡ true
+unfolding contents spellable slashLast
+all-spellable = refl
 
--- "A name has 1 to 64 bytes so counted", and a byte is below 256
-longest-name : map (λ n. spelled (replicate n 97)) (0 ∷ 1 ∷ 64 ∷ 65 ∷ []) ≡ false ∷ true ∷ true ∷ false ∷ []
-unfolding spelled wordOf words classOf
+no-contents : any (λ n. spellable (bytesOf n)) ("" ∷ "\\" ∷ "a\\" ∷ "'\\" ∷ "a\\\\" ∷ []) ≡ false
+unfolding spellable slashLast
+no-contents = refl
+
+-- "no outer quotes, and each backslash directly before a quote is dropped"
+without-quotes : map (λ n. unquoted (bytesOf n)) ("a" ∷ "\\'" ∷ "a\\'b" ∷ "\\x" ∷ "\\\\'" ∷ "\\'\\'" ∷ []) ≡ map bytesOf ("a" ∷ "'" ∷ "a'b" ∷ "\\x" ∷ "\\'" ∷ "''" ∷ [])
+without-quotes = refl
+
+-- "1 to 64 bytes", and a byte is below 256
+longest-name : map (λ n. spellable (replicate n 39)) (0 ∷ 1 ∷ 64 ∷ 65 ∷ []) ≡ false ∷ true ∷ true ∷ false ∷ []
+unfolding spellable slashLast
 longest-name = refl
 
-bytes-alone : map (λ b. spelled (39 ∷ b ∷ 39 ∷ [])) (0 ∷ 255 ∷ 256 ∷ []) ≡ true ∷ true ∷ false ∷ []
-unfolding spelled wordOf words classOf
+bytes-alone : map (λ b. spellable (b ∷ [])) (0 ∷ 91 ∷ 92 ∷ 255 ∷ 256 ∷ []) ≡ true ∷ true ∷ false ∷ true ∷ false ∷ []
+unfolding spellable slashLast
 bytes-alone = refl

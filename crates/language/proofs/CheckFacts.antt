@@ -37,10 +37,10 @@ registerNamed n = withNames (record { type = 4; name = n } ∷ []) (plainBlocks 
 abbrev accepts : List Case
 accepts =
     fine [] ∷ fine (leaving stop ∷ [])
-    -- a name of no bytes is compared with nothing; a quoted word is a name
+    -- a name of no bytes is compared with nothing; contents may be a word's letters, or a quote alone
     ∷ fine (withNames (plainRegisters (4 ∷ 4 ∷ [])) (plainBlocks (stop ∷ stop ∷ [])) ∷ [])
-    ∷ fine (registerNamed (bytesOf "'entry'") ∷ [])
-    ∷ fine (registerNamed (bytesOf "'\\''") ∷ [])
+    ∷ fine (registerNamed (bytesOf "entry") ∷ [])
+    ∷ fine (registerNamed (bytesOf "'") ∷ [])
     ∷ []
 
 -- 9, placed at the function
@@ -70,13 +70,14 @@ ranges =
 abbrev names : List Case
 names =
     one (named "" 0 void 0 [] (stop ∷ [])) 9 0
-    ∷ one (named "jump" 0 void 0 [] (stop ∷ [])) 9 0
-    ∷ one (registerNamed (bytesOf "1a")) 9 0
-    ∷ one (registerNamed (bytesOf "''")) 9 0
-    ∷ one (registerNamed (bytesOf "'a\\'")) 9 0
-    ∷ one (registerNamed (bytesOf "'a'b'")) 9 0
+    ∷ one (named "a\\" 0 void 0 [] (stop ∷ [])) 9 0
+    ∷ one (registerNamed (bytesOf "\\")) 9 0
+    ∷ one (registerNamed (bytesOf "'a\\")) 9 0
     ∷ one (registerNamed (replicate 65 97)) 9 0
     ∷ fine (registerNamed (replicate 64 97) ∷ [])
+    ∷ fine (registerNamed (bytesOf "1a") ∷ [])
+    ∷ fine (registerNamed (bytesOf "''") ∷ [])
+    ∷ fine (registerNamed (bytesOf "\\'\n\0 b") ∷ [])
     ∷ one (withNames (record { type = 4; name = bytesOf "a" } ∷ record { type = 4; name = bytesOf "a" } ∷ []) (plainBlocks (stop ∷ []))) 9 0
     ∷ record { program = leaving stop ∷ leaving stop ∷ []; verdict = Verdict.refused 9 1 }
     ∷ []

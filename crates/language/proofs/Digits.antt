@@ -1,14 +1,18 @@
--- The digits of a number, one by one: what they stand for, and how many they are. Assumes nothing.
+-- The digits of a number, one by one: what they stand for, how many they are, and that each is a byte and a name character. Assumes nothing.
 use mathlib.Core.Bool.{Bool, true, false}
 use mathlib.Core.List.{List, [], _∷_, _++_, foldl, foldl-append}
 use mathlib.Core.Path.{_≡_, refl, sym, _∙_, ap}
 use Prim.Native.Nat.{ℕ, zero, suc, _+_, _-_, _*_, _/_, _%_, _^_, _≤_, _<_}
-use native.Mathlib.Nat.{div-add-mod, div-lt-self, div-lt-iff-lt-mul}
+use native.Mathlib.Nat.{div-add-mod, div-lt-self, div-lt-iff-lt-mul, mod-lt}
 use native.Mathlib.Omega.{arith}
-use lib.Dec.{ltb, lit<}
+use lib.Dec.{T, ltb, lit<}
 use lib.ListN.{length, length-append}
 use borrow.Author.Tests.{ltb-true, ltb-false}
-use Rattle.language.specs.Bytes.{digitZero}
+use Rattle.laws.specs.Lists.{all}
+use Rattle.laws.specs.Sections.{Bytes}
+use Rattle.laws.proofs.Appending.{all-append}
+use Rattle.laws.proofs.Sections.{bytes-append}
+use Rattle.language.specs.Bytes.{Class, classOf, nameByte, digitZero}
 use Rattle.language.specs.Listing.{digits, digitsWithin}
 
 -- The number that digits stand for.
@@ -60,3 +64,35 @@ digits-short m n h = digits-by (λ n ds. (m : ℕ) → n < 10 ^ suc m → length
         let tenth : n / 10 < 10 ^ suc m = div-lt-iff-lt-mul (lit< tt) .1 (omega arith) in
         let r = ih m tenth in
         simp length-append (omega arith)
+
+-- ---- each of them
+
+pub digit-class : (d : ℕ) → d < 10 → classOf (digitZero + d) ≡ Class.digit
+unfolding classOf
+digit-class zero h = refl
+digit-class (suc zero) h = refl
+digit-class (suc (suc zero)) h = refl
+digit-class (suc (suc (suc zero))) h = refl
+digit-class (suc (suc (suc (suc zero)))) h = refl
+digit-class (suc (suc (suc (suc (suc zero))))) h = refl
+digit-class (suc (suc (suc (suc (suc (suc zero)))))) h = refl
+digit-class (suc (suc (suc (suc (suc (suc (suc zero))))))) h = refl
+digit-class (suc (suc (suc (suc (suc (suc (suc (suc zero)))))))) h = refl
+digit-class (suc (suc (suc (suc (suc (suc (suc (suc (suc zero))))))))) h = refl
+digit-class (suc (suc (suc (suc (suc (suc (suc (suc (suc (suc d)))))))))) h = absurd (omega arith)
+
+pub digits-bytes : (n : ℕ) → Bytes (digits n)
+digits-bytes =
+    digits-by (λ n ds. Bytes ds) one
+    (λ n ds h k. bytes-append ds ((digitZero + n % 10) ∷ []) k (one (n % 10) (mod-lt n (lit< tt))))
+  where
+    one : (d : ℕ) → d < 10 → Bytes ((digitZero + d) ∷ [])
+    one d h = (omega arith, tt)
+
+pub digits-in-name : (n : ℕ) → T (all nameByte (digits n))
+digits-in-name =
+    digits-by (λ n ds. T (all nameByte ds)) one
+    (λ n ds h t. all-append nameByte ds ((digitZero + n % 10) ∷ []) t (one (n % 10) (mod-lt n (lit< tt))))
+  where
+    one : (d : ℕ) → d < 10 → T (all nameByte ((digitZero + d) ∷ []))
+    one d h = rw (digit-class d h) tt

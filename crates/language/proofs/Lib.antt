@@ -17,7 +17,9 @@ pub mod FirstRefusal
 pub mod Stages
 pub mod Rooms
 pub mod Refusals
+pub mod TokenSteps
 pub mod NameLaws
+pub mod NamesLexed
 pub mod SpelledNames
 pub mod TableFacts
 pub mod Paths

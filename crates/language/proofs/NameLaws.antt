@@ -1,57 +1,53 @@
--- Every name that the lexer finds is spelled: what it keeps of a name so far is what `spell` makes of the same bytes.
--- Assumes nothing.
-use mathlib.Core.Bool.{Bool, true, false, cond, and-true}
-use mathlib.Core.List.{List, [], _∷_, _++_, foldl, foldl-append}
-use mathlib.Core.Path.{_≡_, refl, _∙_, ap, subst, subst⁻¹}
-use Prim.Native.Nat.{ℕ, _≤_, _<_}
+-- Every name that the lexer finds is spellable: what it keeps of a name so far has at most 64 bytes, and a backslash that came last waits
+-- outside. Assumes nothing.
+use mathlib.Core.Bool.{Bool, true, false, cond}
+use mathlib.Core.List.{List, [], _∷_, _++_, foldl, append-assoc}
+use mathlib.Core.Path.{_≡_, refl, sym, _∙_, ap, subst, subst⁻¹}
+use Prim.Native.Nat.{ℕ, _+_, _-_, _≤_, _<_}
 use native.Mathlib.Omega.{arith}
-use lib.Dec.{T, eqb, ltb, lit≤, eqb→eq}
-use lib.ListN.{length, length-append}
+use lib.Dec.{T, eqb, ltb, leb, lit≤, lit<, leb→le}
+use lib.ListN.{length, getD, length-append}
+use lib.Seq.{getD-append-add}
 use mir.Facts.{yes-and}
-use borrow.Author.Tests.{ltb-true, lt-ltb, le-leb, eqb-true, eq-eqb, ne-eqb}
-use Rattle.laws.specs.Lists.{all}
+use borrow.Author.Tests.{lt-ltb, le-leb, eqb-true, eq-eqb, ne-eqb}
+use Rattle.laws.specs.Lists.{all, empty}
 use Rattle.laws.specs.Sections.{Bytes}
 use Rattle.laws.proofs.Appending.{all-append}
-use Rattle.laws.proofs.Branches.{cond-same}
 use Rattle.language.specs.Bytes.{Class, classOf, nameByte, digitByte, hexByte, quoteByte, backslash, slashByte, lineFeed, letterX, digitZero}
-use Rattle.language.specs.Words.{words, wordOf, wordCount}
-use Rattle.language.specs.Names.{Spelling, spell, nextSpelled, firstSpelled, insideQuotes, whole, spelled}
+use Rattle.language.specs.Words.{wordOf, wordCount}
+use Rattle.language.specs.Names.{slashLast, spellable}
 use Rattle.language.specs.Programs.{maxName}
-use Rattle.language.specs.Tokens.{Token, Found, token, stray, Mode, Lexer, Lexed, lexer₀, quiet, finds, begun, longerName, spoils, digitMode, begin, beginAs, nameOrWord, ended, endedAs, ends, extends, quotes, closes, endsNumber, decimalDigit, hexadecimalDigit, stepAs, lexStep, lexEnd, lexMore, tokensFrom, tokensOf}
+use Rattle.language.specs.Tokens.{Token, Found, token, stray, Mode, Lexer, Lexed, lexer₀, quiet, finds, begun, longerName, waitingName, spoils, digitMode, begin, beginAs, nameOrWord, ended, endedAs, ends, extends, quotes, escapes, closes, endsNumber, decimalDigit, hexadecimalDigit, stepAs, lexStep, lexEnd, lexMore, tokensFrom, tokensOf}
 
--- What is found is no name, or one that is spelled.
-abbrev pub isSpelled : Found → Bool
-isSpelled (token p (Token.name n)) = spelled n
-isSpelled (token p (Token.word w)) = true
-isSpelled (token p (Token.number s v)) = true
-isSpelled (token p (Token.mark b)) = true
-isSpelled (token p Token.end) = true
-isSpelled (stray p) = true
+-- What is found is no name, or one that a text can spell.
+abbrev pub isSpellable : Found → Bool
+isSpellable (token p (Token.name n)) = spellable n
+isSpellable (token p (Token.word w)) = true
+isSpellable (token p (Token.number s v)) = true
+isSpellable (token p (Token.mark b)) = true
+isSpellable (token p Token.end) = true
+isSpellable (stray p) = true
 
-abbrev spelling : List ℕ → Spelling
-spelling n = foldl spell Spelling.none n
+abbrev isByte : ℕ → Bool
+isByte b = ltb b 256
 
--- The bytes kept spell a name as far as s, and are not too many.
-record KeptName (s : Spelling) (n : List ℕ) : Type 0 where
-  spells : spelling n ≡ s
+-- Contents so far, after which a name may end.
+record Kept (n : List ℕ) : Type 0 where
   fits : length n ≤ maxName
+  last : slashLast n ≡ false
+  bytes : T (all isByte n)
 
--- They begin with a quote.
-record Quoted (s : Spelling) (n : List ℕ) : Type 0 where
-  kept : KeptName s n
-  rest : List ℕ
-  opened : n ≡ quoteByte ∷ rest
-
--- In quotes, after the opening one alone or further on.
-abbrev within : List ℕ → Spelling
-within n = cond (eqb (length n) 1) Spelling.opened Spelling.inside
+-- Contents so far, with a backslash that waits outside.
+record Waits (n : List ℕ) : Type 0 where
+  fits : length n ≤ maxName
+  bytes : T (all isByte n)
 
 -- What each mode keeps.
 abbrev Keeps : Mode → List ℕ → Type 0
 Keeps Mode.between n = Unit {0}
-Keeps Mode.plain n = KeptName Spelling.plain n
-Keeps Mode.quoted n = Quoted (within n) n
-Keeps Mode.escaping n = Quoted Spelling.escaping n
+Keeps Mode.plain n = Kept n × (1 ≤ length n)
+Keeps Mode.quoted n = Kept n
+Keeps Mode.escaping n = Waits n
 Keeps Mode.slash n = Unit {0}
 Keeps Mode.comment n = Unit {0}
 Keeps Mode.sign n = Unit {0}
@@ -61,70 +57,89 @@ Keeps Mode.prefix n = Unit {0}
 Keeps Mode.hexadecimal n = Unit {0}
 
 record Good (x : Lexed) : Type 0 where
-  names : T (all isSpelled (x .found))
+  names : T (all isSpellable (x .found))
   keeps : Keeps (x .lexer .mode) (x .lexer .bytes)
 
--- the byte of class quote
-abbrev isQuote : Class → Bool
-isQuote Class.letter = false
-isQuote Class.digit = false
-isQuote Class.space = false
-isQuote Class.quote = true
-isQuote Class.sign = false
-isQuote Class.slash = false
-isQuote Class.mark = false
-isQuote Class.other = false
+-- ---- the last byte
 
-cond-test : (t : Bool) → cond t true false ≡ t
-cond-test true = refl
-cond-test false = refl
+pub last-added : (n : List ℕ) (b : ℕ) → slashLast (n ++ (b ∷ [])) ≡ eqb b backslash
+unfolding slashLast
+last-added n b =
+    let k : length (n ++ (b ∷ [])) - 1 ≡ length n + 0 = simp length-append (omega arith) in
+    ap (λ (i : ℕ). eqb (getD (n ++ (b ∷ [])) i 0) backslash) k ∙ ap (λ (c : ℕ). eqb c backslash) (getD-append-add n (b ∷ []) 0 0)
 
-quote-cond : (t : Bool) (x y : Class) → isQuote (cond t x y) ≡ cond t (isQuote x) (isQuote y)
-quote-cond true x y = refl
-quote-cond false x y = refl
+pub none-last : slashLast [] ≡ false
+unfolding slashLast
+none-last = refl
 
-skip : (t b : Bool) → T (cond t false b) → T b
-skip true b h = absurd h
-skip false b h = h
-
-quote-tests : (b : ℕ) → T (isQuote (classOf b)) → T (eqb b quoteByte)
+slash-no-name : nameByte backslash ≡ false
 unfolding classOf
-quote-tests b h =
-    skip (eqb b 32) _ (skip (eqb b 13) _ (skip (eqb b 10) _ (skip (eqb b 9) _ (simp (quote-cond, cond-same, cond-test) at h))))
+slash-no-name = refl
 
-quote-only : (b : ℕ) → classOf b ≡ Class.quote → b ≡ quoteByte
-quote-only b e = eqb→eq b quoteByte (quote-tests b (subst⁻¹ (λ (c : Class). T (isQuote c)) e tt))
+name-no-slash : (b : ℕ) → nameByte b ≡ true → eqb b backslash ≡ false
+name-no-slash b h = ne-eqb b backslash (λ e. absurd (differ (sym h ∙ ap nameByte e ∙ slash-no-name)))
+  where
+    differ : true ≡ false → ⊥
+    differ e = subst (λ (t : Bool). T t) e tt
 
--- a name that begins with a quote is no word
-quoted-no-word : (n : List ℕ) → wordOf (quoteByte ∷ n) ≡ wordCount
-unfolding wordOf words
-quoted-no-word n = refl
+-- ---- contents with bytes more
 
--- what is kept whole is spelled, if it is no word
-kept-spelled : (s : Spelling) (n : List ℕ) → T (whole s) → KeptName s n → wordOf n ≡ wordCount → T (spelled n)
-unfolding spelled
-kept-spelled s n w k e =
-    let h : spelling n ≡ s = k .spells in
-    rw (h, le-leb (length n) maxName (k .fits), eq-eqb (wordOf n) wordCount e) (simp and-true w)
+byte-yes : (b : ℕ) → b < 256 → T (isByte b)
+byte-yes b h = rw (lt-ltb b 256 h) tt
+
+-- one byte, and two
+module _ (n : List ℕ) (b : ℕ) (h : b < 256) where
+  kept-more : Waits n → length n + 1 ≤ maxName → eqb b backslash ≡ false → Kept (n ++ (b ∷ []))
+  kept-more k f e =
+      record {
+        fits = simp length-append f;
+        last = last-added n b ∙ e;
+        bytes = all-append isByte n (b ∷ []) (k .bytes) (yes-and (isByte b) true (byte-yes b h) tt);
+      }
+
+  waits-more : Waits n → length n + 1 ≤ maxName → Waits (n ++ (b ∷ []))
+  waits-more k f = record { fits = simp length-append f; bytes = all-append isByte n (b ∷ []) (k .bytes) (yes-and (isByte b) true (byte-yes b h) tt) }
+
+kept-waits : {n : List ℕ} → Kept n → Waits n
+kept-waits k = record { fits = k .fits; bytes = k .bytes }
+
+kept-two : (n : List ℕ) (b : ℕ) → b < 256 → Waits n → length n + 2 ≤ maxName → eqb b backslash ≡ false → Kept (n ++ (backslash ∷ b ∷ []))
+kept-two n b h k f e =
+    subst (λ (m : List ℕ). Kept m) (append-assoc n (backslash ∷ []) (b ∷ []))
+    (kept-more (n ++ (backslash ∷ [])) b h (waits-more n backslash (lit< tt) k (omega arith)) (simp length-append (omega arith)) e)
+
+-- what is kept is spellable, if it has a byte
+kept-spellable : (n : List ℕ) → Kept n → (length n ≡ 0 → ⊥) → T (spellable n)
+unfolding spellable
+kept-spellable n k some =
+    rw (none n some, le-leb (length n) maxName (k .fits), k .last) (k .bytes)
+  where
+    none : (n : List ℕ) → (length n ≡ 0 → ⊥) → empty n ≡ false
+    none [] h = absurd (h refl)
+    none (b ∷ n) h = refl
 
 -- ---- a byte that begins something
-
-first-spelled : (b : ℕ) (c : Class) → b < 256 → classOf b ≡ c → spell Spelling.none b ≡ firstSpelled c
-first-spelled b c h e = rw (lt-ltb b 256 h, e)
 
 keeps-digit : (t : Bool) (n : List ℕ) → Keeps (cond t Mode.leadingZero Mode.decimal) n
 keeps-digit true n = tt
 keeps-digit false n = tt
+
+letter-in-name : (b : ℕ) → classOf b ≡ Class.letter → nameByte b ≡ true
+letter-in-name b e = rw e
+
+nothing-kept : Kept []
+nothing-kept = record { fits = lit≤ tt; last = none-last; bytes = tt }
 
 begin-good : (p b : ℕ) → b < 256 → Good (begin p b)
 unfolding begin
 begin-good p b h = by (classOf b) refl
   where
     by : (c : Class) → classOf b ≡ c → Good (beginAs c p b)
-    by Class.letter e = record { names = tt; keeps = record { spells = first-spelled b Class.letter h e; fits = lit≤ tt } }
+    by Class.letter e =
+        record { names = tt; keeps = (kept-more [] b h (kept-waits nothing-kept) (lit≤ tt) (name-no-slash b (letter-in-name b e)), lit≤ tt) }
     by Class.digit e = record { names = tt; keeps = keeps-digit (eqb b digitZero) [] }
     by Class.space e = record { names = tt; keeps = tt }
-    by Class.quote e = record { names = tt; keeps = record { kept = record { spells = first-spelled b Class.quote h e; fits = lit≤ tt }; rest = []; opened = ap (λ (q : ℕ). q ∷ []) (quote-only b e) } }
+    by Class.quote e = record { names = tt; keeps = nothing-kept }
     by Class.sign e = record { names = tt; keeps = tt }
     by Class.slash e = record { names = tt; keeps = tt }
     by Class.mark e = record { names = tt; keeps = tt }
@@ -132,17 +147,17 @@ begin-good p b h = by (classOf b) refl
 
 -- ---- what is open ends
 
-name-or-word : (n : List ℕ) (p : ℕ) → KeptName Spelling.plain n → T (isSpelled (token p (nameOrWord n)))
+name-or-word : (n : List ℕ) (p : ℕ) → Kept n × (1 ≤ length n) → T (isSpellable (token p (nameOrWord n)))
 unfolding nameOrWord
-name-or-word n p k = by (eqb (wordOf n) wordCount) refl
+name-or-word n p k = by (eqb (wordOf n) wordCount)
   where
-    by : (t : Bool) → eqb (wordOf n) wordCount ≡ t → T (isSpelled (token p (cond t (Token.name n) (Token.word (wordOf n)))))
-    by true e = kept-spelled Spelling.plain n tt k (eqb-true (wordOf n) wordCount e)
-    by false e = tt
+    by : (t : Bool) → T (isSpellable (token p (cond t (Token.name n) (Token.word (wordOf n)))))
+    by true = kept-spellable n (k .0) (λ e. absurd (omega (arith, k .1, e)))
+    by false = tt
 
-ended-good : (m : Mode) (l : Lexer) → Keeps m (l .bytes) → T (all isSpelled (endedAs m l))
+ended-good : (m : Mode) (l : Lexer) → Keeps m (l .bytes) → T (all isSpellable (endedAs m l))
 ended-good Mode.between l k = tt
-ended-good Mode.plain l k = yes-and (isSpelled (token (l .start) (nameOrWord (l .bytes)))) true (name-or-word (l .bytes) (l .start) k) tt
+ended-good Mode.plain l k = yes-and (isSpellable (token (l .start) (nameOrWord (l .bytes)))) true (name-or-word (l .bytes) (l .start) k) tt
 ended-good Mode.quoted l k = tt
 ended-good Mode.escaping l k = tt
 ended-good Mode.slash l k = tt
@@ -158,70 +173,56 @@ module _ (l : Lexer) (b : ℕ) (h : b < 256) where
   unfolding ends ended
   ends-good k =
       let g = begin-good (l .next) b h in
-      record { names = all-append isSpelled (endedAs (l .mode) l) (begin (l .next) b .found) (ended-good (l .mode) l k) (g .names); keeps = g .keeps }
+      record { names = all-append isSpellable (endedAs (l .mode) l) (begin (l .next) b .found) (ended-good (l .mode) l k) (g .names); keeps = g .keeps }
 
 -- ---- a byte more of a name
-
--- one byte more spells on
-module _ (n : List ℕ) (b : ℕ) (h : b < 256) where
-  kept-more : (s : Spelling) → KeptName s n → length n < maxName → KeptName (nextSpelled s b) (n ++ (b ∷ []))
-  kept-more s k f =
-      let e : spelling n ≡ s = k .spells in
-      record { spells = foldl-append spell Spelling.none n (b ∷ []) ∙ rw (e, lt-ltb b 256 h); fits = simp length-append (omega arith) }
-
-  quoted-more : (s : Spelling) → Quoted s n → length n < maxName → Quoted (nextSpelled s b) (n ++ (b ∷ []))
-  quoted-more s q f = record { kept = kept-more s (q .kept) f; rest = q .rest ++ (b ∷ []); opened = ap (λ (m : List ℕ). m ++ (b ∷ [])) (q .opened) }
-
--- past the opening quote
-within-more : (n : List ℕ) (b : ℕ) (rest : List ℕ) → n ≡ quoteByte ∷ rest → within (n ++ (b ∷ [])) ≡ Spelling.inside
-within-more n b rest e =
-    rw (e, ne-eqb (length (quoteByte ∷ rest ++ (b ∷ []))) 1 (λ h. absurd (omega (arith, simp length-append at h))))
-
--- a byte in quotes that is no quote
-not-closed : (b : ℕ) (t : Bool) → eqb b quoteByte ≡ false → nextSpelled (cond t Spelling.opened Spelling.inside) b ≡ insideQuotes b
-not-closed b true e = rw e
-not-closed b false e = rw e
 
 spoils-good : (l : Lexer) → Good (spoils l)
 spoils-good l = record { names = tt; keeps = tt }
 
+extends-good : (m : Mode) (l : Lexer) (bs : List ℕ) → (length (l .bytes) + length bs ≤ maxName → Keeps m (l .bytes ++ bs)) → Good (extends m l bs)
+unfolding extends
+extends-good m l bs k = by (leb (length (l .bytes) + length bs) maxName) refl
+  where
+    by : (t : Bool) → leb (length (l .bytes) + length bs) maxName ≡ t → Good (cond t (quiet (longerName m l bs)) (spoils l))
+    by true e = record { names = tt; keeps = k (leb→le (length (l .bytes) + length bs) maxName (subst⁻¹ (λ (t : Bool). T t) e tt)) }
+    by false e = spoils-good l
+
+closes-good : (l : Lexer) → Kept (l .bytes) → Good (closes l)
+unfolding closes
+closes-good l k = by (eqb (length (l .bytes)) 0) refl
+  where
+    by : (t : Bool) → eqb (length (l .bytes)) 0 ≡ t
+        → Good (cond t (spoils l) (finds (token (l .start) (Token.name (l .bytes))) (begun Mode.between (l .next))))
+    by true e = spoils-good l
+    by false e =
+        record { names = yes-and (spellable (l .bytes)) true (kept-spellable (l .bytes) k (λ z. absurd (differ (sym e ∙ eq-eqb (length (l .bytes)) 0 z)))) tt; keeps = tt }
+      where
+        differ : false ≡ true → ⊥
+        differ e = subst⁻¹ (λ (t : Bool). T t) e tt
+
 module _ (l : Lexer) (b : ℕ) (h : b < 256) where
-  extends-good : (m : Mode) → (length (l .bytes) < maxName → Keeps m (l .bytes ++ (b ∷ []))) → Good (extends m l b)
-  unfolding extends
-  extends-good m k = by (ltb (length (l .bytes)) maxName) refl
-    where
-      by : (t : Bool) → ltb (length (l .bytes)) maxName ≡ t → Good (cond t (quiet (longerName m l b)) (spoils l))
-      by true e = record { names = tt; keeps = k (ltb-true (length (l .bytes)) maxName e) }
-      by false e = spoils-good l
-
-  quotes-good : (s : Spelling) → Quoted s (l .bytes) → nextSpelled s b ≡ insideQuotes b → Good (quotes l b)
+  quotes-good : Kept (l .bytes) → Good (quotes l b)
   unfolding quotes
-  quotes-good s q e = by (eqb b backslash) refl
+  quotes-good k = by (eqb b quoteByte) (eqb b backslash) refl
     where
-      more : (r : Spelling) → insideQuotes b ≡ r → length (l .bytes) < maxName → Quoted r (l .bytes ++ (b ∷ []))
-      more r d f = subst (λ (r : Spelling). Quoted r (l .bytes ++ (b ∷ []))) (e ∙ d) (quoted-more (l .bytes) b h s q f)
+      by : (s t : Bool) → eqb b backslash ≡ t → Good (cond s (closes l) (cond t (quiet (waitingName l)) (extends Mode.quoted l (b ∷ []))))
+      by true t e = closes-good l k
+      by false true e = record { names = tt; keeps = kept-waits k }
+      by false false e = extends-good Mode.quoted l (b ∷ []) (λ f. kept-more (l .bytes) b h (kept-waits k) f e)
 
-      by : (t : Bool) → eqb b backslash ≡ t → Good (extends (cond t Mode.escaping Mode.quoted) l b)
-      by true d = extends-good Mode.escaping (more Spelling.escaping (rw d))
-      by false d =
-          extends-good Mode.quoted (more (within (l .bytes ++ (b ∷ []))) (rw (d, within-more (l .bytes) b (q .rest) (q .opened))))
-
-  closes-good : Quoted (within (l .bytes)) (l .bytes) → eqb b quoteByte ≡ true → Good (closes l b)
-  unfolding closes
-  closes-good q e = by (eqb (length n) 1) refl (ltb (length n) maxName) refl
+  escapes-good : Waits (l .bytes) → Good (escapes l b)
+  unfolding escapes
+  escapes-good k = by (eqb b quoteByte) refl (eqb b backslash) refl
     where
-      n : List ℕ
-      n = l .bytes
+      quote-no-slash : eqb b quoteByte ≡ true → eqb b backslash ≡ false
+      quote-no-slash e = rw (eqb-true b quoteByte e)
 
-      by :
-          (t : Bool) → eqb (length n) 1 ≡ t → (u : Bool) → ltb (length n) maxName ≡ u
-          → Good (cond t (spoils l) (cond u (finds (token (l .start) (Token.name (n ++ (b ∷ [])))) (begun Mode.between (l .next))) (spoils l)))
-      by true d u f = spoils-good l
-      by false d false f = spoils-good l
-      by false d true f =
-          let k : KeptName Spelling.closed (n ++ (b ∷ [])) = subst (λ (r : Spelling). KeptName r (n ++ (b ∷ []))) (rw (d, e)) (kept-more n b h (within n) (q .kept) (ltb-true (length n) maxName f)) in
-          let w : wordOf (n ++ (b ∷ [])) ≡ wordCount = rw (q .opened) (quoted-no-word (q .rest ++ (b ∷ []))) in
-          record { names = yes-and (spelled (n ++ (b ∷ []))) true (kept-spelled Spelling.closed (n ++ (b ∷ [])) tt k w) tt; keeps = tt }
+      by : (s : Bool) → eqb b quoteByte ≡ s → (t : Bool) → eqb b backslash ≡ t
+          → Good (cond s (extends Mode.quoted l (b ∷ [])) (cond t (extends Mode.escaping l (b ∷ [])) (extends Mode.quoted l (backslash ∷ b ∷ []))))
+      by true d t e = extends-good Mode.quoted l (b ∷ []) (λ f. kept-more (l .bytes) b h k f (quote-no-slash d))
+      by false d true e = extends-good Mode.escaping l (b ∷ []) (λ f. waits-more (l .bytes) b h k f)
+      by false d false e = extends-good Mode.quoted l (backslash ∷ b ∷ []) (λ f. kept-two (l .bytes) b h k f e)
 
   -- ---- any byte
 
@@ -255,19 +256,18 @@ module _ (l : Lexer) (b : ℕ) (h : b < 256) where
       given : Keeps (l .mode) (l .bytes)
       given = subst⁻¹ (λ (m : Mode). Keeps m (l .bytes)) e k
 
-      plain : (t : Bool) → nameByte b ≡ t → KeptName Spelling.plain (l .bytes) → Good (cond t (extends Mode.plain l b) (ends l b))
-      plain true d k = extends-good Mode.plain λ f. subst (λ (r : Spelling). KeptName r (l .bytes ++ (b ∷ []))) (rw d) (kept-more (l .bytes) b h Spelling.plain k f)
-      plain false d k = ends-good l b h given
+      long : length (l .bytes ++ (b ∷ [])) ≡ length (l .bytes) + 1
+      long = length-append (l .bytes) (b ∷ [])
 
-      quoted : (t : Bool) → eqb b quoteByte ≡ t → Quoted (within (l .bytes)) (l .bytes) → Good (cond t (closes l b) (quotes l b))
-      quoted true d q = closes-good q d
-      quoted false d q = quotes-good (within (l .bytes)) q (not-closed b (eqb (length (l .bytes)) 1) d)
+      plain : (t : Bool) → nameByte b ≡ t → Kept (l .bytes) → Good (cond t (extends Mode.plain l (b ∷ [])) (ends l b))
+      plain true d k = extends-good Mode.plain l (b ∷ []) (λ f. (kept-more (l .bytes) b h (kept-waits k) f (name-no-slash b d), omega (arith, long)))
+      plain false d k = ends-good l b h given
 
       by : (m : Mode) → l .mode ≡ m → Keeps m (l .bytes) → Good (stepAs m l b)
       by Mode.between e k = begin-good (l .next) b h
-      by Mode.plain e k = plain (nameByte b) refl k
-      by Mode.quoted e k = quoted (eqb b quoteByte) refl k
-      by Mode.escaping e k = quotes-good Spelling.escaping k refl
+      by Mode.plain e k = plain (nameByte b) refl (k .0)
+      by Mode.quoted e k = quotes-good k
+      by Mode.escaping e k = escapes-good k
       by Mode.slash e k = either (eqb b slashByte) _ (ends l b) (record { names = tt; keeps = tt }) (ends-good l b h given)
       by Mode.comment e k = record { names = tt; keeps = keeps-comment (eqb b lineFeed) [] }
       by Mode.sign e k = either (digitByte b) _ (ends l b) digit-good (ends-good l b h given)
@@ -282,18 +282,18 @@ more-good : (x : Lexed) (b : ℕ) → b < 256 → Good x → Good (lexMore x b)
 unfolding lexMore lexStep
 more-good x b h g =
     let s = step-good (x .lexer) b h (x .lexer .mode) refl (g .keeps) in
-    record { names = all-append isSpelled (x .found) (lexStep (x .lexer) b .found) (g .names) (s .names); keeps = s .keeps }
+    record { names = all-append isSpellable (x .found) (lexStep (x .lexer) b .found) (g .names) (s .names); keeps = s .keeps }
 
 text-good : (text : List ℕ) (x : Lexed) → Bytes text → Good x → Good (foldl lexMore x text)
 text-good [] x h g = g
 text-good (b ∷ bs) x h g = text-good bs (lexMore x b) (h .1) (more-good x b (h .0) g)
 
 -- every name found in a text is one that a text can spell
-pub names-spelled : (text : List ℕ) → Bytes text → T (all isSpelled (tokensOf text))
+pub names-spellable : (text : List ℕ) → Bytes text → T (all isSpellable (tokensOf text))
 unfolding tokensFrom tokensOf lexEnd ended
-names-spelled text h =
+names-spellable text h =
     let x = foldl lexMore (quiet lexer₀) text in
     let g = text-good text (quiet lexer₀) h (record { names = tt; keeps = tt }) in
     let l = x .lexer in
-    all-append isSpelled (x .found) (endedAs (l .mode) l ++ (token (l .next) Token.end ∷ [])) (g .names)
-    (all-append isSpelled (endedAs (l .mode) l) (token (l .next) Token.end ∷ []) (ended-good (l .mode) l (g .keeps)) tt)
+    all-append isSpellable (x .found) (endedAs (l .mode) l ++ (token (l .next) Token.end ∷ [])) (g .names)
+    (all-append isSpellable (endedAs (l .mode) l) (token (l .next) Token.end ∷ []) (ended-good (l .mode) l (g .keeps)) tt)

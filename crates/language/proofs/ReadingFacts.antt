@@ -11,12 +11,13 @@ use Rattle.language.specs.Instructions.{typeCount, instructionCount, for
 use Rattle.language.specs.Programs.{Row, Register, Block, Func, opOf, rowsOf, entryCount}
 use Rattle.language.specs.Grammar.{nextMove, afterWord, wordWithTarget, wordAlone}
 use Rattle.language.specs.Reading.{Reading, read, readEnd, readByte, takeToken, performAct, beginFunction, markSsa, setResult, nameFunction, beginRegister, nameRegister, beginBlock, nameBlock, endBlock, beginInstruction, setTarget, setInstruction, addSource, addEntry, addMention, numberInRange, bitsOf, setNumber, rowOf, endInstruction, resolve, undeclared, endFunction, functionNumber, registerNumber, blockNumber, openRows, draftRows, phiEntries}
+use Rattle.language.specs.Names.{plainName, escaped, spelling}
 use Rattle.language.specs.Listing.{listingOf, functionLine, line, digits}
 use Rattle.language.proofs.TokenFacts.{lexing}
 
 -- All that reading and the listing are made of, to be opened by one name.
 unfoldable pub reads : Unit {0}
-unfolding lexing read readEnd readByte takeToken performAct beginFunction markSsa setResult nameFunction beginRegister nameRegister beginBlock nameBlock endBlock beginInstruction setTarget setInstruction addSource addEntry addMention numberInRange bitsOf setNumber rowOf endInstruction resolve undeclared endFunction functionNumber registerNumber blockNumber openRows draftRows phiEntries nextMove afterWord wordWithTarget wordAlone formOf loadType width signed rowsOf entryCount listingOf functionLine line digits
+unfolding lexing read readEnd readByte takeToken performAct beginFunction markSsa setResult nameFunction beginRegister nameRegister beginBlock nameBlock endBlock beginInstruction setTarget setInstruction addSource addEntry addMention numberInRange bitsOf setNumber rowOf endInstruction resolve undeclared endFunction functionNumber registerNumber blockNumber openRows draftRows phiEntries nextMove afterWord wordWithTarget wordAlone formOf loadType width signed rowsOf entryCount listingOf functionLine line digits spelling plainName escaped
 reads = tt
 
 -- A text by its lines.
@@ -195,6 +196,14 @@ cases =
     ∷ "function void f(){block a{nop;}block a" refused 6 at 37
     ∷ "function void f(){block entry{nop;}block entry" refused 6 at 41
     ∷ "function void f(int f){block f{leave;}block entry{jump(f);}}" refused 0 at 0
+    -- 2, 6 and 7 by the contents: `a` and `'a'` are one name, `'\\a'` is another, and a word in quotes is a name
+    ∷ reading "'a' = copy a; a = copy 'a';"
+    ∷ refusing "a = copy '\\a';" 7 9
+    ∷ "function void f(int ''" refused 2 at 20
+    ∷ "function void f(int a, int 'a'" refused 6 at 27
+    ∷ "function void f(int 'a\\'b', int 'a\\'b'" refused 6 at 32
+    ∷ "function void f(){block entry{leave;}}function void 'f'" refused 6 at 52
+    ∷ "function void f(int 'jump'){block 'entry'{leave;}block entry{jump('entry');}}" refused 0 at 0
     -- 7, a register at once, a block at the closing brace, after 8
     ∷ refusing "c = cmp.eq a, b;" 7 14
     ∷ refusing "a = phi (a, b);" 7 12

@@ -1,240 +1,277 @@
--- A name is spelled exactly if the lexer finds it, and nothing else, in its bytes: as long as `spell` goes on, the lexer keeps
--- those bytes open. Assumes nothing.
-use mathlib.Core.Bool.{Bool, true, false, cond, _&&_}
-use mathlib.Core.List.{List, [], _∷_, _++_, foldl, append-assoc, append-nil}
+-- A name is found, and nothing else, in its own spelling, and before any byte that is no name character; so the spellable names are those
+-- that the lexer finds alone in their spellings. Assumes nothing.
+use mathlib.Core.Bool.{Bool, true, false, cond, not, _&&_}
+use mathlib.Core.List.{List, [], _∷_, _++_, foldl, foldl-append, append-assoc}
 use mathlib.Core.Logic.{_↔_}
-use mathlib.Core.Path.{_≡_, refl, sym, _∙_, ap, subst}
-use Prim.Native.Nat.{ℕ, _+_, _-_, _≤_, _<_}
+use mathlib.Core.Path.{_≡_, refl, sym, _∙_, ap, subst, subst⁻¹}
+use Prim.Native.Nat.{ℕ, _+_, _≤_}
+use native.Mathlib.Numerals.{unary-clauses}
 use native.Mathlib.Omega.{arith}
-use lib.Dec.{T, eqb, ltb, leb, leb→le, eqb→eq}
-use lib.ListN.{length, length-append}
-use mir.Facts.{and-yes}
-use borrow.Author.Tests.{lt-ltb, eq-eqb, ne-eqb}
-use Rattle.laws.specs.Lists.{all}
+use lib.Dec.{T, eqb, ltb, leb, eqb→eq, leb→le, lit<}
+use lib.Ieee.Bits.{is-false}
+use lib.ListN.{length}
+use mir.Facts.{and-yes, yes-and, T-not}
+use borrow.Author.Tests.{ne-eqb}
+use Rattle.laws.specs.Lists.{all, empty}
 use Rattle.laws.specs.Sections.{Bytes}
-use Rattle.laws.proofs.Branches.{cond-same}
-use Rattle.language.specs.Bytes.{Class, classOf, nameByte, quoteByte, backslash}
+use Rattle.laws.proofs.Sections.{bytes-append}
+use Rattle.laws.proofs.Tests.{of-true}
+use Rattle.language.specs.Bytes.{classOf, nameByte, letterByte, quoteByte, backslash}
 use Rattle.language.specs.Words.{wordOf, wordCount}
-use Rattle.language.specs.Names.{Spelling, spell, nextSpelled, firstSpelled, insideQuotes, whole, spelled}
+use Rattle.language.specs.Names.{quoteNext, unquoted, insideAfter, slashLast, spellable, plainBytes, plainName, escaped, spelling}
 use Rattle.language.specs.Programs.{maxName}
-use Rattle.language.specs.Tokens.{Token, Found, token, Mode, Lexed, lexer₀, quiet, finds, begun, begin, beginAs, nameOrWord, ended, extends, quotes, closes, lexStep, lexEnd, lexMore, tokensFrom, tokensOf}
-use Rattle.language.proofs.NameLaws.{isSpelled, names-spelled}
+use Rattle.language.specs.Tokens.{Token, Found, token, stray, Mode, Lexer, Lexed, lexer₀, quiet, begun, nameOrWord, ended, lexEnd, lexMore, tokensFrom, tokensOf}
+use Rattle.language.proofs.TokenSteps.{lex-onward, Idle, idle, idle-same}
+use Rattle.language.proofs.NameLaws.{isSpellable, names-spellable}
+use Rattle.language.proofs.NamesLexed.{Kind, quote, slash, other, kind, Sized, ending, GoesOnAs, after, letter-class, plain-after, quoted-lexed, quoted-after, quoted-stray}
 
--- A name's bytes so far, open in this mode.
-abbrev open-in : Mode → List ℕ → Lexed
-open-in m n = quiet (record { mode = m; next = length n; start = 0; bytes = n; negative = false; value = 0 })
+-- ---- contents with a backslash before each quote
 
--- What the lexer has where the bytes so far spell a name as far as s.
-abbrev lexedAs : Spelling → List ℕ → Lexed
-lexedAs Spelling.none n = quiet lexer₀
-lexedAs Spelling.plain n = open-in Mode.plain n
-lexedAs Spelling.opened n = open-in Mode.quoted n
-lexedAs Spelling.inside n = open-in Mode.quoted n
-lexedAs Spelling.escaping n = open-in Mode.escaping n
-lexedAs Spelling.closed n = finds (token 0 (Token.name n)) (record { mode = Mode.between; next = length n; start = length n - 1; bytes = []; negative = false; value = 0 })
-lexedAs Spelling.wrong n = quiet lexer₀
-
--- How many bytes that takes.
-abbrev Sized : Spelling → ℕ → Type 0
-Sized Spelling.none k = ⊥
-Sized Spelling.plain k = 1 ≤ k
-Sized Spelling.opened k = k ≡ 1
-Sized Spelling.inside k = 2 ≤ k
-Sized Spelling.escaping k = 2 ≤ k
-Sized Spelling.closed k = 3 ≤ k
-Sized Spelling.wrong k = Unit {0}
-
--- It can still be a name.
-abbrev pub right : Spelling → Bool
-right Spelling.none = true
-right Spelling.plain = true
-right Spelling.opened = true
-right Spelling.inside = true
-right Spelling.escaping = true
-right Spelling.closed = true
-right Spelling.wrong = false
-
-record Follows (n : List ℕ) (b : ℕ) (x : Lexed) (s : Spelling) : Type 0 where
-  lexed : x ≡ lexedAs s (n ++ (b ∷ []))
-  sized : Sized s (length (n ++ (b ∷ [])))
-
-module _ (n : List ℕ) (b : ℕ) (f : length n < maxName) where
-  more : length n + 1 ≡ length (n ++ (b ∷ []))
-  more = sym (length-append n (b ∷ []))
-
-  less : length n ≡ length (n ++ (b ∷ [])) - 1
-  less = simp length-append (omega arith)
-
-  extended : (m : Mode) → quiet (record { mode = m; next = length n + 1; start = 0; bytes = n ++ (b ∷ []); negative = false; value = 0 }) ≡ open-in m (n ++ (b ∷ []))
-  extended m = ap (λ (k : ℕ). quiet (record { mode = m; next = k; start = 0; bytes = n ++ (b ∷ []); negative = false; value = 0 })) more
-
-  plain-on : T (right (nextSpelled Spelling.plain b)) → Sized Spelling.plain (length n) → Follows n b (lexMore (open-in Mode.plain n) b) (nextSpelled Spelling.plain b)
-  unfolding lexMore lexStep extends
-  plain-on r z = by (nameByte b) refl r
-    where
-      by : (t : Bool) → nameByte b ≡ t → T (right (cond t Spelling.plain Spelling.wrong)) → Follows n b (lexMore (open-in Mode.plain n) b) (cond t Spelling.plain Spelling.wrong)
-      by true e r = record { lexed = rw (e, lt-ltb (length n) maxName f) (extended Mode.plain); sized = simp length-append (omega arith) }
-      by false e r = absurd r
-
-  -- a byte in quotes that closes nothing
-  quotes-on : (m : Mode) → 1 ≤ length n → Follows n b (quotes (open-in m n .lexer) b) (insideQuotes b)
-  unfolding quotes extends
-  quotes-on m z = by (eqb b backslash) refl
-    where
-      long : 2 ≤ length (n ++ (b ∷ []))
-      long = simp length-append (omega arith)
-
-      by :
-          (t : Bool) → eqb b backslash ≡ t
-          → Follows n b (extends (cond t Mode.escaping Mode.quoted) (open-in m n .lexer) b) (cond t Spelling.escaping Spelling.inside)
-      by true e = record { lexed = rw (lt-ltb (length n) maxName f) (extended Mode.escaping); sized = long }
-      by false e = record { lexed = rw (lt-ltb (length n) maxName f) (extended Mode.quoted); sized = long }
-
-  -- the closing quote
-  closes-on : 2 ≤ length n → Follows n b (closes (open-in Mode.quoted n .lexer) b) Spelling.closed
-  unfolding closes
-  closes-on z =
-      record {
-        lexed = rw (ne-eqb (length n) 1 (λ e. absurd (omega arith)), lt-ltb (length n) maxName f) closed;
-        sized = simp length-append (omega arith);
-      }
-    where
-      closed : finds (token 0 (Token.name (n ++ (b ∷ [])))) (begun Mode.between (length n)) ≡ lexedAs Spelling.closed (n ++ (b ∷ []))
-      closed =
-          λ i.
-          finds (token 0 (Token.name (n ++ (b ∷ []))))
-          (record { mode = Mode.between; next = more i; start = less i; bytes = []; negative = false; value = 0 })
-
-  -- any byte with which the bytes so far still spell a name
-  on : (s : Spelling) → Sized s (length n) → T (right (nextSpelled s b)) → Follows n b (lexMore (lexedAs s n) b) (nextSpelled s b)
-  unfolding lexMore lexStep
-  on Spelling.none z r = absurd z
-  on Spelling.plain z r = plain-on r z
-  on Spelling.opened z r = by (eqb b quoteByte) refl r
-    where
-      by :
-          (t : Bool) → eqb b quoteByte ≡ t → T (right (cond t Spelling.wrong (insideQuotes b)))
-          → Follows n b (cond t (closes (open-in Mode.quoted n .lexer) b) (quotes (open-in Mode.quoted n .lexer) b)) (cond t Spelling.wrong (insideQuotes b))
-      by true e r = absurd r
-      by false e r = quotes-on Mode.quoted (omega arith)
-  on Spelling.inside z r = by (eqb b quoteByte) refl r
-    where
-      by :
-          (t : Bool) → eqb b quoteByte ≡ t → T (right (cond t Spelling.closed (insideQuotes b)))
-          → Follows n b (cond t (closes (open-in Mode.quoted n .lexer) b) (quotes (open-in Mode.quoted n .lexer) b)) (cond t Spelling.closed (insideQuotes b))
-      by true e r = closes-on z
-      by false e r = quotes-on Mode.quoted (omega arith)
-  on Spelling.escaping z r = quotes-on Mode.escaping (omega arith)
-  on Spelling.closed z r = absurd r
-  on Spelling.wrong z r = absurd r
-
--- what is wrong stays wrong
-pub spoiled : (bs : List ℕ) → foldl spell Spelling.wrong bs ≡ Spelling.wrong
-spoiled [] = refl
-spoiled (b ∷ bs) = ap (λ (s : Spelling). foldl spell s bs) (cond-same (ltb b 256) Spelling.wrong) ∙ spoiled bs
-
-pub wrong-stays : (bs : List ℕ) → T (right (foldl spell Spelling.wrong bs)) → ⊥
-wrong-stays bs r = subst (λ (s : Spelling). T (right s)) (spoiled bs) r
-
--- bytes that spell on have done so from the start
-pub right-before : (s : Spelling) (bs : List ℕ) → T (right (foldl spell s bs)) → T (right s)
-right-before Spelling.none bs r = tt
-right-before Spelling.plain bs r = tt
-right-before Spelling.opened bs r = tt
-right-before Spelling.inside bs r = tt
-right-before Spelling.escaping bs r = tt
-right-before Spelling.closed bs r = tt
-right-before Spelling.wrong bs r = absurd (wrong-stays bs r)
-
-spells-on :
-    (bs n : List ℕ) (s : Spelling) → Sized s (length n) → length n + length bs ≤ maxName → T (right (foldl spell s bs))
-    → foldl lexMore (lexedAs s n) bs ≡ lexedAs (foldl spell s bs) (n ++ bs)
-spells-on [] n s z h r = rw append-nil
-spells-on (b ∷ bs) n s z h r = by (ltb b 256) refl r (spells-on bs)
+no-quote-next : (n : List ℕ) → quoteNext (escaped n) ≡ false
+unfolding escaped
+no-quote-next [] = refl
+no-quote-next (b ∷ n) = by (eqb b quoteByte) refl
   where
+    by : (t : Bool) → eqb b quoteByte ≡ t → quoteNext (cond t (backslash ∷ b ∷ []) (b ∷ []) ++ escaped n) ≡ false
+    by true e = refl
+    by false e = e
+
+pub unquoted-escaped : (n : List ℕ) → unquoted (escaped n) ≡ n
+unfolding escaped
+unquoted-escaped [] = refl
+unquoted-escaped (b ∷ n) = by (kind b) (unquoted-escaped n)
+  where
+    by : Kind b → unquoted (escaped n) ≡ n → unquoted (escaped (b ∷ n)) ≡ b ∷ n
+    by (quote e) ih = rw (e, ih)
+    by (slash e) ih = rw (e, no-quote-next n, ih)
+    by (other q d) ih = rw (q, d, ih)
+
+-- The last byte, or the one before them all, is a backslash.
+abbrev slashAfter : Bool → List ℕ → Bool
+slashAfter t [] = t
+slashAfter t (b ∷ n) = slashAfter (eqb b backslash) n
+
+slash-after : (b : ℕ) (n : List ℕ) → slashAfter (eqb b backslash) n ≡ slashLast (b ∷ n)
+unfolding slashLast
+slash-after b [] = refl
+slash-after b (c ∷ n) = simp unary-clauses (simp unary-clauses at (slash-after c n))
+
+inside-escaped : (n : List ℕ) (t : Bool) → slashAfter t n ≡ false → T (insideAfter t (escaped n))
+unfolding escaped
+inside-escaped [] true e = absurd (subst (λ (t : Bool). T t) e tt)
+inside-escaped [] false e = tt
+inside-escaped (b ∷ n) t e = by (kind b) (inside-escaped n) e
+  where
+    by : Kind b → ((t : Bool) → slashAfter t n ≡ false → T (insideAfter t (escaped n))) → slashAfter (eqb b backslash) n ≡ false → T (insideAfter t (escaped (b ∷ n)))
+    by (quote d) ih e = rw d (ih false (rw d at e))
+    by (slash d) ih e = rw d (ih true (rw d at e))
+    by (other q d) ih e = rw (q, q, d) (ih false (rw d at e))
+
+pub escaped-inside : (n : List ℕ) → slashLast n ≡ false → T (insideAfter false (escaped n))
+escaped-inside [] e = inside-escaped [] false refl
+escaped-inside (b ∷ n) e = inside-escaped (b ∷ n) false (slash-after b n ∙ e)
+
+-- ---- name characters between quotes stay as they are
+
+name-differs : (b c : ℕ) → T (nameByte b) → T (not (nameByte c)) → eqb b c ≡ false
+name-differs b c h k = ne-eqb b c (λ e. absurd (T-not (nameByte c) (subst (λ (b : ℕ). T (nameByte b)) e h) k))
+
+no-name-quote : T (not (nameByte quoteByte))
+unfolding classOf
+no-name-quote = tt
+
+no-name-slash : T (not (nameByte backslash))
+unfolding classOf
+no-name-slash = tt
+
+pub in-name-inside : (n : List ℕ) → T (all nameByte n) → T (insideAfter false n)
+in-name-inside [] h = tt
+in-name-inside (b ∷ n) h =
+    let a = and-yes (nameByte b) (all nameByte n) h in
+    rw (name-differs b quoteByte (a .0) no-name-quote, name-differs b backslash (a .0) no-name-slash) (in-name-inside n (a .1))
+
+pub in-name-unquoted : (n : List ℕ) → T (all nameByte n) → unquoted n ≡ n
+in-name-unquoted [] h = refl
+in-name-unquoted (b ∷ n) h =
+    let a = and-yes (nameByte b) (all nameByte n) h in
+    rw (name-differs b backslash (a .0) no-name-slash) (ap (λ (n : List ℕ). b ∷ n) (in-name-unquoted n (a .1)))
+
+pub plain-in-name : (n : List ℕ) → T (plainBytes n) → T (all nameByte n)
+plain-in-name [] p = tt
+plain-in-name (b ∷ n) p =
+    let a = and-yes (letterByte b) (all nameByte n) p in
+    yes-and (nameByte b) (all nameByte n) (rw (letter-class b (a .0)) tt) (a .1)
+
+-- ---- the spelling of a name
+
+-- what `spellable` asks
+pub record Asked (n : List ℕ) : Type 0 where
+  pub sized : Sized n
+  pub ends : slashLast n ≡ false
+
+pub spellable-asks : (n : List ℕ) → T (spellable n) → Asked n
+unfolding spellable
+spellable-asks n h =
+    let ends = not (slashLast n) in
+    let fits = leb (length n) maxName in
+    let a = and-yes (not (empty n) && fits && ends) (all (λ b. ltb b 256) n) h in
+    let b = and-yes (not (empty n) && fits) ends (a .0) in
+    let c = and-yes (not (empty n)) fits (b .0) in
+    record { sized = (some n (c .0), leb→le (length n) maxName (c .1)); ends = is-false (slashLast n) (b .1) }
+  where
+    some : (n : List ℕ) → T (not (empty n)) → 1 ≤ length n
+    some [] h = absurd h
+    some (b ∷ n) h = omega arith
+
+pub spelling-after :
+    (x : Lexed) → x .lexer .mode ≡ Mode.between → (n : List ℕ) → T (spellable n)
+    → GoesOnAs (after (x .found) (x .lexer .next) (x .lexer .next + length (spelling n)) (Token.name n)) (foldl lexMore x (spelling n))
+unfolding spelling plainName nameOrWord
+spelling-after x e n h = by (plainBytes n) refl (eqb (wordOf n) wordCount) refl
+  where
+    a : Asked n
+    a = spellable-asks n h
+
+    p : ℕ
+    p = x .lexer .next
+
+    in-quotes : List ℕ
+    in-quotes = quoteByte ∷ (escaped n ++ (quoteByte ∷ []))
+
+    quoted : GoesOnAs (after (x .found) p (p + length in-quotes) (Token.name n)) (foldl lexMore x in-quotes)
+    quoted =
+        subst (λ (m : List ℕ). GoesOnAs (after (x .found) p (p + length in-quotes) (Token.name m)) (foldl lexMore x in-quotes)) (unquoted-escaped n)
+        (quoted-after x e (escaped n) (escaped-inside n (a .ends)) (subst⁻¹ (λ (m : List ℕ). Sized m) (unquoted-escaped n) (a .sized)))
+
     by :
-        (t : Bool) → ltb b 256 ≡ t → T (right (foldl spell (cond t (nextSpelled s b) Spelling.wrong) bs))
-        → ((n : List ℕ) (s : Spelling) → Sized s (length n) → length n + length bs ≤ maxName → T (right (foldl spell s bs))
-        → foldl lexMore (lexedAs s n) bs ≡ lexedAs (foldl spell s bs) (n ++ bs))
-        → foldl lexMore (lexMore (lexedAs s n) b) bs ≡ lexedAs (foldl spell (cond t (nextSpelled s b) Spelling.wrong) bs) (n ++ (b ∷ bs))
-    by true e r ih =
-        let f = on n b (omega arith) s z (right-before (nextSpelled s b) bs r) in
-        let e : lexMore (lexedAs s n) b ≡ lexedAs (nextSpelled s b) (n ++ (b ∷ [])) = f .lexed in
-        rw e
-        (ih (n ++ (b ∷ [])) (nextSpelled s b) (f .sized) (simp length-append (omega arith)) r
-        ∙ ap (λ (m : List ℕ). lexedAs (foldl spell (nextSpelled s b) bs) m) (append-assoc n (b ∷ []) bs))
-    by false e r ih = absurd (wrong-stays bs r)
+        (s : Bool) → plainBytes n ≡ s → (t : Bool) → eqb (wordOf n) wordCount ≡ t
+        → (let bs = cond (s && t) n in-quotes in GoesOnAs (after (x .found) p (p + length bs) (Token.name n)) (foldl lexMore x bs))
+    by true b true w =
+        subst (λ (t : Token). GoesOnAs (after (x .found) p (p + length n) t) (foldl lexMore x n)) (rw w)
+        (plain-after x e n (of-true (plainBytes n) b) (a .sized .1))
+    by true b false w = quoted
+    by false b t w = quoted
 
--- ---- the first byte
+-- ---- what is found
 
-first-on : (b : ℕ) → T (right (firstSpelled (classOf b))) → Follows [] b (lexMore (quiet lexer₀) b) (firstSpelled (classOf b))
-unfolding lexMore lexStep begin
-first-on b r = by (classOf b) r
+-- nothing is open in l before the byte at p
+idle-at : (l : Lexer) (p : ℕ) → l .mode ≡ Mode.between → l .next ≡ p → (bs : List ℕ) → tokensFrom (idle Mode.between p) bs ≡ tokensFrom l bs
+idle-at l p m e bs = ap (λ (p : ℕ). tokensFrom (idle Mode.between p) bs) (sym e) ∙ sym (idle-same Idle.between l m bs)
+
+-- one token found, and then the rest
+onward : (f : Found) (l : Lexer) (bs : List ℕ) → ending (foldl lexMore (record { lexer = l; found = f ∷ [] }) bs) ≡ f ∷ tokensFrom l bs
+unfolding tokensFrom
+onward f l bs =
+    let on = lex-onward (record { lexer = l; found = f ∷ [] }) bs in
+    rw on
+
+module _ (l : Lexer) (between : l .mode ≡ Mode.between) where
+  -- a plain name or a word, before a byte that is no name character
+  pub plain-before :
+      (n : List ℕ) → T (plainBytes n) → length n ≤ maxName → (b : ℕ) → nameByte b ≡ false
+      → (l′ : Lexer) → l′ .mode ≡ Mode.between → l′ .next ≡ l .next + length n
+      → (rest : List ℕ) → tokensFrom l (n ++ (b ∷ rest)) ≡ token (l .next) (nameOrWord n) ∷ tokensFrom l′ (b ∷ rest)
+  unfolding tokensFrom
+  plain-before n h z b q l′ m k rest =
+      let p = l .next + length n in
+      let f = token (l .next) (nameOrWord n) in
+      ap ending (foldl-append lexMore (quiet l) n (b ∷ rest))
+      ∙ ap (λ (x : Lexed). ending (foldl lexMore x rest)) (plain-after (quiet l) between n h z .at-byte b q)
+      ∙ onward f (idle Mode.between p) (b ∷ rest)
+      ∙ ap (λ (fs : List Found). f ∷ fs) (idle-at l′ p m k (b ∷ rest))
+
+  -- a name in quotes, before any bytes
+  pub quoted-before :
+      (bs : List ℕ) → T (insideAfter false bs) → Sized (unquoted bs)
+      → (l′ : Lexer) → l′ .mode ≡ Mode.between → l′ .next ≡ l .next + length bs + 2
+      → (rest : List ℕ) → tokensFrom l (quoteByte ∷ (bs ++ (quoteByte ∷ rest))) ≡ token (l .next) (Token.name (unquoted bs)) ∷ tokensFrom l′ rest
+  unfolding tokensFrom
+  quoted-before bs h z l′ m k rest =
+      let e = l .next + 1 + length bs in
+      let f = token (l .next) (Token.name (unquoted bs)) in
+      ap (λ (ts : List ℕ). ending (foldl lexMore (quiet l) (quoteByte ∷ ts))) (sym (append-assoc bs (quoteByte ∷ []) rest))
+      ∙ ap ending (foldl-append lexMore (quiet l) (quoteByte ∷ (bs ++ (quoteByte ∷ []))) rest)
+      ∙ ap (λ (x : Lexed). ending (foldl lexMore x rest)) (quoted-lexed (quiet l) between bs h z)
+      ∙ onward f (begun Mode.between e) rest
+      ∙ ap (λ (fs : List Found). f ∷ fs) (idle-same Idle.between (begun Mode.between e) refl rest ∙ idle-at l′ (e + 1) m (omega arith) rest)
+
+  -- quotes with no contents, or with too many, are no token
+  pub quoted-spoils :
+      (bs : List ℕ) → T (insideAfter false bs) → ¬ Sized (unquoted bs)
+      → (rest : List ℕ) → (gs : List Found) × (tokensFrom l (quoteByte ∷ (bs ++ (quoteByte ∷ rest))) ≡ stray (l .next) ∷ gs)
+  unfolding tokensFrom
+  quoted-spoils bs h z rest =
+      let x = foldl lexMore (quiet l) (quoteByte ∷ (bs ++ (quoteByte ∷ []))) in
+      let y = foldl lexMore (quiet (x .lexer)) rest in
+      let r = quoted-stray (quiet l) between bs h z in (
+        r .0 ++ y .found ++ lexEnd (y .lexer),
+        ap (λ (ts : List ℕ). ending (foldl lexMore (quiet l) (quoteByte ∷ ts))) (sym (append-assoc bs (quoteByte ∷ []) rest))
+            ∙ ap ending (foldl-append lexMore (quiet l) (quoteByte ∷ (bs ++ (quoteByte ∷ []))) rest ∙ lex-onward x rest)
+            ∙ ap (λ (fs : List Found). fs ++ y .found ++ lexEnd (y .lexer)) (r .1),
+      )
+
+  -- a name by its spelling, before a byte that is no name character
+  pub spelling-before :
+      (n : List ℕ) → T (spellable n) → (b : ℕ) → nameByte b ≡ false
+      → (l′ : Lexer) → l′ .mode ≡ Mode.between → l′ .next ≡ l .next + length (spelling n)
+      → (rest : List ℕ) → tokensFrom l (spelling n ++ (b ∷ rest)) ≡ token (l .next) (Token.name n) ∷ tokensFrom l′ (b ∷ rest)
+  unfolding tokensFrom
+  spelling-before n h b q l′ m k rest =
+      let p = l .next + length (spelling n) in
+      let f = token (l .next) (Token.name n) in
+      ap ending (foldl-append lexMore (quiet l) (spelling n) (b ∷ rest))
+      ∙ ap (λ (x : Lexed). ending (foldl lexMore x rest)) (spelling-after (quiet l) between n h .at-byte b q)
+      ∙ onward f (idle Mode.between p) (b ∷ rest)
+      ∙ ap (λ (fs : List Found). f ∷ fs) (idle-at l′ p m k (b ∷ rest))
+
+  -- and at the end
+  pub spelling-last : (n : List ℕ) → T (spellable n) → tokensFrom l (spelling n) ≡ token (l .next) (Token.name n) ∷ token (l .next + length (spelling n)) Token.end ∷ []
+  unfolding tokensFrom lexEnd ended
+  spelling-last n h = spelling-after (quiet l) between n h .at-end
+
+-- ---- the spellings of all names
+
+-- What is found in a name's spelling.
+abbrev pub alone : List ℕ → List Found
+alone n = token 0 (Token.name n) ∷ token (length (spelling n)) Token.end ∷ []
+
+pub spelling-alone : (n : List ℕ) → T (spellable n) → tokensOf (spelling n) ≡ alone n
+unfolding tokensOf
+spelling-alone n h =
+    let here : 0 + length (spelling n) ≡ length (spelling n) = omega arith in
+    spelling-last lexer₀ refl n h ∙ ap (λ (k : ℕ). token 0 (Token.name n) ∷ token k Token.end ∷ []) here
+
+bytes-escaped : (n : List ℕ) → Bytes n → Bytes (escaped n)
+unfolding escaped
+bytes-escaped [] h = tt
+bytes-escaped (b ∷ n) h = by (eqb b quoteByte) (bytes-escaped n (h .1))
   where
-    by : (c : Class) → T (right (firstSpelled c)) → Follows [] b (beginAs c 0 b) (firstSpelled c)
-    by Class.letter r = record { lexed = refl; sized = omega arith }
-    by Class.digit r = absurd r
-    by Class.space r = absurd r
-    by Class.quote r = record { lexed = refl; sized = refl }
-    by Class.sign r = absurd r
-    by Class.slash r = absurd r
-    by Class.mark r = absurd r
-    by Class.other r = absurd r
+    by : (t : Bool) → Bytes (escaped n) → Bytes (cond t (backslash ∷ b ∷ []) (b ∷ []) ++ escaped n)
+    by true k = (lit< tt, (h .0, k))
+    by false k = (h .0, k)
 
-spells-all :
-    (b : ℕ) (bs : List ℕ) → length (b ∷ bs) ≤ maxName → T (right (foldl spell Spelling.none (b ∷ bs)))
-    → foldl lexMore (quiet lexer₀) (b ∷ bs) ≡ lexedAs (foldl spell Spelling.none (b ∷ bs)) (b ∷ bs)
-spells-all b bs h r = by (ltb b 256) r
+pub bytes-spelling : (n : List ℕ) → Bytes n → Bytes (spelling n)
+unfolding spelling
+bytes-spelling n h = by (plainName n)
   where
-    by :
-        (t : Bool) → T (right (foldl spell (cond t (firstSpelled (classOf b)) Spelling.wrong) bs))
-        → foldl lexMore (lexMore (quiet lexer₀) b) bs ≡ lexedAs (foldl spell (cond t (firstSpelled (classOf b)) Spelling.wrong) bs) (b ∷ bs)
-    by true r =
-        let s = firstSpelled (classOf b) in
-        let f = first-on b (right-before s bs r) in
-        let e : lexMore (quiet lexer₀) b ≡ lexedAs s (b ∷ []) = f .lexed in
-        rw e (spells-on bs (b ∷ []) s (f .sized) (omega arith) r)
-    by false r = absurd (wrong-stays bs r)
+    by : (t : Bool) → Bytes (cond t n (quoteByte ∷ (escaped n ++ (quoteByte ∷ []))))
+    by true = h
+    by false = (lit< tt, bytes-append (escaped n) (quoteByte ∷ []) (bytes-escaped n h) (lit< tt, tt))
 
--- ---- the whole name
-
--- What is found in a name's bytes.
-abbrev alone : List ℕ → List Found
-alone n = token 0 (Token.name n) ∷ token (length n) Token.end ∷ []
-
-whole-found : (s : Spelling) (n : List ℕ) → T (whole s) → wordOf n ≡ wordCount → lexedAs s n .found ++ lexEnd (lexedAs s n .lexer) ≡ alone n
-unfolding lexEnd ended nameOrWord
-whole-found Spelling.none n w e = absurd w
-whole-found Spelling.plain n w e = rw (eq-eqb (wordOf n) wordCount e)
-whole-found Spelling.opened n w e = absurd w
-whole-found Spelling.inside n w e = absurd w
-whole-found Spelling.escaping n w e = absurd w
-whole-found Spelling.closed n w e = refl
-whole-found Spelling.wrong n w e = absurd w
-
-whole-right : (s : Spelling) → T (whole s) → T (right s)
-whole-right Spelling.none w = tt
-whole-right Spelling.plain w = tt
-whole-right Spelling.opened w = tt
-whole-right Spelling.inside w = tt
-whole-right Spelling.escaping w = tt
-whole-right Spelling.closed w = tt
-whole-right Spelling.wrong w = w
-
-spelled-found : (n : List ℕ) → T (spelled n) → tokensOf n ≡ alone n
-unfolding spelled tokensFrom tokensOf
-spelled-found [] h = absurd h
-spelled-found (b ∷ bs) h =
-    let n = b ∷ bs in
-    let s = foldl spell Spelling.none n in
-    let p = and-yes (whole s && leb (length n) maxName) (eqb (wordOf n) wordCount) h in
-    let q = and-yes (whole s) (leb (length n) maxName) (p .0) in
-    let e = spells-all b bs (leb→le (length n) maxName (q .1)) (whole-right s (q .0)) in
-    ap (λ (x : Lexed). x .found ++ lexEnd (x .lexer)) e ∙ whole-found s n (q .0) (eqb→eq (wordOf n) wordCount (p .1))
-
--- "a name no text can spell" is one that the lexer does not find alone in its own bytes
-pub spelled-exactly : (n : List ℕ) → Bytes n → T (spelled n) ↔ (tokensOf n ≡ alone n)
-spelled-exactly n h = (spelled-found n, found)
+-- "a name no text can spell" is one that the lexer does not find alone in its own spelling
+pub spellable-exactly : (n : List ℕ) → Bytes n → T (spellable n) ↔ (tokensOf (spelling n) ≡ alone n)
+spellable-exactly n h = (spelling-alone n, found)
   where
-    found : tokensOf n ≡ alone n → T (spelled n)
-    found e = and-yes (spelled n) true (subst (λ (fs : List Found). T (all isSpelled fs)) e (names-spelled n h)) .0
+    found : tokensOf (spelling n) ≡ alone n → T (spellable n)
+    found e = and-yes (spellable n) true (subst (λ (fs : List Found). T (all isSpellable fs)) e (names-spellable (spelling n) (bytes-spelling n h))) .0
+
+-- a plain name is its own spelling, so it can be spelled
+pub plain-spellable : (n : List ℕ) → Bytes n → T (plainName n) → length n ≤ maxName → T (spellable n)
+unfolding plainName tokensOf tokensFrom lexEnd ended nameOrWord
+plain-spellable n h p f =
+    let a = and-yes (plainBytes n) (eqb (wordOf n) wordCount) p in
+    let w : wordOf n ≡ wordCount = eqb→eq (wordOf n) wordCount (a .1) in
+    let e : tokensOf n ≡ token 0 (nameOrWord n) ∷ token (0 + length n) Token.end ∷ [] = plain-after (quiet lexer₀) refl n (a .0) f .at-end in
+    let named : nameOrWord n ≡ Token.name n = rw w in
+    let found = subst (λ (t : Token). T (all isSpellable (token 0 t ∷ token (0 + length n) Token.end ∷ []))) named (subst (λ (fs : List Found). T (all isSpellable fs)) e (names-spellable n h)) in
+    and-yes (spellable n) true found .0

@@ -5,12 +5,13 @@ use mathlib.Core.Bool.{true}
 use mathlib.Core.List.{List, [], _∷_}
 use mathlib.Core.Path.{_≡_, refl}
 use Prim.Native.Nat.{ℕ}
-use Rattle.language.specs.Bytes.{bytesOf}
-use Rattle.language.specs.Words.{words}
+use Rattle.language.specs.Bytes.{bytesOf, classOf}
+use Rattle.language.specs.Words.{words, wordOf}
+use Rattle.language.specs.Names.{plainName, escaped, spelling}
 use Rattle.language.specs.Instructions.{width, signed, loadType}
 use Rattle.language.specs.Arithmetic.{meaning}
-use Rattle.language.specs.Programs.{Row, Register, Block, Func}
-use Rattle.language.specs.Listing.{digits}
+use Rattle.language.specs.Programs.{Row, Register, Block, Func, rowsOf}
+use Rattle.language.specs.Listing.{digits, line, functionLine, listingOf}
 use Rattle.language.specs.Writing.{bytesFor, numberToken, rowLine, blockLines, headLine, functionLines, linesOf, textOf}
 use Rattle.language.specs.MadeNames.{nextFree, registerNames, blockNames, namedFunction, named, written}
 use Rattle.language.specs.Answers.{Wrote, zeros, refusedText, show}
@@ -21,11 +22,11 @@ register t n = record { type = t; name = n }
 abbrev block : (name : List ℕ) (rows : List Row) → Block
 block n rs = record { name = n; rows = rs }
 
--- Registers 0 and 3 and blocks 2 and 3 have no name; `p.1` and `e.0` are in use, `p.00` is another name.
+-- Registers 0 and 3 and blocks 2 and 3 have no name; `p.1` and `e.0` are in use, `p.00` is another name. The function's name wants quotes.
 abbrev unnamed : Func
 unnamed =
     record {
-      name = bytesOf "f";
+      name = bytesOf "it's";
       ssa = 1;
       result = 9;
       params = 2;
@@ -42,9 +43,13 @@ unnamed =
 
 unnamed-written :
     written (unnamed ∷ [])
-    ≡ bytesOf "function ssa uint f ( int8 p.0 , int8 p.1 ) {\nregister uint p.00 ;\nregister uint p.2 ;\nblock entry {\nnop ;\np.0 = load.i8 ( -128 ) ;\np.1 = load.ui8 ( 128 ) ;\np.0 = ari.neg p.1 ;\np.0 = ari.sub p.0 , p.1 ;\njump.cond p.00 ( e.0 , e.1 ) ;\n}\nblock e.0 {\np.0 = phi ( p.0 , p.1 ) ;\np.2 = phi ( ) ;\njump ( e.2 ) ;\n}\nblock e.1 {\nreturn p.2 ;\n}\nblock e.2 {\nleave ;\n}\n}\n"
-unfolding words width signed loadType meaning digits bytesFor numberToken rowLine blockLines headLine functionLines linesOf textOf nextFree registerNames blockNames namedFunction named written
+    ≡ bytesOf "function ssa uint 'it\\'s' ( int8 p.0 , int8 p.1 ) {\nregister uint p.00 ;\nregister uint p.2 ;\nblock entry {\nnop ;\np.0 = load.i8 ( -128 ) ;\np.1 = load.ui8 ( 128 ) ;\np.0 = ari.neg p.1 ;\np.0 = ari.sub p.0 , p.1 ;\njump.cond p.00 ( e.0 , e.1 ) ;\n}\nblock e.0 {\np.0 = phi ( p.0 , p.1 ) ;\np.2 = phi ( ) ;\njump ( e.2 ) ;\n}\nblock e.1 {\nreturn p.2 ;\n}\nblock e.2 {\nleave ;\n}\n}\n"
+unfolding words wordOf classOf spelling plainName escaped width signed loadType meaning digits bytesFor numberToken rowLine blockLines headLine functionLines linesOf textOf nextFree registerNames blockNames namedFunction named written
 unnamed-written = refl
+
+unnamed-listed : listingOf (unnamed ∷ []) ≡ bytesOf "'it\\'s'\t1\t4\t4\t11\n"
+unfolding words wordOf classOf spelling plainName escaped digits rowsOf line functionLine listingOf
+unnamed-listed = refl
 
 -- No functions: a text of no bytes.
 nothing-written : written [] ≡ []

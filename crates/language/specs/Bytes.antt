@@ -112,6 +112,20 @@ inName Class.other = false
 abbrev pub nameByte : ℕ → Bool
 nameByte b = inName (classOf b)
 
+-- "letter, `.` or `_`", which alone begin a plain name
+abbrev pub inLetters : Class → Bool
+inLetters Class.letter = true
+inLetters Class.digit = false
+inLetters Class.space = false
+inLetters Class.quote = false
+inLetters Class.sign = false
+inLetters Class.slash = false
+inLetters Class.mark = false
+inLetters Class.other = false
+
+abbrev pub letterByte : ℕ → Bool
+letterByte b = inLetters (classOf b)
+
 abbrev pub inDigits : Class → Bool
 inDigits Class.letter = false
 inDigits Class.digit = true

@@ -8,7 +8,7 @@ use lib.ListN.{length, getD, take}
 use Rattle.laws.specs.Lists.{any, all, keep, empty, gather, together, below, member, same}
 use Rattle.language.specs.Instructions.{formOf, formNumber, instructionCount, typeCount, loadType, width, uint, void, shlOp, cmpEqOp, convOp, copyOp}
 use Rattle.language.specs.Programs.{Row, Func, Program, maxFunctions, maxRegisters, maxBlocks, maxRows, maxEntries, isSsa, blockAt, rowsAt, typeAt, rowsOf, firstRow, rowPlace, isPhi, isTerminator, targetsOf, sourcesOf, entriesOf, namedBy, opOf, formIn, entryCount}
-use Rattle.language.specs.Names.{spelled}
+use Rattle.language.specs.Names.{spellable}
 
 -- ---- predecessors
 
@@ -239,8 +239,8 @@ distinct [] = true
 distinct (n ∷ ns) = (empty n || not (any (same n) ns)) && distinct ns
 
 -- "Registers and blocks may have a name of no bytes"; any other is one that a text can spell.
-unfoldable pub spelledOrNone : List ℕ → Bool
-spelledOrNone n = empty n || spelled n
+unfoldable pub spellableOrNone : List ℕ → Bool
+spellableOrNone n = empty n || spellable n
 
 -- "size exceeded"
 unfoldable pub sizesRight : Func → Bool
@@ -262,7 +262,7 @@ entryRight f = ltb (f .entry) (length (f .blocks)) && empty (blockAt f (f .entry
 -- "a name no text can spell .., or one declared twice"
 unfoldable pub namesRight : Func → Bool
 namesRight f =
-    spelled (f .name) && all (λ r. spelledOrNone (r .name)) (f .registers) && all (λ b. spelledOrNone (b .name)) (f .blocks)
+    spellable (f .name) && all (λ r. spellableOrNone (r .name)) (f .registers) && all (λ b. spellableOrNone (b .name)) (f .blocks)
     && distinct (map (λ r. r .name) (f .registers))
     && distinct (map (λ b. b .name) (f .blocks))
 

@@ -1,5 +1,5 @@
 -- The listing: "A program prints a line for each function, tabs between: name, ssa, registers, blocks, instructions; or `refused`,
--- number, place." Every line is ended by LF. Assumes nothing.
+-- number, place." A name is spelled as in a text. Every line is ended by LF. Assumes nothing.
 use mathlib.Core.Bool.{true, false}
 use mathlib.Core.List.{List, [], _∷_, _++_}
 use Prim.Native.Nat.{ℕ, zero, suc, _+_, _/_, _%_}
@@ -8,6 +8,7 @@ use lib.ListN.{length}
 use Rattle.laws.specs.Lists.{gather}
 use Rattle.language.specs.Bytes.{bytesOf, digitZero, lineFeed}
 use Rattle.language.specs.Programs.{Func, Program, rowsOf}
+use Rattle.language.specs.Names.{spelling}
 use Rattle.language.specs.Reading.{Reading, read}
 use Rattle.language.specs.Checking.{Verdict, check}
 
@@ -32,7 +33,7 @@ unfoldable pub line : List ℕ → List ℕ → List ℕ
 line s ns = s ++ gather (λ n. tab ∷ digits n) ns ++ (lineFeed ∷ [])
 
 unfoldable pub functionLine : Func → List ℕ
-functionLine f = line (f .name) (f .ssa ∷ length (f .registers) ∷ length (f .blocks) ∷ length (rowsOf f) ∷ [])
+functionLine f = line (spelling (f .name)) (f .ssa ∷ length (f .registers) ∷ length (f .blocks) ∷ length (rowsOf f) ∷ [])
 
 unfoldable pub listingOf : Program → List ℕ
 listingOf p = gather functionLine p

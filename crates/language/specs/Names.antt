@@ -1,58 +1,57 @@
--- Names that some text can spell (document 01, "Plain names" and "Quoted names"), told from their bytes in one pass.
--- Assumes nothing.
-use mathlib.Core.Bool.{Bool, true, false, cond, _&&_}
-use mathlib.Core.List.{List, foldl}
-use Prim.Native.Nat.{ℕ}
+-- Names by their contents (document 02, A2: "Names are from now kept in tables and compared by contents: no outer quotes, and each backslash
+-- directly before a quote is dropped"), and how contents are spelled. Assumes nothing.
+use mathlib.Core.Bool.{Bool, false, cond, not, _&&_}
+use mathlib.Core.List.{List, [], _∷_, _++_}
+use Prim.Native.Nat.{ℕ, _-_}
 use lib.Dec.{eqb, ltb, leb}
-use lib.ListN.{length}
-use Rattle.language.specs.Bytes.{Class, classOf, nameByte, quoteByte, backslash}
+use lib.ListN.{length, getD}
+use Rattle.laws.specs.Lists.{all, empty, gather}
+use Rattle.language.specs.Bytes.{nameByte, letterByte, quoteByte, backslash}
 use Rattle.language.specs.Words.{wordOf, wordCount}
 use Rattle.language.specs.Programs.{maxName}
 
--- How far the bytes so far spell a name: nothing yet; a plain name; a quoted name just opened, at a byte inside it, at a
--- backslash inside it, or closed; no name.
-pub data Spelling : Type 0 where
-  none plain opened inside escaping closed wrong : Spelling
+-- ---- contents
 
--- "letter, `.` or `_`" begins a plain name, a quote a quoted one.
-abbrev pub firstSpelled : Class → Spelling
-firstSpelled Class.letter = Spelling.plain
-firstSpelled Class.digit = Spelling.wrong
-firstSpelled Class.space = Spelling.wrong
-firstSpelled Class.quote = Spelling.opened
-firstSpelled Class.sign = Spelling.wrong
-firstSpelled Class.slash = Spelling.wrong
-firstSpelled Class.mark = Spelling.wrong
-firstSpelled Class.other = Spelling.wrong
+-- A quote comes next.
+abbrev pub quoteNext : List ℕ → Bool
+quoteNext [] = false
+quoteNext (b ∷ bs) = eqb b quoteByte
 
--- A byte inside quotes that is no bare quote: "a backslash directly before a quote makes that quote part of the name".
-abbrev pub insideQuotes : ℕ → Spelling
-insideQuotes b = cond (eqb b backslash) Spelling.escaping Spelling.inside
+-- The contents of a name with these bytes between its outer quotes: "each backslash directly before a quote is dropped".
+abbrev pub unquoted : List ℕ → List ℕ
+unquoted [] = []
+unquoted (b ∷ bs) = cond (eqb b backslash && quoteNext bs) (unquoted bs) (b ∷ unquoted bs)
 
--- "quote, one or more bytes, quote. Any byte but a bare quote may stand inside"
-abbrev pub nextSpelled : Spelling → ℕ → Spelling
-nextSpelled Spelling.none b = firstSpelled (classOf b)
-nextSpelled Spelling.plain b = cond (nameByte b) Spelling.plain Spelling.wrong
-nextSpelled Spelling.opened b = cond (eqb b quoteByte) Spelling.wrong (insideQuotes b)
-nextSpelled Spelling.inside b = cond (eqb b quoteByte) Spelling.closed (insideQuotes b)
-nextSpelled Spelling.escaping b = insideQuotes b
-nextSpelled Spelling.closed b = Spelling.wrong
-nextSpelled Spelling.wrong b = Spelling.wrong
+-- What may stand between the outer quotes, and whether the byte before is a backslash: "Any byte but a bare quote may stand inside; a backslash
+-- directly before a quote makes that quote part of the name", the closing one too.
+abbrev pub insideAfter : (slash : Bool) → List ℕ → Bool
+insideAfter slash [] = not slash
+insideAfter slash (b ∷ bs) = cond (eqb b quoteByte) (slash && insideAfter false bs) (insideAfter (eqb b backslash) bs)
 
--- One byte more; a number that is no byte's spells nothing.
-abbrev pub spell : Spelling → ℕ → Spelling
-spell s b = cond (ltb b 256) (nextSpelled s b) Spelling.wrong
+-- The last byte is a backslash.
+unfoldable pub slashLast : List ℕ → Bool
+slashLast n = eqb (getD n (length n - 1) 0) backslash
 
--- The bytes so far are a whole plain or quoted name.
-abbrev pub whole : Spelling → Bool
-whole Spelling.none = false
-whole Spelling.plain = true
-whole Spelling.opened = false
-whole Spelling.inside = false
-whole Spelling.escaping = false
-whole Spelling.closed = true
-whole Spelling.wrong = false
+-- Some text can spell these contents: "1 to 64 bytes", counted on them. A backslash does not come last: it would make the closing quote part of
+-- the name. Any other byte may stand anywhere.
+unfoldable pub spellable : List ℕ → Bool
+spellable n = not (empty n) && leb (length n) maxName && not (slashLast n) && all (λ b. ltb b 256) n
 
--- Some text spells this name: "A name has 1 to 64 bytes so counted", and a word is "never a name".
-unfoldable pub spelled : List ℕ → Bool
-spelled n = whole (foldl spell Spelling.none n) && leb (length n) maxName && eqb (wordOf n) wordCount
+-- ---- spellings
+
+-- "letter, `.` or `_`, then those or digits"
+abbrev pub plainBytes : List ℕ → Bool
+plainBytes [] = false
+plainBytes (b ∷ n) = letterByte b && all nameByte n
+
+-- A plain spelling is possible: a word is "never a name".
+unfoldable pub plainName : List ℕ → Bool
+plainName n = plainBytes n && eqb (wordOf n) wordCount
+
+-- "a backslash directly before a quote makes that quote part of the name"
+unfoldable pub escaped : List ℕ → List ℕ
+escaped n = gather (λ b. cond (eqb b quoteByte) (backslash ∷ b ∷ []) (b ∷ [])) n
+
+-- How contents are spelled: "quotes only where plain spelling isn't possible".
+unfoldable pub spelling : List ℕ → List ℕ
+spelling n = cond (plainName n) n (quoteByte ∷ (escaped n ++ (quoteByte ∷ [])))

@@ -2,15 +2,15 @@
 use mathlib.Core.Bool.{Bool, false, cond}
 use mathlib.Core.List.{List, [], _∷_, _++_, foldl}
 use Prim.Native.Nat.{ℕ, _+_, _-_, _*_}
-use lib.Dec.{eqb, ltb}
+use lib.Dec.{eqb, leb}
 use lib.ListN.{length}
 use Rattle.language.specs.Bytes.{Class, classOf, nameByte, digitByte, hexByte, hexValue, quoteByte, slashByte, minus, digitZero, lineFeed, backslash, letterX}
 use Rattle.language.specs.Words.{wordOf, wordCount}
 use Rattle.language.specs.Programs.{maxName}
 
--- "A token is a name, a word, a number, a mark or the end."
+-- "A token is a name, a word, a number, a mark or the end." A name is its contents (document 02, A2).
 pub data Token : Type 0 where
-  name : (bytes : List ℕ) → Token
+  name : (contents : List ℕ) → Token
   word : (number : ℕ) → Token
   number : (negative : Bool) (magnitude : ℕ) → Token
   mark : (byte : ℕ) → Token
@@ -26,12 +26,12 @@ pub data Found : Type 0 where
   token : (place : TextPlace) (token : Token) → Found
   stray : (place : TextPlace) → Found
 
--- What the bytes so far leave open: nothing; a plain name; a quoted name, in it or directly after a backslash in it; one slash;
--- a comment; a sign; a first digit 0; decimal digits; `0x`; `0x` and hexadecimal digits.
+-- What the bytes so far leave open: nothing; a plain name; a quoted name, in it or directly after a backslash in it, which may be dropped;
+-- one slash; a comment; a sign; a first digit 0; decimal digits; `0x`; `0x` and hexadecimal digits.
 pub data Mode : Type 0 where
   between plain quoted escaping slash comment sign leadingZero decimal prefix hexadecimal : Mode
 
--- `next` is the place of the next byte, `start` that of the byte which began what is open, `bytes` are those of a name so far,
+-- `next` is the place of the next byte, `start` that of the byte which began what is open, `bytes` are a name's contents so far,
 -- `negative` and `value` are a number's so far.
 pub record Lexer : Type 0 where
   pub mode : Mode
@@ -56,8 +56,12 @@ begunName m p b = record { mode = m; next = p + 1; start = p; bytes = b ∷ []; 
 abbrev pub begunNumber : Mode → ℕ → Bool → ℕ → Lexer
 begunNumber m p s v = record { mode = m; next = p + 1; start = p; bytes = []; negative = s; value = v }
 
-abbrev pub longerName : Mode → Lexer → ℕ → Lexer
-longerName m l b = record { mode = m; next = l .next + 1; start = l .start; bytes = l .bytes ++ (b ∷ []); negative = false; value = 0 }
+-- One byte more of a name, which gives its contents these bytes more, or none.
+abbrev pub longerName : Mode → Lexer → List ℕ → Lexer
+longerName m l bs = record { mode = m; next = l .next + 1; start = l .start; bytes = l .bytes ++ bs; negative = false; value = 0 }
+
+abbrev pub waitingName : Lexer → Lexer
+waitingName l = record { mode = Mode.escaping; next = l .next + 1; start = l .start; bytes = l .bytes; negative = false; value = 0 }
 
 abbrev pub longerNumber : Mode → Lexer → ℕ → Lexer
 longerNumber m l v = record { mode = m; next = l .next + 1; start = l .start; bytes = []; negative = l .negative; value = v }
@@ -81,7 +85,7 @@ abbrev pub beginAs : Class → ℕ → ℕ → Lexed
 beginAs Class.letter p b = quiet (begunName Mode.plain p b)
 beginAs Class.digit p b = quiet (begunNumber (digitMode b) p false (b - digitZero))
 beginAs Class.space p b = quiet (begun Mode.between p)
-beginAs Class.quote p b = quiet (begunName Mode.quoted p b)
+beginAs Class.quote p b = quiet (begun Mode.quoted p)
 beginAs Class.sign p b = quiet (begunNumber Mode.sign p (eqb b minus) 0)
 beginAs Class.slash p b = quiet (begun Mode.slash p)
 beginAs Class.mark p b = finds (token p (Token.mark b)) (begun Mode.between p)
@@ -118,21 +122,28 @@ ends l b =
     let x = begin (l .next) b in
     record { lexer = x .lexer; found = ended l ++ x .found }
 
--- "A name has 1 to 64 bytes so counted."
-unfoldable pub extends : Mode → Lexer → ℕ → Lexed
-extends m l b = cond (ltb (length (l .bytes)) maxName) (quiet (longerName m l b)) (spoils l)
+-- "The 64 bytes are counted on the contents."
+unfoldable pub extends : Mode → Lexer → List ℕ → Lexed
+extends m l bs = cond (leb (length (l .bytes) + length bs) maxName) (quiet (longerName m l bs)) (spoils l)
 
--- A byte inside quotes that closes nothing. "a backslash directly before a quote makes that quote part of the name"
+-- The quote that closes: "quote, one or more bytes, quote", of which the contents have "no outer quotes".
+unfoldable pub closes : Lexer → Lexed
+closes l =
+    cond (eqb (length (l .bytes)) 0) (spoils l)
+    (finds (token (l .start) (Token.name (l .bytes))) (begun Mode.between (l .next)))
+
+-- A byte inside quotes. A backslash waits outside the contents for the byte after it.
 unfoldable pub quotes : Lexer → ℕ → Lexed
-quotes l b = extends (cond (eqb b backslash) Mode.escaping Mode.quoted) l b
+quotes l b =
+    cond (eqb b quoteByte) (closes l)
+    (cond (eqb b backslash) (quiet (waitingName l)) (extends Mode.quoted l (b ∷ [])))
 
--- "quote, one or more bytes, quote"
-unfoldable pub closes : Lexer → ℕ → Lexed
-closes l b =
-    cond (eqb (length (l .bytes)) 1) (spoils l)
-    (cond (ltb (length (l .bytes)) maxName)
-    (finds (token (l .start) (Token.name (l .bytes ++ (b ∷ [])))) (begun Mode.between (l .next)))
-    (spoils l))
+-- The byte after a backslash: "a backslash directly before a quote makes that quote part of the name" and "is dropped"; before any other
+-- byte it stays, and if that is a backslash, it waits in its turn.
+unfoldable pub escapes : Lexer → ℕ → Lexed
+escapes l b =
+    cond (eqb b quoteByte) (extends Mode.quoted l (b ∷ []))
+    (cond (eqb b backslash) (extends Mode.escaping l (b ∷ [])) (extends Mode.quoted l (backslash ∷ b ∷ [])))
 
 -- A byte after a number. "A name character directly after makes it no token."
 unfoldable pub endsNumber : Lexer → ℕ → Lexed
@@ -148,9 +159,9 @@ hexadecimalDigit l b = quiet (longerNumber Mode.hexadecimal l (16 * l .value + h
 -- end".
 abbrev pub stepAs : Mode → Lexer → ℕ → Lexed
 stepAs Mode.between l b = begin (l .next) b
-stepAs Mode.plain l b = cond (nameByte b) (extends Mode.plain l b) (ends l b)
-stepAs Mode.quoted l b = cond (eqb b quoteByte) (closes l b) (quotes l b)
-stepAs Mode.escaping l b = quotes l b
+stepAs Mode.plain l b = cond (nameByte b) (extends Mode.plain l (b ∷ [])) (ends l b)
+stepAs Mode.quoted l b = quotes l b
+stepAs Mode.escaping l b = escapes l b
 stepAs Mode.slash l b = cond (eqb b slashByte) (quiet (begun Mode.comment (l .next))) (ends l b)
 stepAs Mode.comment l b = quiet (begun (cond (eqb b lineFeed) Mode.between Mode.comment) (l .next))
 stepAs Mode.sign l b = cond (digitByte b) (decimalDigit (digitMode b) l b) (ends l b)

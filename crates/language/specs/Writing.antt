@@ -14,6 +14,7 @@ use Rattle.language.specs.Instructions.{void, loadType}
 use Rattle.language.specs.Arithmetic.{meaning}
 use Rattle.language.specs.Programs.{Row, Register, Block, Func, Program, noRegister, blockAt, isSsa, opOf, targetsOf, sourcesOf}
 use Rattle.language.specs.Tokens.{Token}
+use Rattle.language.specs.Names.{spelling}
 use Rattle.language.specs.Listing.{digits}
 
 -- ---- Tokens to bytes.
@@ -21,9 +22,9 @@ use Rattle.language.specs.Listing.{digits}
 abbrev pub spaceByte : ℕ
 spaceByte = 32
 
--- "shortest decimal numbers"; names as they are kept.
+-- "shortest decimal numbers"; a name by the spelling of its contents.
 unfoldable pub bytesFor : Token → List ℕ
-bytesFor (Token.name n) = n
+bytesFor (Token.name n) = spelling n
 bytesFor (Token.word w) = spellingOf w
 bytesFor (Token.number negative magnitude) = cond negative (minus ∷ digits magnitude) (digits magnitude)
 bytesFor (Token.mark b) = b ∷ []

@@ -1,6 +1,6 @@
 pub mod Amounts
+pub mod Gathering
 pub mod Acting
-pub mod TokenSteps
 pub mod Standing
 pub mod Stepping
 pub mod Passing

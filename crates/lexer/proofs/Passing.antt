@@ -1,29 +1,34 @@
 -- Runs of bytes of one kind, passed: spaces, the rest of a plain name, the rest of a comment; and the end of the text. Assumes nothing.
 use mathlib.Core.Bool.{Bool, true, false, not, cond}
-use mathlib.Core.Path.{_≡_, refl, sym, ap, _∙_, subst}
-use mathlib.Core.List.{List, [], _∷_, _++_}
+use mathlib.Core.Path.{_≡_, refl, sym, ap, _∙_, subst, subst⁻¹}
+use mathlib.Core.List.{List, [], _∷_, _++_, append-assoc}
 use Prim.Native.Nat.{ℕ, zero, suc, _+_, _-_, _≤_, _<_}
 use native.Mathlib.Nat.{le-refl}
 use native.Mathlib.Omega.{arith}
-use borrow.Author.Tests.{eqb-true, ltb-true, lt-ltb, le-ltb, eq-eqb, ne-eqb}
+use borrow.Author.Tests.{eqb-true, lt-ltb, le-ltb, eq-eqb, ne-eqb}
 use native.Mathlib.Decide.{decLt}
-use lib.Dec.{eqb, ltb}
-use lib.ListN.{length, getD}
-use Rattle.laws.proofs.Branches.{branches}
-use Rattle.language.specs.Bytes.{Class, classOf, classNumber, inName, nameByte}
+use lib.Dec.{T, eqb, ltb}
+use lib.ListN.{length, getD, take, drop, length-drop, take-append-drop}
+use lib.Seq.{length-take-le, drop-cons, drop-drop}
+use mir.Facts.{yes-and}
+use Rattle.laws.specs.Lists.{all}
+use Rattle.language.specs.Bytes.{classOf, classNumber, nameByte, letterByte}
+use Rattle.language.specs.Names.{plainBytes}
 use Rattle.language.specs.Tokens as meaning
-use Rattle.language.specs.Tokens.{Mode, ended, lexEnd, tokensFrom}
+use Rattle.language.specs.Tokens.{Mode, nameOrWord, ended, lexEnd, tokensFrom}
+use Rattle.language.proofs.SpelledNames.{plain-before}
 use Rattle.vocabulary.specs.Classes.{classTable}
-use Rattle.vocabulary.proofs.ByteClasses.{class-at}
+use Rattle.vocabulary.proofs.ByteClasses.{class-at, letter-test, name-test}
 use Rattle.lexer.specs.declared.Lexer.{Lexer}
 use Rattle.lexer.specs.declared.Lexeme.the-variants as lexemes
 use Rattle.lexer.specs.declared.Found.the-variants as founds
-use Rattle.lexer.specs.Actions.{modeNumber, beginsAt, inPlainAt, actionAt}
-use Rattle.lexer.specs.Runs.{isSpace, inLine, Run, First, nameLimit}
-use Rattle.lexer.specs.Lexing.{Passed, Lexes, Scanned, Ending, LexerFinished, lexerFrom, idleAt, lexedFrom, placeAt}
-use Rattle.lexer.specs.Advancing.{freshAt, begunAt, singleAt, endedAt, advancedAt, findingAt}
-use Rattle.lexer.proofs.TokenSteps.{Idle, idle, idle-none}
-use Rattle.lexer.proofs.Standing.{ends-found, stands-idle}
+use Rattle.lexer.specs.Actions.{modeNumber, beginsAt, actionAt}
+use Rattle.lexer.specs.Contents.{gatheredPlace, contentsIn}
+use Rattle.lexer.specs.Runs.{isSpace, inLine, Run, First, nameLimit, PlainTo}
+use Rattle.lexer.specs.Lexing.{Stands, Means, Finds, Gives, Passed, Lexes, Scanned, Ending, LexerFinished, idleAt, lexedFrom, placeAt}
+use Rattle.lexer.specs.Advancing.{freshAt, begunAt, singleAt, endedAt, advancedAt, heldAfter, findingAt}
+use Rattle.language.proofs.TokenSteps.{Idle, idle, idle-none}
+use Rattle.lexer.proofs.Standing.{drop-here, ends-found, stands-idle}
 use Rattle.lexer.proofs.Stepping.{step-passes, step-finds, passed-none, passed-then, passed-idle, mode-is, left-closed}
 
 -- ---- runs
@@ -79,36 +84,23 @@ last : (n k : ℕ) → n + k < n + suc k
 last n k = omega arith
 
 -- the lexers at the places of a run, each passed to from the one before
-along : (text : List ℕ) (at : ℕ → Lexer) (from : ℕ) → Passed text (at from) (at from) → (k : ℕ)
-    → ((i : ℕ) → from ≤ i → i < from + k → Passed text (at i) (at (i + 1))) → Passed text (at from) (at (from + k))
-along text at from p zero h = subst (λ (n : ℕ). Passed text (at from) (at n)) (sym (none-more from)) p
-along text at from p (suc k) h =
-    subst (λ (n : ℕ). Passed text (at from) (at n)) (sym (one-more from k))
-    (passed-then text (at from) (at (from + k)) (at (from + k + 1)) (along text at from p k (λ i a b. h i a (still i from k b)))
+along : (text g : List ℕ) (at : ℕ → Lexer) (from : ℕ) → Passed text (at from) g (at from) g → (k : ℕ)
+    → ((i : ℕ) → from ≤ i → i < from + k → Passed text (at i) g (at (i + 1)) g) → Passed text (at from) g (at (from + k)) g
+along text g at from p zero h = subst (λ (n : ℕ). Passed text (at from) g (at n) g) (sym (none-more from)) p
+along text g at from p (suc k) h =
+    subst (λ (n : ℕ). Passed text (at from) g (at n) g) (sym (one-more from k))
+    (passed-then text (at from) (at (from + k)) (at (from + k + 1)) (along text g at from p k (λ i a b. h i a (still i from k b)))
     (h (from + k) (at-least from k) (last from k)))
 
-passed-run : (text : List ℕ) (at : ℕ → Lexer) (from r : ℕ) → from ≤ r → Passed text (at from) (at from)
-    → ((i : ℕ) → from ≤ i → i < r → Passed text (at i) (at (i + 1))) → Passed text (at from) (at r)
-passed-run text at from r l p h =
-    subst (λ (n : ℕ). Passed text (at from) (at n)) (sum from r l) (along text at from p (r - from) (λ i a b. h i a (subst (λ (n : ℕ). i < n) (sum from r l) b)))
+passed-run : (text g : List ℕ) (at : ℕ → Lexer) (from r : ℕ) → from ≤ r → Passed text (at from) g (at from) g
+    → ((i : ℕ) → from ≤ i → i < r → Passed text (at i) g (at (i + 1)) g) → Passed text (at from) g (at r) g
+passed-run text g at from r l p h =
+    subst (λ (n : ℕ). Passed text (at from) g (at n) g) (sum from r l) (along text g at from p (r - from) (λ i a b. h i a (subst (λ (n : ℕ). i < n) (sum from r l) b)))
   where
     sum : (n m : ℕ) → n ≤ m → n + (m - n) ≡ m
     sum n m h = omega arith
 
 -- ---- the bytes of a text
-
-name-class : (k : Class) → inName k ≡ ltb (classNumber k) 2
-name-class Class.letter = refl
-name-class Class.digit = refl
-name-class Class.space = refl
-name-class Class.quote = refl
-name-class Class.sign = refl
-name-class Class.slash = refl
-name-class Class.mark = refl
-name-class Class.other = refl
-
-pub name-test : (b : ℕ) → nameByte b ≡ ltb (classNumber (classOf b)) 2
-name-test b = name-class (classOf b)
 
 -- the tests as the code makes them
 module _ (classes : List ℕ) (b : ℕ) (e : classes ≡ classTable) (small : b < 256) where
@@ -124,6 +116,9 @@ module _ (classes : List ℕ) (b : ℕ) (e : classes ≡ classTable) (small : b 
   pub name-no : 2 ≤ getD classes b 0 → nameByte b ≡ false
   name-no h = name-test b ∙ le-ltb (classNumber (classOf b)) 2 (subst (λ (k : ℕ). 2 ≤ k) (class-at classes b e small) h)
 
+pub letter-yes : (classes : List ℕ) (b : ℕ) → classes ≡ classTable → b < 256 → getD classes b 0 ≡ 0 → letterByte b ≡ true
+letter-yes classes b e small h = letter-test b ∙ eq-eqb (classNumber (classOf b)) 0 (sym (class-at classes b e small) ∙ h)
+
 pub line-yes : (b : ℕ) → (b ≡ 10 → ⊥) → inLine b ≡ true
 line-yes b h = ap not (ne-eqb b 10 h)
 
@@ -133,14 +128,6 @@ line-no b h = ap not (eq-eqb b 10 h)
 not-line-feed : (t : Bool) → not t ≡ true → t ≡ false
 not-line-feed true e = sym e
 not-line-feed false e = refl
-
-in-plain : (k n : ℕ) → k < 2 → n < 64 → 1 ≡ inPlainAt k n
-unfolding inPlainAt
-in-plain k n t u = search branches
-
-past-plain : (k n : ℕ) → 2 ≤ k → 32 ≡ inPlainAt k n
-unfolding inPlainAt
-past-plain k n t = search branches
 
 pub limit-within : (n s : ℕ) → s ≤ n → (nameLimit n s ≤ n) × (nameLimit n s ≤ s + 64)
 unfolding nameLimit
@@ -158,45 +145,41 @@ limit-after n s h = by (decLt (n - s) 64)
     by (yes l) = rw (lt-ltb (n - s) 64 l) h
     by (no l) = rw (le-ltb (n - s) 64 (omega arith)) (omega arith)
 
--- a plain name from its start up to a place
-abbrev pub plainAt : (start next : ℕ) → Lexer
-plainAt s i = lexerFrom 1 i s false 0 false
-
-module _ (text : List ℕ) (small : (i : ℕ) → getD text i 0 < 256) where
-  space-passed : (i : ℕ) → i < length text → isSpace (getD text i 0) ≡ true → Passed text (idleAt 0 i) (idleAt 0 (i + 1))
-  unfolding actionAt beginsAt advancedAt begunAt
+module _ (text g : List ℕ) (small : (i : ℕ) → getD text i 0 < 256) where
+  space-passed : (i : ℕ) → i < length text → isSpace (getD text i 0) ≡ true → Passed text (idleAt 0 i) g (idleAt 0 (i + 1)) g
+  unfolding actionAt beginsAt advancedAt heldAfter begunAt
   space-passed i h t =
       let b = getD text i 0 in
       let k = classNumber (classOf b) in
-      passed-then text (idleAt 0 i) (advancedAt (idleAt 0 i) 16 b) (idleAt 0 (i + 1))
-      (step-passes text (idleAt 0 i) b k 16 (le-refl i) h refl (small i) refl (rw (eqb-true k 2 t)) (omega arith))
-      (passed-idle Idle.between text (advancedAt (idleAt 0 i) 16 b) (omega arith) refl)
+      passed-then text (idleAt 0 i) (advancedAt (idleAt 0 i) 16 b (length g)) (idleAt 0 (i + 1))
+      (step-passes text (idleAt 0 i) b k 16 (le-refl i) h refl (small i) refl (rw (eqb-true k 2 t)) (omega arith) g)
+      (passed-idle Idle.between text (advancedAt (idleAt 0 i) 16 b (length g)) (omega arith) refl g)
 
-  pub spaces-passed : (from r : ℕ) → First isSpace text from (length text) r → Passed text (idleAt 0 from) (idleAt 0 r)
+  pub spaces-passed : (from r : ℕ) → First isSpace text from (length text) r → Passed text (idleAt 0 from) g (idleAt 0 r) g
   spaces-passed from r p =
-      passed-run text (λ i. idleAt 0 i) from r (p .run .forth) (passed-none text (idleAt 0 from) (omega (arith, p .run .forth, p .within)) (le-refl from))
+      passed-run text g (λ i. idleAt 0 i) from r (p .run .forth) (passed-none text (idleAt 0 from) g (omega (arith, p .run .forth, p .within)) (le-refl from))
       (λ i a b. space-passed i (omega (arith, b, p .within)) (p .run .each i a b))
 
-  comment-passed : (i : ℕ) → i < length text → inLine (getD text i 0) ≡ true → Passed text (idleAt 5 i) (idleAt 5 (i + 1))
-  unfolding actionAt advancedAt begunAt
+  comment-passed : (i : ℕ) → i < length text → inLine (getD text i 0) ≡ true → Passed text (idleAt 5 i) g (idleAt 5 (i + 1)) g
+  unfolding actionAt advancedAt heldAfter begunAt
   comment-passed i h t =
       let b = getD text i 0 in
       let k = classNumber (classOf b) in
-      passed-then text (idleAt 5 i) (advancedAt (idleAt 5 i) 21 b) (idleAt 5 (i + 1))
-      (step-passes text (idleAt 5 i) b k 21 (le-refl i) h refl (small i) refl (rw (not-line-feed (eqb b 10) t)) (omega arith))
-      (passed-idle Idle.comment text (advancedAt (idleAt 5 i) 21 b) (omega arith) refl)
+      passed-then text (idleAt 5 i) (advancedAt (idleAt 5 i) 21 b (length g)) (idleAt 5 (i + 1))
+      (step-passes text (idleAt 5 i) b k 21 (le-refl i) h refl (small i) refl (rw (not-line-feed (eqb b 10) t)) (omega arith) g)
+      (passed-idle Idle.comment text (advancedAt (idleAt 5 i) 21 b (length g)) (omega arith) refl g)
 
-  pub line-passed : (from r : ℕ) → Run inLine text from r → r ≤ length text → Passed text (idleAt 5 from) (idleAt 5 r)
+  pub line-passed : (from r : ℕ) → Run inLine text from r → r ≤ length text → Passed text (idleAt 5 from) g (idleAt 5 r) g
   line-passed from r p w =
-      passed-run text (λ i. idleAt 5 i) from r (p .forth) (passed-none text (idleAt 5 from) (omega (arith, p .forth, w)) (le-refl from))
+      passed-run text g (λ i. idleAt 5 i) from r (p .forth) (passed-none text (idleAt 5 from) g (omega (arith, p .forth, w)) (le-refl from))
       (λ i a b. comment-passed i (omega (arith, b, w)) (p .each i a b))
 
   -- the LF that ends a comment
-  pub comment-ended : (i : ℕ) → i < length text → inLine (getD text i 0) ≡ false → Passed text (idleAt 5 i) (begunAt 0 i 10)
-  unfolding actionAt advancedAt begunAt
+  pub comment-ended : (i : ℕ) → i < length text → inLine (getD text i 0) ≡ false → Passed text (idleAt 5 i) g (begunAt 0 i 10) g
+  unfolding actionAt advancedAt heldAfter begunAt
   comment-ended i h t =
       let b = getD text i 0 in
-      step-passes text (idleAt 5 i) b (classNumber (classOf b)) 16 (le-refl i) h refl (small i) refl (rw (line-feed (eqb b 10) t)) (omega arith)
+      step-passes text (idleAt 5 i) b (classNumber (classOf b)) 16 (le-refl i) h refl (small i) refl (rw (line-feed (eqb b 10) t)) (omega arith) g
     where
       line-feed : (t : Bool) → not t ≡ false → t ≡ true
       line-feed true e = refl
@@ -204,44 +187,103 @@ module _ (text : List ℕ) (small : (i : ℕ) → getD text i 0 < 256) where
 
   -- a comment up to the LF that ends it, or to the end of the text
   module _ (c : Lexer) (z : c .mode ≡ 5) (h : c .next < length text) (r : ℕ) (p : First inLine text (c .next) (length text) r) where
-    up-to : Passed text c (idleAt 5 r)
-    up-to = passed-then text c (idleAt 5 (c .next)) (idleAt 5 r) (passed-idle Idle.comment text c (omega arith) z) (line-passed (c .next) r (p .run) (p .within))
+    up-to : Passed text c g (idleAt 5 r) g
+    up-to = passed-then text c (idleAt 5 (c .next)) (idleAt 5 r) (passed-idle Idle.comment text c (omega arith) z g) (line-passed (c .next) r (p .run) (p .within))
 
-    pub comment-past : r < length text → Passed text c (begunAt 0 r 10) × (c .next < begunAt 0 r 10 .next)
-    unfolding begunAt
-    comment-past i = (passed-then text c (idleAt 5 r) (begunAt 0 r 10) up-to (comment-ended r i (p .stops i)), omega (arith, p .run .forth))
+    pub comment-past : r < length text → Passed text c g (begunAt 0 r 10) g
+    comment-past i = passed-then text c (idleAt 5 r) (begunAt 0 r 10) up-to (comment-ended r i (p .stops i))
 
-    pub comment-to-end : length text ≤ r → Passed text c (idleAt 5 r) × (c .next < r)
-    comment-to-end i = (up-to, omega arith)
+    pub comment-to-end : length text ≤ r → Passed text c g (idleAt 5 r) g
+    comment-to-end i = up-to
 
-  letter-passed : (s i : ℕ) → s ≤ i → i < length text → i < s + 64 → nameByte (getD text i 0) ≡ true → Passed text (plainAt s i) (plainAt s (i + 1))
-  unfolding actionAt advancedAt
-  letter-passed s i o h n t =
-      let b = getD text i 0 in
-      let k = classNumber (classOf b) in
-      step-passes text (plainAt s i) b k 1 o h refl (small i) refl (in-plain k (i - s) (ltb-true k 2 (sym (name-test b) ∙ t)) (omega arith)) (omega arith)
+pub comment-forth : (n r : ℕ) → n ≤ r → n < begunAt 0 r 10 .next
+unfolding begunAt
+comment-forth n r h = omega arith
 
-  -- a plain name, from the letter that begins it
-  pub plain-passed : (s r : ℕ) → s < length text → classNumber (classOf (getD text s 0)) ≡ 0 → First nameByte text (s + 1) (nameLimit (length text) s) r
-      → Passed text (idleAt 0 s) (plainAt s r)
-  unfolding actionAt beginsAt advancedAt begunAt
-  plain-passed s r h z p =
-      let b = getD text s 0 in
-      let w = limit-within (length text) s (omega arith) in
-      passed-then text (idleAt 0 s) (plainAt s (s + 1)) (plainAt s r)
-      (step-passes text (idleAt 0 s) b (classNumber (classOf b)) 17 (le-refl s) h refl (small s) refl (rw z) (omega arith))
-      (passed-run text (λ i. plainAt s i) (s + 1) r (p .run .forth) (passed-none text (plainAt s (s + 1)) (omega arith) (omega arith))
-      (λ i a b. letter-passed s i (omega (arith, a)) (omega (arith, b, p .within, w .0)) (omega (arith, b, p .within, w .1)) (p .run .each i a b)))
+-- ---- a plain name that ends in the text
 
-  -- the byte that ends it
-  pub plain-ended : (s r k : ℕ) → s ≤ r → r < length text → k ≡ classNumber (classOf (getD text r 0)) → 2 ≤ k
-      → Lexes text (plainAt s r) (lexedFrom (idleAt 0 r) (endedAt (plainAt s r)))
-  unfolding actionAt findingAt
-  plain-ended s r k o h e t = step-finds text (plainAt s r) (getD text r 0) k 32 o h refl (small r) e (past-plain k (r - s) t) (omega arith) .lexes
+holds : {t : Bool} → t ≡ true → T t
+holds e = subst⁻¹ (λ (t : Bool). T t) e tt
+
+-- its bytes
+in-name : (text : List ℕ) (n s : ℕ) → s + n ≤ length text → ((i : ℕ) → s ≤ i → i < s + n → nameByte (getD text i 0) ≡ true) → T (all nameByte (take n (drop s text)))
+in-name text zero s h k = tt
+in-name text (suc n) s h k =
+    rw (drop-cons text s 0 (omega arith))
+    (yes-and (nameByte (getD text s 0)) (all nameByte (take n (drop (suc s) text))) (holds (k s (le-refl s) (omega arith)))
+    (in-name text n (suc s) (omega arith) (λ i a b. k i (omega (arith, a)) (omega (arith, b)))))
+
+plain-bytes : (text : List ℕ) (s n : ℕ) → PlainTo text s (s + suc n) → T (plainBytes (take (suc n) (drop s text)))
+plain-bytes text s n p =
+    rw (drop-cons text s 0 (omega (arith, p .within)))
+    (yes-and (letterByte (getD text s 0)) (all nameByte (take n (drop (suc s) text))) (holds (p .letter))
+    (in-name text n (suc s) (omega (arith, p .within)) (λ i a b. p .run .each i (omega (arith, a)) (omega (arith, b)))))
+
+module _ (text g : List ℕ) (s n : ℕ) (small : s < gatheredPlace) (p : PlainTo text s (s + suc n)) where
+  bytes : List ℕ
+  bytes = take (suc n) (drop s text)
+
+  as-contents : bytes ≡ contentsIn text g s (suc n)
+  unfolding contentsIn bytes
+  as-contents = rw (ne-eqb s gatheredPlace (λ e. absurd (omega (arith, e))))
+
+  count : length bytes ≡ suc n
+  unfolding bytes
+  count = length-take-le (suc n) (drop s text) (simp length-drop (omega (arith, p .within)))
+
+  -- the text from there on
+  onward : (more : List ℕ) → drop s text ++ more ≡ bytes ++ (getD text (s + suc n) 0 ∷ (drop (s + suc n + 1) text ++ more))
+  unfolding bytes
+  onward more =
+      ap (λ (xs : List ℕ). xs ++ more) (sym (take-append-drop (suc n) (drop s text)) ∙ ap (λ (xs : List ℕ). take (suc n) (drop s text) ++ xs) (drop-drop (suc n) s text))
+      ∙ append-assoc (take (suc n) (drop s text)) (drop (s + suc n) text) more
+      ∙ ap (λ (xs : List ℕ). take (suc n) (drop s text) ++ xs) (drop-here text (s + suc n) (getD text (s + suc n) 0) (p .within) refl more)
+
+  named-gives : (l : meaning.Lexer) → Stands g l (idleAt 0 s)
+      → Gives text l (idleAt 0 s) (lexedFrom (idleAt 0 (s + suc n)) (founds.Lexeme (placeAt s) (lexemes.Plain s (suc n)))) g
+  unfolding bytes
+  named-gives l st =
+      let z = st .room in
+      let e : s ≡ l .next = st .next in
+      record {
+        one = meaning.token s (nameOrWord bytes) ∷ [];
+        finds =
+            rw as-contents
+            (Finds.lexeme (placeAt s) _ _ (Means.plain s (suc n))
+            (record { size = (omega arith, omega (arith, p .short)); room = omega (arith, p .short, z); part = λ k. omega (arith, p .within) })
+            (omega (arith, p .within)));
+        reaches =
+            record {
+              after = idle Mode.between (s + suc n);
+              stands = stands-idle Idle.between g z (s + suc n);
+              tokens =
+                  λ more.
+                  let rest = drop (s + suc n + 1) text ++ more in
+                  ap (tokensFrom l) (onward more)
+                  ∙ plain-before l (mode-is g l (idleAt 0 s) Mode.between st refl) bytes (plain-bytes text s n p) (omega (arith, count, p .short)) (getD text (s + suc n) 0) (p .ends) (idle Mode.between (s + suc n)) refl (omega (arith, count, e)) rest
+                  ∙ ap (λ (k : ℕ). meaning.token k (nameOrWord bytes) ∷ tokensFrom (idle Mode.between (s + suc n)) (getD text (s + suc n) 0 ∷ rest)) (sym e)
+                  ∙ ap (λ (xs : List ℕ). meaning.token s (nameOrWord bytes) ∷ tokensFrom (idle Mode.between (s + suc n)) xs) (sym (drop-here text (s + suc n) (getD text (s + suc n) 0) (p .within) refl more));
+            };
+      }
+
+-- a plain name, found at once
+pub plain-found : (text g : List ℕ) (s r : ℕ) → s < gatheredPlace → s < r → PlainTo text s r
+    → Lexes text (idleAt 0 s) g (lexedFrom (idleAt 0 r) (founds.Lexeme (placeAt s) (lexemes.Plain s (r - s)))) g
+plain-found text g s r small h p =
+    let n = r - s - 1 in
+    let e : r ≡ s + suc n = omega arith in
+    let k : r - s ≡ suc n = omega arith in
+    rw k (subst⁻¹ (λ (m : ℕ). Lexes text (idleAt 0 s) g (lexedFrom (idleAt 0 m) (founds.Lexeme (placeAt s) (lexemes.Plain s (suc n)))) g) e
+    (record {
+      forth = omega arith;
+      within = omega (arith, p .within);
+      order = le-refl (s + suc n);
+      gives = named-gives text g s n small (subst (λ (m : ℕ). PlainTo text s m) e p);
+    }))
 
 -- a mark, with nothing open
 pub mark-found : (text : List ℕ) (d : Lexer) (b k : ℕ) → d .start ≤ d .next → d .next < length text → b ≡ getD text (d .next) 0 → b < 256 → k ≡ classNumber (classOf b)
-    → d .mode ≡ 0 → k ≡ 6 → Scanned text d (lexedFrom (begunAt 0 (d .next) b) (singleAt 35 (d .next) b))
+    → d .mode ≡ 0 → k ≡ 6 → (h : List ℕ) → Scanned text d h (lexedFrom (begunAt 0 (d .next) b) (singleAt 35 (d .next) b)) h
 unfolding actionAt beginsAt findingAt
 mark-found text d b k o h e small class z t = step-finds text d b k 35 o h e small class (rw (z, t)) (omega arith)
 
@@ -266,27 +308,27 @@ module _ (c : Lexer) where
   finished-idle {m} i e =
       record {
         gives =
-            λ text q l s.
+            λ text h q l s o.
             Ending.end
             (record {
               found = refl;
-              tokens = ap (λ (fs : List meaning.Found). fs ++ (meaning.Found.token (l .next) meaning.Token.end ∷ [])) (idle-none i l (mode-is text l c m s e));
+              tokens = ap (λ (fs : List meaning.Found). fs ++ (meaning.Found.token (l .next) meaning.Token.end ∷ [])) (idle-none i l (mode-is h l c m s e));
             });
       }
 
-  pub finished-open : c .start ≤ c .next → (c .mode ≡ 0 → ⊥) → LexerFinished c (lexedFrom (idleAt 0 (c .next)) (endedAt c))
-  finished-open o h =
+  pub finished-open : (c .mode ≡ 0 → ⊥) → LexerFinished c (lexedFrom (idleAt 0 (c .next)) (endedAt c))
+  finished-open i =
       record {
         gives =
-            λ text q l s.
+            λ text h q l s o.
             Ending.last
             (record {
               one = ended l;
-              finds = ends-found text l c s o (omega (arith, q));
+              finds = ends-found text h l c s o (omega (arith, q));
               idle = refl;
-              less = left-closed text c h;
+              less = left-closed text c i;
               after = idle Mode.between (l .next);
-              stands = rw (s .next) (stands-idle Idle.between text (l .next));
+              stands = rw (s .next) (stands-idle Idle.between h (s .room) (l .next));
               tokens = idle-ends l;
             });
       }

@@ -7,7 +7,8 @@ use native.Mathlib.Nat.{le-refl}
 use native.Mathlib.Omega.{arith}
 use borrow.Author.Tests.{eqb-true, eq-eqb, ne-eqb}
 use lib.Dec.{T, eqb, ltb, leb}
-use lib.ListN.{length, getD, drop}
+use lib.ListN.{length, getD, take, drop, set, length-set}
+use lib.Seq.{length-take-le}
 use Rattle.language.specs.Bytes.{classOf, classNumber}
 use Rattle.language.specs.Tokens as meaning
 use Rattle.language.specs.Tokens.{Mode, lexStep, tokensFrom, lexer₀}
@@ -15,16 +16,17 @@ use Rattle.lexer.specs.declared.Lexer.{Lexer}
 use Rattle.lexer.specs.declared.Lexed.{Lexed}
 use Rattle.lexer.specs.declared.Found.{Found as Foundᶜ}
 use Rattle.lexer.specs.declared.Found.the-variants as founds
+use Rattle.lexer.specs.Contents.{countedAt}
 use Rattle.lexer.specs.Actions.{modeNumber, beginsAt, actionAt}
-use Rattle.lexer.specs.Lexing.{part, held, left, Stands, Finds, Passed, Lexes, Scanned, lexerFrom, idleAt, lexedFrom}
-use Rattle.lexer.specs.Advancing.{begunAt, advancedAt, findingAt}
+use Rattle.lexer.specs.Lexing.{held, Sized, left, Stands, Finds, Passed, Lexes, Scanned, lexerFrom, idleAt, lexedFrom}
+use Rattle.lexer.specs.Advancing.{begunAt, gatheringAt, heldAt, countedBy, advancedAt, heldAfter, findingAt}
 use Rattle.lexer.proofs.Acting.{Act, Counted, acts, begins-nothing-ends}
-use Rattle.lexer.proofs.TokenSteps.{tokens-step, Idle, idle, idle-same}
-use Rattle.lexer.proofs.Standing.{drop-here, length-part, advances, advances-quietly, finds-gives, stands-idle}
+use Rattle.language.proofs.TokenSteps.{tokens-step, Idle, idle, idle-same}
+use Rattle.lexer.proofs.Standing.{drop-here, advances, advances-quietly, finds-gives, stands-idle}
 
 -- before the first byte
-pub stands-first : (text : List ℕ) → Stands text lexer₀ (idleAt 0 0)
-stands-first text = stands-idle Idle.between text 0
+pub stands-first : (h : List ℕ) → length h ≡ 64 → Stands h lexer₀ (idleAt 0 0)
+stands-first h r = stands-idle Idle.between h r 0
 
 -- ---- what is left
 
@@ -68,11 +70,29 @@ module _ (c : Lexer) (order : c .start ≤ c .next) where
       on (ltb m 6) (record { next = refl; order = omega arith })
       (on (eqb m 6) (record { next = refl; order = omega arith }) (record { next = refl; order = omega arith }))
 
-  pub advanced-moved : (a b : ℕ) → Moved c (advancedAt c a b)
-  unfolding advancedAt
-  advanced-moved a b =
-      on (leb 16 a) (begun-moved (a - 16) b)
-      (on (ltb a 4) (kept _ _ _ _) (on (eqb a 9) (kept _ _ _ _) (on (eqb a 10) (kept _ _ _ _) (kept _ _ _ _))))
+  pub advanced-moved : (a b room : ℕ) → Moved c (advancedAt c a b room)
+  unfolding advancedAt gatheringAt countedBy
+  advanced-moved a b room =
+      on (leb 16 a) (on (eqb a 17) (record { next = refl; order = omega arith }) (begun-moved (a - 16) b))
+      (on (ltb a 6) (on (eqb a 3) (kept _ _ _ _) (on (eqb a 5) (kept _ _ _ _) (on (eqb a 4) (kept _ _ _ _) (kept _ _ _ _))))
+      (on (eqb a 9) (kept _ _ _ _) (on (eqb a 10) (kept _ _ _ _) (kept _ _ _ _))))
+
+-- what is gathered stays as long as it was
+pub held-length : (c : Lexer) (a b : ℕ) (h : List ℕ) → length (heldAfter c a b h) ≡ length h
+unfolding heldAfter heldAt
+held-length c a b h =
+    let n = c .value in
+    let two = set (set h n 92) (countedAt (length h) n) b in
+    let name = cond (eqb a 3) h (cond (eqb a 5) two (set h n b)) in
+    long (leb 16 a) (cond (eqb a 17) (set h 0 b) h) (cond (ltb a 6) name h) (long (eqb a 17) (set h 0 b) h (length-set h 0 b) refl)
+    (long (ltb a 6) name h
+    (long (eqb a 3) h (cond (eqb a 5) two (set h n b)) refl
+    (long (eqb a 5) two (set h n b) (length-set (set h n 92) (countedAt (length h) n) b ∙ length-set h n 92) (length-set h n b)))
+    refl)
+  where
+    long : (t : Bool) (x y : List ℕ) → length x ≡ length h → length y ≡ length h → length (cond t x y) ≡ length h
+    long true x y p q = p
+    long false x y p q = q
 
 -- The place after a byte that finds something, which is passed unless it ends what is open.
 record Found (text : List ℕ) (c : Lexer) (x : Lexed) : Type 0 where
@@ -106,21 +126,22 @@ module _ (text : List ℕ) (c : Lexer) (order : c .start ≤ c .next) (within : 
 
 module _ (text : List ℕ) (c : Lexer) (b k a : ℕ) (order : c .start ≤ c .next) (within : c .next < length text)
     (e : b ≡ getD text (c .next) 0) (small : b < 256) (class : k ≡ classNumber (classOf b))
-    (action : a ≡ actionAt (c .mode) k b (c .next - c .start)) where
-  counted-as : (l : meaning.Lexer) → Stands text l c → (m : Mode) → l .mode ≡ m → Counted m l (c .next - c .start)
-  counted-as l s m q = by m q
+    (action : a ≡ actionAt (c .mode) k b (c .value)) where
+  counted-as : (h : List ℕ) (l : meaning.Lexer) → Stands h l c → (m : Mode) → l .mode ≡ m → Counted m l (c .value)
+  counted-as h l s m q = by m q
     where
-      held-length : (m : Mode) → l .mode ≡ m → length (l .bytes) ≡ length (held m (part text (c .start) (c .next)))
-      held-length m q = ap length (s .bytes ∙ ap (λ (n : Mode). held n (part text (c .start) (c .next))) q)
+      size : (m : Mode) → l .mode ≡ m → Sized m (c .value)
+      size m q = subst (λ (m : Mode). Sized m (c .value)) q (s .size)
 
-      count : length (part text (c .start) (c .next)) ≡ c .next - c .start
-      count = length-part text (c .start) (c .next) order (omega arith)
+      count : (m : Mode) → l .mode ≡ m → held m (take (c .value) h) ≡ take (c .value) h → c .value ≤ 64 → length (l .bytes) ≡ c .value
+      count m q k i =
+          rw (s .bytes ∙ ap (λ (m : Mode). held m (take (c .value) h)) q ∙ k) (length-take-le (c .value) h (omega (arith, s .room)))
 
-      by : (m : Mode) → l .mode ≡ m → Counted m l (c .next - c .start)
+      by : (m : Mode) → l .mode ≡ m → Counted m l (c .value)
       by Mode.between q = tt
-      by Mode.plain q = held-length Mode.plain q ∙ count
-      by Mode.quoted q = held-length Mode.quoted q ∙ count
-      by Mode.escaping q = held-length Mode.escaping q ∙ count
+      by Mode.plain q = let z = size Mode.plain q in (count Mode.plain q refl (z .1), z .1)
+      by Mode.quoted q = let z = size Mode.quoted q in (count Mode.quoted q refl z, z)
+      by Mode.escaping q = let z = size Mode.escaping q in (count Mode.escaping q refl z, z)
       by Mode.slash q = tt
       by Mode.comment q = tt
       by Mode.sign q = tt
@@ -129,13 +150,13 @@ module _ (text : List ℕ) (c : Lexer) (b k a : ℕ) (order : c .start ≤ c .ne
       by Mode.prefix q = tt
       by Mode.hexadecimal q = tt
 
-  act : (l : meaning.Lexer) → Stands text l c → Act l b a (lexStep l b)
-  act l s = rw (action, class, s .mode) (acts l b (c .next - c .start) (counted-as l s (l .mode) refl))
+  act : (h : List ℕ) (l : meaning.Lexer) → Stands h l c → Act l b a (lexStep l b)
+  act h l s = rw (action, class, s .mode) (acts l b (c .value) (counted-as h l s (l .mode) refl))
 
   -- that finds nothing
-  pub step-passes : a < 32 → Passed text c (advancedAt c a b)
-  step-passes h =
-      let m = advanced-moved c order a b in
+  pub step-passes : a < 32 → (h : List ℕ) → Passed text c h (advancedAt c a b (length h)) (heldAfter c a b h)
+  step-passes i h =
+      let m = advanced-moved c order a b (length h) in
       record {
         forth = omega (arith, m .next);
         within = omega (arith, m .next);
@@ -144,25 +165,25 @@ module _ (text : List ℕ) (c : Lexer) (b k a : ℕ) (order : c .start ≤ c .ne
             λ l s.
             record {
               after = lexStep l b .lexer;
-              stands = advances text l c s b order within e small (act l s) h;
+              stands = advances h l c s b small (act h l s) i;
               tokens =
                   λ more.
                   rw (m .next, drop-here text (c .next) b within e more)
                   (tokens-step l b (drop (c .next + 1) text ++ more)
                   ∙ ap (λ (fs : List meaning.Found). fs ++ tokensFrom (lexStep l b .lexer) (drop (c .next + 1) text ++ more))
-                  (advances-quietly text l c s b order within e small (act l s) h));
+                  (advances-quietly h l c s b small (act h l s) i));
             };
       }
 
   not-between : a ≡ 32 → c .mode ≡ 0 → ⊥
   unfolding actionAt
   not-between q z =
-      let is : a ≡ beginsAt k b = action ∙ ap (λ (m : ℕ). actionAt m k b (c .next - c .start)) z in
+      let is : a ≡ beginsAt k b = action ∙ ap (λ (m : ℕ). actionAt m k b (c .value)) z in
       subst T (sym (eq-eqb (beginsAt k b) 32 (sym is ∙ q)) ∙ begins-nothing-ends k b) tt
 
   -- that finds something
-  pub step-finds : 32 ≤ a → Scanned text c (findingAt c a b)
-  step-finds h =
+  pub step-finds : 32 ≤ a → (h : List ℕ) → Scanned text c h (findingAt c a b) h
+  step-finds i h =
       let m = finding-moved text c order within a b not-between in
       record {
         lexes =
@@ -170,18 +191,18 @@ module _ (text : List ℕ) (c : Lexer) (b k a : ℕ) (order : c .start ≤ c .ne
               forth = m .forth;
               within = m .within;
               order = m .order;
-              gives = λ l s. finds-gives text l c s b order within e small (act l s) h (tokens-step l b);
+              gives = λ l s. finds-gives text h l c s b order within e small (act h l s) i (tokens-step l b);
             };
         less = m .less;
       }
 
 -- ---- the bytes up to the first that finds something
 
-pub passed-none : (text : List ℕ) (c : Lexer) → c .next ≤ length text → c .start ≤ c .next → Passed text c c
-passed-none text c h o =
-    record { forth = le-refl (c .next); within = h; order = o; reaches = λ l s. record { after = l; stands = s; tokens = λ more. refl } }
+pub passed-none : (text : List ℕ) (c : Lexer) (h : List ℕ) → c .next ≤ length text → c .start ≤ c .next → Passed text c h c h
+passed-none text c h i o =
+    record { forth = le-refl (c .next); within = i; order = o; reaches = λ l s. record { after = l; stands = s; tokens = λ more. refl } }
 
-pub passed-then : (text : List ℕ) (c d e : Lexer) → Passed text c d → Passed text d e → Passed text c e
+pub passed-then : (text : List ℕ) (c d e : Lexer) {h i j : List ℕ} → Passed text c h d i → Passed text d i e j → Passed text c h e j
 passed-then text c d e p q =
     record {
       forth = omega (arith, p .forth, q .forth);
@@ -194,7 +215,7 @@ passed-then text c d e p q =
           record { after = y .after; stands = y .stands; tokens = λ more. x .tokens more ∙ y .tokens more };
     }
 
-pub passed-lexes : (text : List ℕ) (c d : Lexer) (r : Lexed) → Passed text c d → Lexes text d r → Lexes text c r
+pub passed-lexes : (text : List ℕ) (c d : Lexer) (r : Lexed) {h i j : List ℕ} → Passed text c h d i → Lexes text d i r j → Lexes text c h r j
 passed-lexes text c d r p q =
     record {
       forth = omega (arith, p .forth, q .forth);
@@ -212,7 +233,7 @@ passed-lexes text c d r p q =
     }
 
 -- nothing found
-pub lexes-nothing : (text : List ℕ) (c d : Lexer) → Passed text c d → Lexes text c (lexedFrom d founds.Nothing)
+pub lexes-nothing : (text : List ℕ) (c d : Lexer) {h i : List ℕ} → Passed text c h d i → Lexes text c h (lexedFrom d founds.Nothing) i
 lexes-nothing text c d p =
     record {
       forth = p .forth;
@@ -221,10 +242,10 @@ lexes-nothing text c d p =
       gives = λ l s. record { one = []; finds = Finds.nothing; reaches = p .reaches l s };
     }
 
-pub moved-scanned : (text : List ℕ) (c : Lexer) (r : Lexed) → Lexes text c r → c .next < r .lexer .next → Scanned text c r
+pub moved-scanned : (text : List ℕ) (c : Lexer) (r : Lexed) {h i : List ℕ} → Lexes text c h r i → c .next < r .lexer .next → Scanned text c h r i
 moved-scanned text c r p h = record { lexes = p; less = left-moved text c (r .lexer) h (p .within) }
 
-pub passed-scanned : (text : List ℕ) (c d : Lexer) (r : Lexed) → Passed text c d → left text d ≤ left text c → Scanned text d r → Scanned text c r
+pub passed-scanned : (text : List ℕ) (c d : Lexer) (r : Lexed) {h i j : List ℕ} → Passed text c h d i → left text d ≤ left text c → Scanned text d i r j → Scanned text c h r j
 passed-scanned text c d r p h q = record { lexes = passed-lexes text c d r p (q .lexes); less = omega (arith, q .less) }
 
 -- ---- modes by their numbers
@@ -247,12 +268,12 @@ mode-of Mode.decimal = refl
 mode-of Mode.prefix = refl
 mode-of Mode.hexadecimal = refl
 
-pub mode-is : (text : List ℕ) (l : meaning.Lexer) (c : Lexer) (m : Mode) → Stands text l c → c .mode ≡ modeNumber m → l .mode ≡ m
-mode-is text l c m s e = sym (mode-of (l .mode)) ∙ ap (λ (n : ℕ). getD modes n Mode.between) (sym (s .mode) ∙ e) ∙ mode-of m
+pub mode-is : (h : List ℕ) (l : meaning.Lexer) (c : Lexer) (m : Mode) → Stands h l c → c .mode ≡ modeNumber m → l .mode ≡ m
+mode-is h l c m s e = sym (mode-of (l .mode)) ∙ ap (λ (n : ℕ). getD modes n Mode.between) (sym (s .mode) ∙ e) ∙ mode-of m
 
 -- with nothing open, or a comment, it does not matter where it began
-pub passed-idle : {m : Mode} → Idle m → (text : List ℕ) (c : Lexer) → c .next ≤ length text → c .mode ≡ modeNumber m → Passed text c (idleAt (modeNumber m) (c .next))
-passed-idle {m} i text c within z =
+pub passed-idle : {m : Mode} → Idle m → (text : List ℕ) (c : Lexer) → c .next ≤ length text → c .mode ≡ modeNumber m → (h : List ℕ) → Passed text c h (idleAt (modeNumber m) (c .next)) h
+passed-idle {m} i text c within z h =
     record {
       forth = le-refl (c .next);
       within = within;
@@ -261,7 +282,7 @@ passed-idle {m} i text c within z =
           λ l s.
           record {
             after = idle m (l .next);
-            stands = rw (s .next) (stands-idle i text (l .next));
-            tokens = λ more. idle-same i l (mode-is text l c m s z) (drop (c .next) text ++ more);
+            stands = rw (s .next) (stands-idle i h (s .room) (l .next));
+            tokens = λ more. idle-same i l (mode-is h l c m s z) (drop (c .next) text ++ more);
           };
     }

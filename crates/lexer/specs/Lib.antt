@@ -1,5 +1,6 @@
 pub mod Numbers
 pub mod Actions
 pub mod Runs
+pub mod Contents
 pub mod Lexing
 pub mod Advancing

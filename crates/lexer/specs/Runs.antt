@@ -4,8 +4,8 @@ use mathlib.Core.List.{List}
 use mathlib.Core.Path.{_≡_}
 use Prim.Native.Nat.{ℕ, _+_, _-_, _≤_, _<_}
 use lib.Dec.{eqb, ltb}
-use lib.ListN.{getD}
-use Rattle.language.specs.Bytes.{classOf, classNumber, lineFeed}
+use lib.ListN.{length, getD}
+use Rattle.language.specs.Bytes.{classOf, classNumber, nameByte, letterByte, lineFeed}
 
 abbrev pub isSpace : ℕ → Bool
 isSpace b = eqb (classNumber (classOf b)) 2
@@ -28,3 +28,11 @@ pub record First (test : ℕ → Bool) (text : List ℕ) (from end r : ℕ) : Ty
 -- "A name has 1 to 64 bytes": how far one that begins at s goes at most in a text of n bytes.
 unfoldable pub nameLimit : (n s : ℕ) → ℕ
 nameLimit n s = cond (ltb (n - s) 64) n (s + 64)
+
+-- A plain name goes from s up to r, where a byte that no name has ends it.
+pub record PlainTo (text : List ℕ) (s r : ℕ) : Type 0 where
+  pub letter : letterByte (getD text s 0) ≡ true
+  pub run : Run nameByte text (s + 1) r
+  pub short : r ≤ s + 64
+  pub within : r < length text
+  pub ends : nameByte (getD text r 0) ≡ false

@@ -1,11 +1,11 @@
 // What a byte does to what is open, by number (`modes`).
 ghost use mathlib.Core.Path.{_≡_};
-ghost use Rattle.lexer.specs.Actions.{digitModeAt, beginsAt, inPlainAt, inQuotesAt, inQuotedAt, afterNumberAt, inDecimalAt, inNumberAt, actionAt};
+ghost use Rattle.lexer.specs.Actions.{digitModeAt, beginsAt, inPlainAt, inQuotedAt, inEscapedAt, afterNumberAt, inDecimalAt, inNumberAt, actionAt};
 use crate::modes;
 use crate::values::hex_value;
 use vocabulary::kinds;
 
-// "A name has 1 to 64 bytes so counted."
+// "The 64 bytes are counted on the contents."
 pub const MAX_NAME: usize = 64;
 
 // Zero begins `0x` too.
@@ -39,12 +39,12 @@ fn begins(class: u8, b: u8) -> u64
     }
 }
 
-// In a plain name of this length.
-fn in_plain(class: u8, length: usize) -> u64
-    ensures { λ r. ⌜ r ≡ inPlainAt class length ⌝ }
+// In a plain name that has so many bytes.
+fn in_plain(class: u8, kept: usize) -> u64
+    ensures { λ r. ⌜ r ≡ inPlainAt class kept ⌝ }
 {
     if class < kinds::SPACE {
-        if length < MAX_NAME {
+        if kept < MAX_NAME {
             return modes::PLAIN;
         }
         return modes::SPOILS;
@@ -52,31 +52,40 @@ fn in_plain(class: u8, length: usize) -> u64
     modes::ENDS
 }
 
-// In quotes, at a byte that closes nothing. "a backslash directly before a quote makes that quote part of the name"
-fn in_quotes(b: u8, length: usize) -> u64
-    ensures { λ r. ⌜ r ≡ inQuotesAt b length ⌝ }
+// In quotes, with so many bytes of contents, after something else than a backslash. "quote, one or more bytes, quote"
+fn in_quoted(b: u8, kept: usize) -> u64
+    ensures { λ r. ⌜ r ≡ inQuotedAt b kept ⌝ }
 {
-    if length < MAX_NAME {
-        if b == b'\\' {
-            return modes::ESCAPING;
+    if b == b'\'' {
+        if kept == 0 {
+            return modes::SPOILS;
         }
+        return modes::CLOSES;
+    }
+    if b == b'\\' {
+        return modes::ESCAPING;
+    }
+    if kept < MAX_NAME {
         return modes::QUOTED;
     }
     modes::SPOILS
 }
 
-// In quotes, after something else than a backslash. "quote, one or more bytes, quote"
-fn in_quoted(b: u8, length: usize) -> u64
-    ensures { λ r. ⌜ r ≡ inQuotedAt b length ⌝ }
+// In quotes, after a backslash: "a backslash directly before a quote makes that quote part of the name" and "is dropped".
+fn in_escaped(b: u8, kept: usize) -> u64
+    ensures { λ r. ⌜ r ≡ inEscapedAt b kept ⌝ }
 {
-    if b != b'\'' {
-        return in_quotes(b, length);
-    }
-    if length == 1 {
+    if MAX_NAME <= kept {
         return modes::SPOILS;
     }
-    if length < MAX_NAME {
-        return modes::CLOSES;
+    if b == b'\'' {
+        return modes::QUOTED;
+    }
+    if b == b'\\' {
+        return modes::WAITS_NEXT;
+    }
+    if kept < MAX_NAME - 1 {
+        return modes::KEEPS_BOTH;
     }
     modes::SPOILS
 }
@@ -134,15 +143,15 @@ fn in_number(mode: u64, class: u8, b: u8) -> u64
     }
 }
 
-// In a mode, at a byte b of a class, after so many bytes of what is open.
-pub fn action(mode: u64, class: u8, b: u8, length: usize) -> u64
-    ensures { λ r. ⌜ r ≡ actionAt mode class b length ⌝ }
+// In a mode, at a byte b of a class, with so many bytes of a name's contents.
+pub fn action(mode: u64, class: u8, b: u8, kept: usize) -> u64
+    ensures { λ r. ⌜ r ≡ actionAt mode class b kept ⌝ }
 {
     match mode {
         modes::BETWEEN => begins(class, b),
-        modes::PLAIN => in_plain(class, length),
-        modes::QUOTED => in_quoted(b, length),
-        modes::ESCAPING => in_quotes(b, length),
+        modes::PLAIN => in_plain(class, kept),
+        modes::QUOTED => in_quoted(b, kept),
+        modes::ESCAPING => in_escaped(b, kept),
         modes::SLASH => {
             if b == b'/' {
                 return modes::BEGINS_COMMENT;

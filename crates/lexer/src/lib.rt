@@ -1,24 +1,29 @@
-// Bytes to lexemes, one at a time, with the state by value. A name is a part of the text and is never copied; a plain one may be a word,
-// which whoever takes it looks up.
+// Bytes to lexemes, one at a time, with the state by value. A plain name that ends in the text lent is a part of it; the contents of any other
+// name are gathered in 64 bytes that are lent beside it. A plain name may be a word, which whoever takes it looks up.
 mod actions;
+mod contents;
 mod modes;
 mod runs;
 mod values;
 
+use crate::contents::GATHERED;
+use crate::contents::keep;
 use crate::values::Amount;
+pub use contents::contents_of;
 use text_place::TextPlace;
 use vocabulary::kinds;
-ghost use mathlib.Core.Bool.{false};
+ghost use mathlib.Core.List.{List};
 ghost use mathlib.Core.Path.{_≡_};
-ghost use Prim.Native.Nat.{_≤_, _<_};
-ghost use lib.ListN.{length, getD};
+ghost use Prim.Native.Nat.{ℕ, _≤_, _<_};
+ghost use lib.ListN.{length};
 ghost use Rattle.vocabulary.specs.Classes.{classTable};
-ghost use Rattle.lexer.specs.Lexing.{idleAt, Passed, Lexes, Scanned, LexerFinished};
-ghost use Rattle.lexer.specs.Advancing.{freshAt, begunAt, singleAt, endedAt, longerAt, numberAt, advancedAt, findingAt};
+ghost use Rattle.lexer.specs.Lexing.{idleAt, Passed, Scanned, LexerFinished};
+ghost use Rattle.lexer.specs.Advancing.{freshAt, begunAt, singleAt, endedAt, longerAt, gatheringAt, heldAt, numberAt, countedBy, advancedAt, heldAfter, findingAt};
 
-// What the bytes so far leave open (a mode's number), the place of the next byte, the place where what is open began, and a
-// number's sign and value; `over` says that the value is 2^64 or more, and then `value` is 0. The fields stand so that no odd
-// number of bytes lies between or behind them: such a gap is copied apart, at every token.
+// What the bytes so far leave open (a mode's number), the place of the next byte, the place where what is open began, and a number's sign and
+// value; `over` says that the value is 2^64 or more, and then `value` is 0. Of a name, `value` is how many bytes of its contents are
+// gathered: a lexer is copied at every token, and a field more is felt. The fields stand so that no odd number of bytes lies between or
+// behind them: such a gap is copied apart.
 pub struct Lexer {
     pub next: usize,
     pub start: usize,
@@ -28,8 +33,8 @@ pub struct Lexer {
     pub over: bool,
 }
 
-// What stands at a place: a plain spelling, a name or a word, and a quoted name, each by the place of its first byte in the text lent and the
-// count of its bytes; a number by its sign, its value and whether that is 2^64 or more; a mark by its byte; the end.
+// What stands at a place: a plain spelling, a name or a word, and a quoted name, each by the place of its contents' first byte in the text lent,
+// or GATHERED, and the count of their bytes; a number by its sign, its value and whether that is 2^64 or more; a mark by its byte; the end.
 pub enum Lexeme {
     Plain(usize, usize),
     Quoted(usize, usize),
@@ -120,39 +125,6 @@ fn single(action: u64, p: usize, b: u8) -> Found
     Found::Stray(TextPlace { byte: p })
 }
 
-// The plain spelling that begins with the letter at `start`, if it ends in the text.
-fn plain(text: &[u8], start: usize, classes: &[u8; 256]) -> Lexed
-    requires { ⌜ (start < length (now text)) × (now classes ≡ classTable) × (getD (now classes) (getD (now text) start 0) 0 ≡ 0) ⌝ }
-    ensures { λ r. ⌜ Lexes (now (text .entry)) (idleAt 0 start) r × (start < r .lexer .next) ⌝ }
-{
-    let end = runs::name_end(text, start, classes);
-    let lexer = Lexer {
-        mode: modes::PLAIN,
-        next: end,
-        start,
-        negative: false,
-        value: 0,
-        over: false,
-    };
-    if text.len() <= end {
-        return Lexed {
-            lexer,
-            found: Found::Nothing,
-        };
-    }
-    let b = text[end];
-    if classes[b as usize] < kinds::SPACE {
-        return Lexed {
-            lexer,
-            found: Found::Nothing,
-        };
-    }
-    Lexed {
-        lexer: idle(modes::BETWEEN, end),
-        found: lexer.ended(),
-    }
-}
-
 impl Lexer {
     // Before the first byte.
     pub fn new() -> Self
@@ -163,13 +135,12 @@ impl Lexer {
 
     // What is open, ended by a byte that does not belong to it or by the text's end.
     fn ended(self) -> Found
-        requires { ⌜ self .start ≤ self .next ⌝ }
         ensures { λ r. ⌜ r ≡ endedAt self ⌝ }
     {
         let place = TextPlace { byte: self.start };
         let mode = self.mode;
         if mode == modes::PLAIN {
-            return Found::Lexeme(place, Lexeme::Plain(self.start, self.next - self.start));
+            return Found::Lexeme(place, Lexeme::Plain(GATHERED, self.value as usize));
         }
         if mode == modes::BETWEEN {
             return Found::Nothing;
@@ -186,19 +157,40 @@ impl Lexer {
         Found::Lexeme(place, Lexeme::Number(self.negative, self.value, self.over))
     }
 
-    // One byte more of a name.
-    fn longer_name(self, mode: u64) -> Self
+    // One byte more of a name, whose contents have so many bytes now.
+    fn longer_name(self, mode: u64, kept: usize) -> Self
         requires { ⌜ self .next < 18446744073709551615 ⌝ }
-        ensures { λ r. ⌜ r ≡ longerAt self mode ⌝ }
+        ensures { λ r. ⌜ r ≡ longerAt self mode kept ⌝ }
     {
         Lexer {
             mode,
             next: self.next + 1,
             start: self.start,
             negative: false,
-            value: 0,
+            value: kept as u64,
             over: false,
         }
+    }
+
+    // Past a byte of a name, with what it adds to the contents.
+    fn gathering(self, action: u64, b: u8, held: &mut [u8]) -> Self
+        requires { ⌜ self .next < 18446744073709551615 ⌝ }
+        ensures { λ r. ⌜ (r ≡ gatheringAt self action (length (now (held .entry)))) × (now (held .exit) ≡ heldAt (self .value) action b (now (held .entry))) ⌝ }
+    {
+        let kept = self.value as usize;
+        if action == modes::ESCAPING {
+            return self.longer_name(modes::ESCAPING, kept);
+        }
+        if action == modes::KEEPS_BOTH {
+            let n = keep(held, kept, b'\\');
+            let m = keep(held, n, b);
+            return self.longer_name(modes::QUOTED, m);
+        }
+        let n = keep(held, kept, b);
+        if action == modes::WAITS_NEXT {
+            return self.longer_name(modes::ESCAPING, n);
+        }
+        self.longer_name(action, n)
     }
 
     // One byte more of a number, whose value is now this.
@@ -216,17 +208,11 @@ impl Lexer {
         }
     }
 
-    // Past a byte that finds nothing.
-    fn advanced(self, action: u64, b: u8) -> Self
+    // Past a byte of a number.
+    fn counted(self, action: u64, b: u8) -> Self
         requires { ⌜ self .next < 18446744073709551615 ⌝ }
-        ensures { λ r. ⌜ r ≡ advancedAt self action b ⌝ }
+        ensures { λ r. ⌜ r ≡ countedBy self action b ⌝ }
     {
-        if modes::BEGINS <= action {
-            return begun(action - modes::BEGINS, self.next, b);
-        }
-        if action < modes::SLASH {
-            return self.longer_name(action);
-        }
         if action == modes::PREFIX {
             return self.longer_number(
                 modes::PREFIX,
@@ -247,9 +233,26 @@ impl Lexer {
         self.longer_number(action, values::grown(self.value, self.over, 10, digit))
     }
 
+    // Past a byte that finds nothing.
+    fn advanced(self, action: u64, b: u8, held: &mut [u8]) -> Self
+        requires { ⌜ self .next < 18446744073709551615 ⌝ }
+        ensures { λ r. ⌜ (r ≡ advancedAt self action b (length (now (held .entry)))) × (now (held .exit) ≡ heldAfter self action b (now (held .entry))) ⌝ }
+    {
+        if modes::BEGINS <= action {
+            if action == modes::BEGINS_PLAIN {
+                return idle(modes::PLAIN, self.next).gathering(modes::PLAIN, b, held);
+            }
+            return begun(action - modes::BEGINS, self.next, b);
+        }
+        if action < modes::SIGN {
+            return self.gathering(action, b, held);
+        }
+        self.counted(action, b)
+    }
+
     // Past a byte that finds something; one that ends what is open is not passed.
     fn finding(self, action: u64, b: u8) -> Lexed
-        requires { ⌜ (self .start ≤ self .next) × (self .next < 18446744073709551615) ⌝ }
+        requires { ⌜ self .next < 18446744073709551615 ⌝ }
         ensures { λ r. ⌜ r ≡ findingAt self action b ⌝ }
     {
         if action == modes::ENDS {
@@ -269,10 +272,7 @@ impl Lexer {
         if action == modes::CLOSES {
             return Lexed {
                 lexer,
-                found: Found::Lexeme(
-                    place,
-                    Lexeme::Quoted(self.start, self.next - self.start + 1),
-                ),
+                found: Found::Lexeme(place, Lexeme::Quoted(GATHERED, self.value as usize)),
             };
         }
         Lexed {
@@ -284,7 +284,7 @@ impl Lexer {
     // Past the spaces from here on, where nothing is open.
     fn spaced(self, text: &[u8], classes: &[u8; 256]) -> Self
         requires { ⌜ (self .start ≤ self .next) × (self .next ≤ length (now text)) × (now classes ≡ classTable) ⌝ }
-        ensures { λ r. ⌜ Passed (now (text .entry)) self r × (r .mode ≡ self .mode) ⌝ }
+        ensures { λ r. ⌜ ((h : List ℕ) → Passed (now (text .entry)) self h r h) × (r .mode ≡ self .mode) ⌝ }
     {
         if self.mode != modes::BETWEEN {
             return self;
@@ -295,7 +295,7 @@ impl Lexer {
     // Past the comment that is open, up to and with the LF that ends it.
     fn commented(self, text: &[u8]) -> Self
         requires { ⌜ (self .next < length (now text)) × (self .mode ≡ 5) ⌝ }
-        ensures { λ r. ⌜ Passed (now (text .entry)) self r × (self .next < r .next) ⌝ }
+        ensures { λ r. ⌜ ((h : List ℕ) → Passed (now (text .entry)) self h r h) × (self .next < r .next) ⌝ }
     {
         let end = runs::line_end(text, self.next);
         if end < text.len() {
@@ -305,20 +305,20 @@ impl Lexer {
     }
 
     // The bytes up to and with the first that finds something or begins a comment, whatever is open.
-    fn passing(self, text: &[u8], classes: &[u8; 256]) -> Lexed
+    fn passing(self, text: &[u8], classes: &[u8; 256], held: &mut [u8]) -> Lexed
         requires { ⌜ (self .start ≤ self .next) × (self .next < length (now text)) × (now classes ≡ classTable) ⌝ }
-        ensures { λ r. ⌜ Scanned (now (text .entry)) self r ⌝ }
+        ensures { λ r. ⌜ Scanned (now (text .entry)) self (now (held .entry)) r (now (held .exit)) ⌝ }
     {
         let mut l = self;
         while l.next < text.len() {
             let next = l.next;
             let b = text[next];
             let class = classes[b as usize];
-            let a = actions::action(l.mode, class, b, next - l.start);
+            let a = actions::action(l.mode, class, b, l.value as usize);
             if modes::ENDS <= a {
                 return l.finding(a, b);
             }
-            l = l.advanced(a, b);
+            l = l.advanced(a, b, held);
             if l.mode == modes::COMMENT {
                 return Lexed {
                     lexer: l,
@@ -334,9 +334,9 @@ impl Lexer {
 
     // Some bytes, up to one that finds something if there is one. Marks and plain names, which most of a text is made of, are found with no
     // question what is open.
-    pub fn scan(self, text: &[u8], classes: &[u8; 256]) -> Lexed
+    pub fn scan(self, text: &[u8], classes: &[u8; 256], held: &mut [u8]) -> Lexed
         requires { ⌜ (self .start ≤ self .next) × (self .next < length (now text)) × (now classes ≡ classTable) ⌝ }
-        ensures { λ r. ⌜ Scanned (now (text .entry)) self r ⌝ }
+        ensures { λ r. ⌜ Scanned (now (text .entry)) self (now (held .entry)) r (now (held .exit)) ⌝ }
     {
         if self.mode == modes::COMMENT {
             return Lexed {
@@ -360,16 +360,19 @@ impl Lexer {
                 found: single(modes::MARK, next, b),
             };
         }
-        if class == kinds::LETTER {
-            return plain(text, next, classes);
+        let end = runs::plain_end(text, next, class, classes);
+        if next < end {
+            return Lexed {
+                lexer: idle(modes::BETWEEN, end),
+                found: Found::Lexeme(TextPlace { byte: next }, Lexeme::Plain(next, end - next)),
+            };
         }
-        l.passing(text, classes)
+        l.passing(text, classes, held)
     }
 
     // What the text's end ends: what is open, and else the end. After the former, the latter is found. Between tokens and in a comment
     // nothing is open: one branch for both, which is faster than two that return the same.
     pub fn finish(self) -> Lexed
-        requires { ⌜ self .start ≤ self .next ⌝ }
         ensures { λ r. ⌜ LexerFinished self r ⌝ }
     {
         let end = Found::Lexeme(TextPlace { byte: self.next }, Lexeme::End);

@@ -8,7 +8,7 @@ pub const PLAIN: u64 = 1;
 
 pub const QUOTED: u64 = 2;
 
-// In a quoted name, directly after a backslash.
+// In a quoted name, directly after a backslash, which waits outside the contents.
 pub const ESCAPING: u64 = 3;
 
 pub const SLASH: u64 = 4;
@@ -26,7 +26,16 @@ pub const PREFIX: u64 = 9;
 
 pub const HEXADECIMAL: u64 = 10;
 
-// What a byte does. A mode's number: it goes on with what is open, in that mode. BEGINS more than that: it begins the mode.
+// What a byte does. A mode's number: it goes on with what is open, in that mode. In a name it is one byte more of the contents, but for
+// ESCAPING: a backslash begins to wait. A slash and a comment are begun and never gone on with, so their numbers are free for two more:
+
+// The backslash that waited is a byte of the contents, and this one waits.
+pub const WAITS_NEXT: u64 = SLASH;
+
+// The backslash that waited is a byte of the contents, and this byte is the next.
+pub const KEEPS_BOTH: u64 = COMMENT;
+
+// BEGINS more than a mode's number: it begins the mode.
 pub const BEGINS: u64 = 16;
 
 pub const BEGINS_BETWEEN: u64 = BEGINS + BETWEEN;

@@ -1,11 +1,11 @@
 // Runs of bytes of one kind: where they end.
 ghost use mathlib.Core.Bool.{false};
 ghost use mathlib.Core.Path.{_≡_};
-ghost use Prim.Native.Nat.{_+_, _≤_};
-ghost use lib.ListN.{length};
+ghost use Prim.Native.Nat.{_+_, _≤_, _<_};
+ghost use lib.ListN.{length, getD};
 ghost use Rattle.language.specs.Bytes.{nameByte};
 ghost use Rattle.vocabulary.specs.Classes.{classTable};
-ghost use Rattle.lexer.specs.Runs.{isSpace, inLine, Run, First, nameLimit};
+ghost use Rattle.lexer.specs.Runs.{isSpace, inLine, Run, First, nameLimit, PlainTo};
 use crate::actions::MAX_NAME;
 use vocabulary::kinds;
 
@@ -51,6 +51,26 @@ pub fn name_end(text: &[u8], start: usize, classes: &[u8; 256]) -> usize
         i += 1;
     }
     i
+}
+
+// Where the plain name that begins at `start` with a byte of this class ends, if a byte that no name has ends it; else `start`.
+pub fn plain_end(text: &[u8], start: usize, class: u8, classes: &[u8; 256]) -> usize
+    requires { ⌜ (start < length (now text)) × (now classes ≡ classTable) ⌝ }
+    requires { ⌜ (class ≡ 0 → getD (now classes) (getD (now text) start 0) 0 ≡ 0) ⌝ }
+    ensures { λ r. ⌜ (start < r → (class ≡ 0) × PlainTo (now (text .entry)) start r) ⌝ }
+{
+    if class != kinds::LETTER {
+        return start;
+    }
+    let end = name_end(text, start, classes);
+    if text.len() <= end {
+        return start;
+    }
+    let b = text[end];
+    if classes[b as usize] < kinds::SPACE {
+        return start;
+    }
+    end
 }
 
 // Whether one of the eight bytes from here on is LF.

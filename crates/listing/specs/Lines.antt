@@ -6,6 +6,10 @@ use Rattle.language.specs.Bytes.{lineFeed}
 use Rattle.language.specs.Listing.{tab, digits}
 use Rattle.language.specs.Programs.{Func, rowsOf, maxName, maxFunctions}
 
+-- A name of `maxName` quotes in quotes, each with its backslash.
+abbrev pub spellingMost : ℕ
+spellingMost = 2 * maxName + 2
+
 -- How many bytes a line takes at most, each number with its tab: the sizes with the line's end, a function's line, those of all functions, a refusal's.
 abbrev pub fieldMost : ℕ
 fieldMost = 21
@@ -14,7 +18,7 @@ abbrev pub sizesMost : ℕ
 sizesMost = 3 * fieldMost + 1
 
 abbrev pub lineMost : ℕ
-lineMost = maxName + fieldMost + sizesMost
+lineMost = spellingMost + fieldMost + sizesMost
 
 abbrev pub listingMost : ℕ
 listingMost = maxFunctions * lineMost

@@ -25,11 +25,14 @@ use table::function_count;
 use table::function_name;
 use table::function_ssa;
 use table::register_count;
+use token_text::put_spelling;
 
-// How many bytes a number with its tab takes at most, a function's line, and the lines of all functions: `Lines` says the same.
+// How many bytes a name's spelling takes at most, a number with its tab, a function's line, and the lines of all functions: `Lines` says the same.
+const SPELLING_MOST: usize = 2 * MAX_NAME + 2;
+
 const FIELD_MOST: usize = 21;
 
-const LINE_MOST: usize = MAX_NAME + 4 * FIELD_MOST + 1;
+const LINE_MOST: usize = SPELLING_MOST + 4 * FIELD_MOST + 1;
 
 pub const LISTING_MOST: usize = MAX_FUNCTIONS * LINE_MOST;
 
@@ -69,13 +72,12 @@ fn put_sizes(t: &[u8], a: usize, out: &mut [u8], at: usize) -> usize
 
 // The line of the function at cell a.
 fn put_line(t: &[u8], a: usize, out: &mut [u8], at: usize) -> usize
-    requires { ⌜ (InTable (now t) a) × FunctionFits (decodeFunction (now t) a) × (at + lineMost ≤ length (now out)) ⌝ }
+    requires { ⌜ (InTable (now t) a) × FunctionFits (decodeFunction (now t) a) × (at + lineMost ≤ length (now out)) × (at + lineMost ≤ listingMost) ⌝ }
     ensures { λ r. ⌜ Written (now (out .entry)) at (functionLine (decodeFunction (now (t .entry)) a)) (now (out .exit)) r × (r ≤ at + lineMost) ⌝ }
 {
-    let name = function_name(t, a);
-    put_bytes(out, at, name);
-    let e = put_field(function_ssa(t, a) as u64, out, at + name.len());
-    put_sizes(t, a, out, e)
+    let e = put_spelling(function_name(t, a), out, at);
+    let f = put_field(function_ssa(t, a) as u64, out, e);
+    put_sizes(t, a, out, f)
 }
 
 // The lines of an accepted table, from the buffer's beginning on.

@@ -1,5 +1,5 @@
 -- The names of a function's registers and blocks, where the table has them. Assumes nothing.
-use mathlib.Core.Bool.{Bool, cond, not, _&&_, and-true}
+use mathlib.Core.Bool.{Bool, false, cond, not, _&&_, and-true}
 use mathlib.Core.List.{List, [], map, map-map}
 use mathlib.Core.Path.{_≡_, sym, ap, _∙_, subst}
 use Prim.Native.Nat.{ℕ, _+_, _≤_, _<_}
@@ -16,7 +16,7 @@ use Rattle.language.specs.Table.{blockLength, blockNamesOffset, registerLength,
 use Rattle.language.specs.MadeNames.{Title, given, wanted, madeName, entitled, registerTitle, blockTitle, registerPrefix, blockPrefix, registerNames, blockNames}
 use Rattle.language.proofs.TableView.{register-count, register-is, block-count, block-is, entry-is}
 use Rattle.naming.specs.Numbers.{prefixOf}
-use Rattle.naming.specs.Numbered.{Numbered, RegistersNumbered, BlocksNumbered}
+use Rattle.naming.specs.Numbered.{plainFlag, Numbered, RegistersNumbered, BlocksNumbered}
 
 module _ (t : List ℕ) (a : ℕ) where
   -- ---- registers
@@ -56,6 +56,10 @@ module _ (t : List ℕ) (a : ℕ) where
               ap (λ (ns : List (List ℕ)). getD ns r []) registers-titled ∙ k .named r l
               ∙ ap (λ (b : Bool). cond b (madeName registerPrefix (getD made r 0)) (registerName t a r)) (unnamed-is r l (registerName t a r))
               ∙ ap (λ (n : List ℕ). cond (empty n) (madeName registerPrefix (getD made r 0)) n) (sym (ap (λ (x : Register). x .name) (register-is t a r l)));
+          plain =
+              λ r h.
+              let l : r < registerCount t a = omega (arith, register-count t a) in
+              subst (λ (n : List ℕ). empty n ≡ false → getD made r 0 ≡ plainFlag n) (sym (ap (λ (x : Register). x .name) (register-is t a r l))) (k .plain r l);
         }
 
   -- ---- blocks
@@ -88,4 +92,8 @@ module _ (t : List ℕ) (a : ℕ) where
             ap (λ (ns : List (List ℕ)). getD ns b []) blocks-titled ∙ k .named b l
             ∙ ap (λ (n : List ℕ). cond (empty n && not (eqb b (functionEntry t a))) (madeName blockPrefix (getD made b 0)) n) (sym (ap (λ (x : Block). x .name) (block-is t a b l)))
             ∙ ap (λ (e : ℕ). cond (empty (blockAt (decodeFunction t a) b .name) && not (eqb b e)) (madeName blockPrefix (getD made b 0)) (blockAt (decodeFunction t a) b .name)) (sym (entry-is t a));
+        plain =
+            λ b h.
+            let l : b < blockCount t a = omega (arith, block-count t a) in
+            subst (λ (n : List ℕ). empty n ≡ false → getD made b 0 ≡ plainFlag n) (sym (ap (λ (x : Block). x .name) (block-is t a b l))) (k .plain b l);
       }

@@ -1,5 +1,5 @@
 -- The names given and made, one by one in table order. Assumes nothing.
-use mathlib.Core.Bool.{Bool, true, false, cond, not, _&&_}
+use mathlib.Core.Bool.{Bool, true, false, cond, not, _&&_, true≢false}
 use mathlib.Core.List.{List, [], _∷_, map}
 use mathlib.Core.Path.{_≡_, refl, sym, ap, _∙_}
 use Prim.Native.Nat.{ℕ, zero, suc, _+_, _-_, _*_, _≤_, _<_}
@@ -14,7 +14,7 @@ use Rattle.laws.proofs.OneMore.{range-more}
 use Rattle.laws.proofs.Sums.{sum-drop}
 use Rattle.language.specs.Table.{nameAt}
 use Rattle.language.specs.MadeNames.{Title, given, wanted, madeName, entitled, blockTitle}
-use Rattle.naming.specs.Numbered.{Marked, Free, Numbered}
+use Rattle.naming.specs.Numbered.{plainFlag, Marked, Free, Numbered}
 use Rattle.naming.proofs.Marks.{names, next-free}
 use Rattle.table.specs.Named.{NameWithin}
 
@@ -52,6 +52,7 @@ module _ (prefix t : List ℕ) (at stride count kept : ℕ) where
     pub rest : drop i whole ≡ entitled prefix used next (map title (from i (count - i)))
     pub room : next + sum (drop next marks) ≤ i + count
     pub done : (b : ℕ) → b < i → getD whole b [] ≡ cond (unnamed b) (madeName prefix (getD made b 0)) (name b)
+    pub plain : (b : ℕ) → b < i → empty (name b) ≡ false → getD made b 0 ≡ plainFlag (name b)
 
   pub going-first : {marks : List ℕ} → Marked prefix t at stride count marks → (made : List ℕ) → Going marks 0 0 made
   going-first m made =
@@ -60,6 +61,7 @@ module _ (prefix t : List ℕ) (at stride count kept : ℕ) where
         rest = let e : count ≡ count - 0 = omega arith in ap (λ (n : ℕ). entitled prefix used 0 (map title (from 0 n))) e;
         room = omega (arith, m .few);
         done = λ b h. absurd (omega arith);
+        plain = λ b h. absurd (omega arith);
       }
 
   module _ {marks : List ℕ} {i next : ℕ} {made : List ℕ} (g : Going marks i next made) (h : i < count) where
@@ -71,8 +73,16 @@ module _ (prefix t : List ℕ) (at stride count kept : ℕ) where
     one-more : (P : ℕ → Type 0) → ((b : ℕ) → b < i → P b) → P i → (b : ℕ) → b < i + 1 → P b
     one-more P f p b l = range-more P 0 i (λ k a u. f k u) p b (omega arith) l
 
-    pub going-given : unnamed i ≡ false → Going marks (i + 1) next made
-    going-given e =
+    -- a cell more, and those before it
+    module _ (x : ℕ) (l : i < length made) where
+      done-before : (b : ℕ) → b < i → getD whole b [] ≡ cond (unnamed b) (madeName prefix (getD (set made i x) b 0)) (name b)
+      done-before b u = g .done b u ∙ ap (λ (n : ℕ). cond (unnamed b) (madeName prefix n) (name b)) (sym (getD-set-other made i b x 0 (λ q. omega arith)))
+
+      plain-before : (b : ℕ) → b < i → empty (name b) ≡ false → getD (set made i x) b 0 ≡ plainFlag (name b)
+      plain-before b u e = getD-set-other made i b x 0 (λ q. omega arith) ∙ g .plain b u e
+
+    pub going-given : unnamed i ≡ false → {x : ℕ} → x ≡ plainFlag (name i) → i < length made → Going marks (i + 1) next (set made i x)
+    going-given e {x} p l =
         let o : drop i whole ≡ name i ∷ entitled prefix used next (map title (from (suc i) (count - suc i))) =
         opened ∙ ap (λ (x : Bool). entitled prefix used next (cond x wanted (given (name i)) ∷ map title (from (suc i) (count - suc i)))) e in
         record {
@@ -80,8 +90,9 @@ module _ (prefix t : List ℕ) (at stride count kept : ℕ) where
           rest = rw (add-one i) (drop-of-drop whole i o);
           room = omega (arith, g .room);
           done =
-              one-more (λ b. getD whole b [] ≡ cond (unnamed b) (madeName prefix (getD made b 0)) (name b)) (g .done)
-              (getD-of-drop whole i [] o ∙ sym (ap (λ (x : Bool). cond x (madeName prefix (getD made i 0)) (name i)) e));
+              one-more (λ b. getD whole b [] ≡ cond (unnamed b) (madeName prefix (getD (set made i x) b 0)) (name b)) (done-before x l)
+              (getD-of-drop whole i [] o ∙ sym (ap (λ (y : Bool). cond y (madeName prefix (getD (set made i x) i 0)) (name i)) e));
+          plain = one-more (λ b. empty (name b) ≡ false → getD (set made i x) b 0 ≡ plainFlag (name b)) (plain-before x l) (λ s. getD-set-same made i x 0 l ∙ p);
         }
 
     pub going-made :
@@ -99,12 +110,13 @@ module _ (prefix t : List ℕ) (at stride count kept : ℕ) where
           room = rw (add-one r) (omega (arith, sum-drop marks r (omega (arith, m .size, f .within)), f .free, f .room, g .room));
           done =
               one-more (λ b. getD whole b [] ≡ cond (unnamed b) (madeName prefix (getD (set made i r) b 0)) (name b))
-              (λ b u.
-              g .done b u
-              ∙ ap (λ (n : ℕ). cond (unnamed b) (madeName prefix n) (name b)) (sym (getD-set-other made i b r 0 (λ q. omega arith))))
+              (done-before r l)
               (getD-of-drop whole i [] o ∙ ap (madeName prefix) (sym here)
               ∙ sym (ap (λ (x : Bool). cond x (madeName prefix (getD (set made i r) i 0)) (name i)) e));
+          plain =
+              one-more (λ b. empty (name b) ≡ false → getD (set made i r) b 0 ≡ plainFlag (name b)) (plain-before r l)
+              (λ s. absurd (true≢false (sym e ∙ ap (λ (y : Bool). y && not (eqb i kept)) s)));
         }
 
   pub going-last : {marks : List ℕ} {i next : ℕ} {made : List ℕ} → Going marks i next made → count ≤ i → Numbered prefix t at stride count kept made
-  going-last g h = record { named = λ b l. g .done b (omega arith) }
+  going-last g h = record { named = λ b l. g .done b (omega arith); plain = λ b l. g .plain b (omega arith) }

@@ -3,5 +3,6 @@
 mod made;
 mod suffixes;
 
+pub use made::PLAIN;
 pub use made::number_blocks;
 pub use made::number_registers;

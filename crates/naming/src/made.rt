@@ -1,4 +1,4 @@
-// The numbers of made names, for registers and blocks alike. `first` is the first byte of the kind's prefix, and the length cells of the
+// The numbers of made names and the flags of given ones, for registers and blocks alike. `first` is the first byte of the kind's prefix, and the length cells of the
 // names stand `stride` apart, from cell `at` on.
 ghost use mathlib.Core.Path.{_≡_};
 ghost use mathlib.Core.Bool.{_&&_, not};
@@ -8,8 +8,9 @@ ghost use lib.ListN.{length, replicate, drop};
 ghost use Rattle.laws.specs.Lists.{empty, sum};
 ghost use Rattle.language.specs.Table.{nameAt, registerCount, blockCount, decodeFunction, InTable};
 ghost use Rattle.naming.specs.Numbers.{prefixOf};
-ghost use Rattle.naming.specs.Numbered.{Marked, Free, Numbered, RegistersNumbered, BlocksNumbered};
+ghost use Rattle.naming.specs.Numbered.{plainFlag, Marked, Free, Numbered, RegistersNumbered, BlocksNumbered};
 ghost use Rattle.language.specs.Programs.{maxBlocks, maxRegisters};
+ghost use Rattle.vocabulary.specs.Classes.{classTable};
 ghost use Rattle.table.specs.Named.{NameWithin, NamesWithin};
 use crate::suffixes::number;
 use table::BLOCK_LENGTH;
@@ -20,11 +21,16 @@ use table::block_count;
 use table::function_entry;
 use table::name_at;
 use table::register_count;
+use vocabulary::classes;
+use vocabulary::plain_name;
 
 // The first byte of `p.` and of `e.`.
 const REGISTER_PREFIX: u8 = 112;
 
 const BLOCK_PREFIX: u8 = 101;
+
+// The flag of a given name that is spelled plainly: each is tested once, however often it is written.
+pub const PLAIN: u16 = 1;
 
 // No register keeps a name of no bytes: there are 256 at most.
 const NO_REGISTER: usize = 256;
@@ -65,7 +71,18 @@ fn unnamed(t: &[u8], c: usize, i: usize, kept: usize) -> bool
     i != kept
 }
 
-// The numbers of the names that are made, in order; name `kept` is not.
+// The flag of a given name.
+fn plain_flag(name: &[u8], classes: &[u8; 256]) -> u16
+    requires { ⌜ now classes ≡ classTable ⌝ }
+    ensures { λ r. ⌜ r ≡ plainFlag (now (name .entry)) ⌝ }
+{
+    if plain_name(name, classes) {
+        return PLAIN;
+    }
+    0
+}
+
+// The numbers of the names that are made, in order, and the flags of the others; name `kept` is not made.
 fn number_names(
     t: &[u8],
     at: usize,
@@ -78,12 +95,15 @@ fn number_names(
     requires { ⌜ NamesWithin (now t) at stride count × (count ≤ maxRegisters) × (count ≤ length (now made)) ⌝ }
     ensures { λ r. ⌜ Numbered (prefixOf first) (now (t .entry)) at stride count kept (now (made .exit)) ⌝ }
 {
+    let table = classes();
     let mut marks = [0u8; 513];
     mark(t, at, stride, count, first, &mut marks);
     let mut next = 0;
     let mut i = 0;
     while i < count {
-        if !unnamed(t, at + stride * i, i, kept) {
+        let c = at + stride * i;
+        if !unnamed(t, c, i, kept) {
+            made[i] = plain_flag(name_at(t, c), &table);
             i += 1;
             continue;
         }

@@ -75,10 +75,10 @@ reads-out {fs} {f = f} {n} {p} (Reads.reading s d c k h) =
 
 module _ {text : List ℕ} {ends : Bool} {fs : List Func} {parse : Parse} {lx : Lexerᴸ} {c : Lexer} {s : Reader} {f n p : List ℕ} where
   -- it begins where it stands
-  pub onward-start : LexerAt text lx c → Between fs parse s f n p → {last before : List ℕ} → length last ≡ heads → length before ≡ maxRegisters
-      → RegistersIndexed (s .draft) f last before → Onward text ends fs parse lx c c s (lentOf f n p last before)
+  pub onward-start : {h : List ℕ} → LexerAt text h lx c → Between fs parse s f n p → {last before : List ℕ} → length last ≡ heads → length before ≡ maxRegisters
+      → RegistersIndexed (s .draft) f last before → Onward text ends fs parse lx c c h s (lentOf f n p last before)
   onward-start at b l m r =
-      record { parse = parse; lexer = lx; at = at; reads = reads-in b l m r; most = le-refl (left text c); same = λ more h. refl }
+      record { parse = parse; lexer = lx; at = at; reads = reads-in b l m r; most = le-refl (left text c); same = λ more r. refl }
 
 -- the bytes lent are read, or something of them is left
 pub may-end : (next n : ℕ) (ends : Bool) {r : Bool} → r ≡ cond (ltb next n) false (not ends) → r ≡ false → n ≤ next → ends ≡ true
@@ -94,49 +94,49 @@ has-paused next n ends {r} e t = by (decLt next n) ends e
     by (no q) false h = (omega arith, refl)
 
 -- what is found is there
-pub found-here : {text : List ℕ} {ends : Bool} {lx : Lexerᴸ} {c : Lexer} {y : Lexed} → Nexted text ends lx c y → FoundHere text (y .found)
+pub found-here : {text : List ℕ} {ends : Bool} {lx : Lexerᴸ} {c : Lexer} {y : Lexed} {h : List ℕ} → Nexted text ends lx c y h → FoundHere text h (y .found)
 found-here (Nexted.on one l′ finds at less same) = record { one = one; found = FoundAs.finds finds }
-found-here {text} {c = c} (Nexted.end e w t tokens) =
+found-here {text} {c = c} {h = h} (Nexted.end e w t tokens) =
     record {
       one = Foundᴸ.token (c .next) Tokenᴸ.end ∷ [];
-      found = subst (λ (f : Found). FoundAs text f (Foundᴸ.token (c .next) Tokenᴸ.end ∷ [])) (sym e) (FoundAs.end (placeAt (c .next)) w);
+      found = subst (λ (f : Found). FoundAs text h f (Foundᴸ.token (c .next) Tokenᴸ.end ∷ [])) (sym e) (FoundAs.end (placeAt (c .next)) w);
     }
 
 -- at the end of what is lent
-pub paused : {text : List ℕ} {ends : Bool} {fs : List Func} {parse₀ : Parse} {l₀ : Lexerᴸ} {c₀ c : Lexer} {s : Reader} {f n p last before : List ℕ}
-    → Onward text ends fs parse₀ l₀ c₀ c s (lentOf f n p last before) → (length text ≤ c .next) × (ends ≡ false)
-    → Arrives text ends fs parse₀ l₀ c₀ f n p (steps.Reading (record { lexer = c; reader = s }))
-paused {c = c} {s} o h =
-    Arrives.reading (o .parse) (record { lexer = c; reader = s }) (o .lexer) (h .1) (o .at) (h .0) (reads-out (o .reads)) (λ more. o .same more (λ t. absurd (rw (h .1) at t)))
+pub paused : {text : List ℕ} {ends : Bool} {fs : List Func} {parse₀ : Parse} {l₀ : Lexerᴸ} {c₀ c : Lexer} {s : Reader} {f n p last before h : List ℕ}
+    → Onward text ends fs parse₀ l₀ c₀ c h s (lentOf f n p last before) → (length text ≤ c .next) × (ends ≡ false)
+    → Arrives text ends fs parse₀ l₀ c₀ f n p h (steps.Reading (record { lexer = c; reader = s }))
+paused {c = c} {s} o k =
+    Arrives.reading (o .parse) (record { lexer = c; reader = s }) (o .lexer) (k .1) (o .at) (k .0) (reads-out (o .reads)) (λ more. o .same more (λ t. absurd (rw (k .1) at t)))
 
 -- ---- by what a token comes to
 
-module _ {text : List ℕ} {ends : Bool} {fs : List Func} {parse₀ : Parse} {l₀ : Lexerᴸ} {c₀ c : Lexer} {s : Reader} {x : Lent} {y : Lexed} {x′ : Lent} {r : Taken}
-    (o : Onward text ends fs parse₀ l₀ c₀ c s x) (next : Nexts text c y) (last : length text ≤ c .next → ends ≡ true) (takes : TakesFound text (y .found) s x r x′) where
-  found : Nexted text ends (o .lexer) c y
+module _ {text : List ℕ} {ends : Bool} {fs : List Func} {parse₀ : Parse} {l₀ : Lexerᴸ} {c₀ c : Lexer} {h : List ℕ} {s : Reader} {x : Lent} {y : Lexed} {h′ : List ℕ} {x′ : Lent} {r : Taken}
+    (o : Onward text ends fs parse₀ l₀ c₀ c h s x) (next : Nexts text c h y h′) (last : length text ≤ c .next → ends ≡ true) (takes : TakesFound text h′ (y .found) s x r x′) where
+  found : Nexted text ends (o .lexer) c y h′
   found = next-gives text ends (o .lexer) c y (o .at) next last
 
-  taken-as : {q : Taken} → r ≡ q → TakesFound text (y .found) s x q x′
-  taken-as {q} e = subst (λ (z : Taken). TakesFound text (y .found) s x z x′) e takes
+  taken-as : {q : Taken} → r ≡ q → TakesFound text h′ (y .found) s x q x′
+  taken-as {q} e = subst (λ (z : Taken). TakesFound text h′ (y .found) s x z x′) e takes
 
-  pub loop-refused : {k : ℕ} {q : TextPlace} → r ≡ taken.Refused k q → (f n p : List ℕ) → Arrives text ends fs parse₀ l₀ c₀ f n p (steps.Refused k q)
-  loop-refused {k} {q} e f n p = step-refused text ends fs parse₀ l₀ c₀ o y found x′ f n p k q (taken-as e)
+  pub loop-refused : {k : ℕ} {q : TextPlace} → r ≡ taken.Refused k q → (f n p g : List ℕ) → Arrives text ends fs parse₀ l₀ c₀ f n p g (steps.Refused k q)
+  loop-refused {k} {q} e f n p g = step-refused text ends fs parse₀ l₀ c₀ o y found x′ f n p g k q (taken-as e)
 
   module _ (suits : Suits (isEndFound (y .found)) r) where
     suit : {q : Taken} → r ≡ q → Suits (isEndFound (y .found)) q
     suit e = subst (Suits (isEndFound (y .found))) e suits
 
-    pub loop-reading : {q : Reader} → r ≡ taken.Reading q → Onward text ends fs parse₀ l₀ c₀ (y .lexer) q x′ × (left text (y .lexer) < left text c)
+    pub loop-reading : {q : Reader} → r ≡ taken.Reading q → Onward text ends fs parse₀ l₀ c₀ (y .lexer) h′ q x′ × (left text (y .lexer) < left text c)
     loop-reading {q} e = step-reading text ends fs parse₀ l₀ c₀ o y found x′ q (taken-as e) (suit e)
 
-    pub loop-closed : {q : Reader} → r ≡ taken.Closed q → Arrives text ends fs parse₀ l₀ c₀ (x′ .cells) (x′ .names) (x′ .pending) (steps.Closed (record { lexer = y .lexer; reader = q }))
+    pub loop-closed : {q : Reader} → r ≡ taken.Closed q → Arrives text ends fs parse₀ l₀ c₀ (x′ .cells) (x′ .names) (x′ .pending) h′ (steps.Closed (record { lexer = y .lexer; reader = q }))
     loop-closed {q} e = step-closed text ends fs parse₀ l₀ c₀ o y found x′ q (taken-as e) (suit e)
 
-    pub loop-ended : {q : Reader} → r ≡ taken.Ended q → Arrives text ends fs parse₀ l₀ c₀ (x′ .cells) (x′ .names) (x′ .pending) (steps.Ended (record { lexer = y .lexer; reader = q }))
+    pub loop-ended : {q : Reader} → r ≡ taken.Ended q → Arrives text ends fs parse₀ l₀ c₀ (x′ .cells) (x′ .names) (x′ .pending) h′ (steps.Ended (record { lexer = y .lexer; reader = q }))
     loop-ended {q} e = step-ended text ends fs parse₀ l₀ c₀ o y found x′ q (taken-as e) (suit e)
 
 -- what taking asks for
-pub taking : {text : List ℕ} {ends : Bool} {fs : List Func} {parse₀ : Parse} {l₀ : Lexerᴸ} {c₀ c : Lexer} {s : Reader} {x : Lent} {y : Lexed}
-    → Onward text ends fs parse₀ l₀ c₀ c s x → Nexts text c y → (length text ≤ c .next → ends ≡ true) → ReaderReached s x × FoundHere text (y .found)
+pub taking : {text : List ℕ} {ends : Bool} {fs : List Func} {parse₀ : Parse} {l₀ : Lexerᴸ} {c₀ c : Lexer} {h : List ℕ} {s : Reader} {x : Lent} {y : Lexed} {h′ : List ℕ}
+    → Onward text ends fs parse₀ l₀ c₀ c h s x → Nexts text c h y h′ → (length text ≤ c .next → ends ≡ true) → ReaderReached s x × FoundHere text h′ (y .found)
 taking {text} {ends} {fs} {c = c} {y = y} o next last =
     (record { functions = fs; parse = o .parse; reads = o .reads }, found-here (next-gives text ends (o .lexer) c y (o .at) next last))

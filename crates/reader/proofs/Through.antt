@@ -10,7 +10,7 @@ use lib.ListN.{length, set, drop, length-append}
 use borrow.Author.Tests.{lt-ltb, le-ltb}
 use borrow.Rule.Slice.PartMut.{midOf, putMid}
 use Rattle.language.specs.Answers.{zeros}
-use Rattle.language.specs.Programs.{Func, maxFunctions, maxText}
+use Rattle.language.specs.Programs.{Func, maxFunctions, maxText, maxName}
 use Rattle.language.specs.Table.{functionAt, functionLength, tableLength, cells}
 use Rattle.language.specs.Tokens.{Lexer as Lexerᴸ, lexer₀, tokensFrom, tokensOf}
 use Rattle.language.specs.Grammar.{Stage}
@@ -35,41 +35,41 @@ abbrev pub Same : (text : List ℕ) (ends : Bool) (parse : Parse) (l : Lexerᴸ)
 Same text ends parse l c parse′ l′ c′ =
     (more : List ℕ) → Rest ends more → toGo parse l (drop (c .next) text ++ more) ≡ toGo parse′ l′ (drop (c′ .next) text ++ more)
 
-closed-of : {text : List ℕ} {ends : Bool} {fs : List Func} {parse : Parse} {l : Lexerᴸ} {c : Lexer} {f n p : List ℕ} {y : Progress}
-    → Arrives text ends fs parse l c f n p (steps.Closed y)
-    → (g : Func) × (l′ : Lexerᴸ) × LexerAt text l′ (y .lexer) × (left text (y .lexer) < left text c) × ClosedWith fs g (y .reader) f n p
+closed-of : {text : List ℕ} {ends : Bool} {fs : List Func} {parse : Parse} {l : Lexerᴸ} {c : Lexer} {f n p v : List ℕ} {y : Progress}
+    → Arrives text ends fs parse l c f n p v (steps.Closed y)
+    → (g : Func) × (l′ : Lexerᴸ) × LexerAt text v l′ (y .lexer) × (left text (y .lexer) < left text c) × ClosedWith fs g (y .reader) f n p
     × Same text ends parse l c (Parse.reading Stage.top (fresh (fs ++ (g ∷ [])))) l′ (y .lexer)
 closed-of (Arrives.closed g y l′ at less with same) = (g, l′, at, less, with, same)
 
 -- ---- into a table
 
 -- From here, with this table, the rest of the text comes to what it comes to from there.
-pub record Here (text : List ℕ) (ends : Bool) (parse₁ : Parse) (l₁ : Lexerᴸ) (c₁ : Lexer) (s : Progress) (t n p : List ℕ) : Type 0 where
+pub record Here (text : List ℕ) (ends : Bool) (parse₁ : Parse) (l₁ : Lexerᴸ) (c₁ : Lexer) (s : Progress) (t n p v : List ℕ) : Type 0 where
   pub functions : List Func
   pub parse : Parse
   pub lexer : Lexerᴸ
-  pub at : LexerAt text lexer (s .lexer)
+  pub at : LexerAt text v lexer (s .lexer)
   pub inTable : InTable functions parse (s .reader) t n p
   pub same : Same text ends parse₁ l₁ c₁ parse lexer (s .lexer)
 
 -- The same for all that stands at the beginning.
-abbrev pub Goes : (text : List ℕ) (ends : Bool) (x : Progress) (t n p : List ℕ) (s : Progress) (t′ n′ p′ : List ℕ) → Type 0
-Goes text ends x t n p s t′ n′ p′ =
-    (fs : List Func) (parse : Parse) (l : Lexerᴸ) → LexerAt text l (x .lexer) → InTable fs parse (x .reader) t n p
-    → Here text ends parse l (x .lexer) s t′ n′ p′
+abbrev pub Goes : (text : List ℕ) (ends : Bool) (x : Progress) (t n p v : List ℕ) (s : Progress) (t′ n′ p′ v′ : List ℕ) → Type 0
+Goes text ends x t n p v s t′ n′ p′ v′ =
+    (fs : List Func) (parse : Parse) (l : Lexerᴸ) → LexerAt text v l (x .lexer) → InTable fs parse (x .reader) t n p
+    → Here text ends parse l (x .lexer) s t′ n′ p′ v′
 
-pub goes-start : (text : List ℕ) (ends : Bool) (x : Progress) (t n p : List ℕ) → Goes text ends x t n p x t n p
-goes-start text ends x t n p fs parse l at i =
+pub goes-start : (text : List ℕ) (ends : Bool) (x : Progress) (t n p v : List ℕ) → Goes text ends x t n p v x t n p v
+goes-start text ends x t n p v fs parse l at i =
     record { functions = fs; parse = parse; lexer = l; at = at; inTable = i; same = λ more r. refl }
 
-pub goes-reached : {text : List ℕ} {ends : Bool} {x : Progress} {t n p : List ℕ} {s : Progress} {t′ n′ p′ : List ℕ}
-    → TableReached text x t n p → Goes text ends x t n p s t′ n′ p′ → TableReached text s t′ n′ p′
+pub goes-reached : {text : List ℕ} {ends : Bool} {x : Progress} {t n p v : List ℕ} {s : Progress} {t′ n′ p′ v′ : List ℕ}
+    → TableReached text x t n p v → Goes text ends x t n p v s t′ n′ p′ v′ → TableReached text s t′ n′ p′ v′
 goes-reached r g =
     let h = g (r .functions) (r .parse) (r .lexer) (r .at) (r .inTable) in
     record { functions = h .functions; parse = h .parse; lexer = h .lexer; at = h .at; inTable = h .inTable }
 
 -- the cells of the function in hand, lent
-module _ {text : List ℕ} {s : Progress} {t n p : List ℕ} (h : TableReached text s t n p) where
+module _ {text : List ℕ} {s : Progress} {t n p v : List ℕ} (h : TableReached text s t n p v) where
   i : InTable (h .functions) (h .parse) (s .reader) t n p
   i = h .inTable
 
@@ -81,7 +81,7 @@ module _ {text : List ℕ} {s : Progress} {t n p : List ℕ} (h : TableReached t
     within-reached =
         slot-within (h .functions) (i .few) (i .whole) (q ∙ ap functionAt (i .between .count)) (r ∙ ap endOf (i .between .count)) (i .cells) (i .size) (i .table)
 
-    pub slot-reached : ProgressReached text s (midOf a (e - a) t) n p
+    pub slot-reached : ProgressReached text s (midOf a (e - a) t) n p v
     slot-reached =
         record {
           functions = h .functions;
@@ -109,11 +109,11 @@ cells-zero fs {f} l e = by (decLt (length fs) maxFunctions)
         rw none (empty-list f (l ∙ none))
 
 -- what the cells come to, put back
-module _ (text : List ℕ) (ends : Bool) (parse₁ : Parse) (l₁ : Lexerᴸ) (c₁ : Lexer) (s : Progress) (t n p : List ℕ)
-    (h : Here text ends parse₁ l₁ c₁ s t n p) (f′ n′ p′ : List ℕ) where
+module _ (text : List ℕ) (ends : Bool) (parse₁ : Parse) (l₁ : Lexerᴸ) (c₁ : Lexer) (s : Progress) (t n p v : List ℕ)
+    (h : Here text ends parse₁ l₁ c₁ s t n p v) (f′ n′ p′ v′ : List ℕ) where
   -- one function more
-  here-closed : (y : Progress) → Arrives text ends (h .functions) (h .parse) (h .lexer) (s .lexer) f′ n′ p′ (steps.Closed y)
-      → Here text ends parse₁ l₁ c₁ y (tableWith (h .functions) f′) n′ p′ × (left text (y .lexer) < left text (s .lexer))
+  here-closed : (y : Progress) → Arrives text ends (h .functions) (h .parse) (h .lexer) (s .lexer) f′ n′ p′ v′ (steps.Closed y)
+      → Here text ends parse₁ l₁ c₁ y (tableWith (h .functions) f′) n′ p′ v′ × (left text (y .lexer) < left text (s .lexer))
   here-closed y r =
       let (g, l′, at, less, with, same) = closed-of r in
       let fs = h .functions in
@@ -140,8 +140,8 @@ module _ (text : List ℕ) (ends : Bool) (parse₁ : Parse) (l₁ : Lexerᴸ) (c
       )
 
   -- an answer, or an end
-  here-fed : length f′ ≡ slotLength (length (h .functions)) → {r : Step} → Arrives text ends (h .functions) (h .parse) (h .lexer) (s .lexer) f′ n′ p′ r → NotClosed r
-      → Fed text ends parse₁ l₁ c₁ (tableWith (h .functions) f′) n′ p′ r
+  here-fed : length f′ ≡ slotLength (length (h .functions)) → {r : Step} → Arrives text ends (h .functions) (h .parse) (h .lexer) (s .lexer) f′ n′ p′ v′ r → NotClosed r
+      → Fed text ends parse₁ l₁ c₁ (tableWith (h .functions) f′) n′ p′ v′ r
   here-fed l (Arrives.refused k q e) out = Fed.refused k q (λ more r. h .same more r ∙ e more r)
   here-fed l (Arrives.closed g y l′ at less with same) out = absurd (out y refl)
   here-fed l (Arrives.reading parse′ y l′ e at all b same) out =
@@ -153,7 +153,7 @@ module _ (text : List ℕ) (ends : Bool) (parse₁ : Parse) (l₁ : Lexerᴸ) (c
       (ap (tableWith (h .functions)) (cells-zero (h .functions) l zero) ∙ slot-zero (h .functions) (h .inTable .few) (h .inTable .whole))
       (h .same [] (λ t. refl) ∙ same)
 
-module _ {text : List ℕ} {ends : Bool} {parse : Parse} {l : Lexerᴸ} {c : Lexer} {s : Progress} {t n p : List ℕ} (h : Here text ends parse l c s t n p)
+module _ {text : List ℕ} {ends : Bool} {parse : Parse} {l : Lexerᴸ} {c : Lexer} {s : Progress} {t n p v : List ℕ} (h : Here text ends parse l c s t n p v)
     {a e : ℕ} (q : a ≡ functionAt (s .reader .draft .functions)) (w : e ≡ endOf (s .reader .draft .functions)) where
   now : InTable (h .functions) (h .parse) (s .reader) t n p
   now = h .inTable
@@ -162,39 +162,39 @@ module _ {text : List ℕ} {ends : Bool} {parse : Parse} {l : Lexerᴸ} {c : Lex
   slot =
       in-slot (h .functions) (now .few) (now .whole) (q ∙ ap functionAt (now .between .count)) (w ∙ ap endOf (now .between .count)) (now .cells) (now .size) (now .table)
 
-  module _ (f′ n′ p′ : List ℕ) (kept : length f′ ≡ length (midOf a (e - a) t)) where
+  module _ (f′ n′ p′ v′ : List ℕ) (kept : length f′ ≡ length (midOf a (e - a) t)) where
     back : putMid a (e - a) t f′ ≡ tableWith (h .functions) f′
     back =
         slot-back (h .functions) (now .few) (now .whole) (q ∙ ap functionAt (now .between .count)) (w ∙ ap endOf (now .between .count)) (now .cells) (now .size) (now .table) f′
         (kept ∙ ap length slot)
 
-    arrives : (r : Step) → Advances text ends s (midOf a (e - a) t) n p r f′ n′ p′ → Arrives text ends (h .functions) (h .parse) (h .lexer) (s .lexer) f′ n′ p′ r
+    arrives : (r : Step) → Advances text ends s (midOf a (e - a) t) n p v r f′ n′ p′ v′ → Arrives text ends (h .functions) (h .parse) (h .lexer) (s .lexer) f′ n′ p′ v′ r
     arrives r adv = adv (h .functions) (h .parse) (h .lexer) (h .at) (rw slot (now .between))
 
-    step-on : (r : Step) → Advances text ends s (midOf a (e - a) t) n p r f′ n′ p′ → (y : Progress) → r ≡ steps.Closed y
-        → Here text ends parse l c y (putMid a (e - a) t f′) n′ p′ × (left text (y .lexer) < left text (s .lexer))
-    step-on r adv y is = rw back (here-closed text ends parse l c s t n p h f′ n′ p′ y (rw is at (arrives r adv)))
+    step-on : (r : Step) → Advances text ends s (midOf a (e - a) t) n p v r f′ n′ p′ v′ → (y : Progress) → r ≡ steps.Closed y
+        → Here text ends parse l c y (putMid a (e - a) t f′) n′ p′ v′ × (left text (y .lexer) < left text (s .lexer))
+    step-on r adv y is = rw back (here-closed text ends parse l c s t n p v h f′ n′ p′ v′ y (rw is at (arrives r adv)))
 
-    step-out : (r : Step) → Advances text ends s (midOf a (e - a) t) n p r f′ n′ p′ → NotClosed r → Fed text ends parse l c (putMid a (e - a) t f′) n′ p′ r
-    step-out r adv out = rw back (here-fed text ends parse l c s t n p h f′ n′ p′ (kept ∙ ap length slot ∙ now .size) (arrives r adv) out)
+    step-out : (r : Step) → Advances text ends s (midOf a (e - a) t) n p v r f′ n′ p′ v′ → NotClosed r → Fed text ends parse l c (putMid a (e - a) t f′) n′ p′ v′ r
+    step-out r adv out = rw back (here-fed text ends parse l c s t n p v h f′ n′ p′ v′ (kept ∙ ap length slot ∙ now .size) (arrives r adv) out)
 
 -- what the loop has to show
-module _ {text : List ℕ} {ends : Bool} {x : Progress} {t₀ n₀ p₀ : List ℕ} {s : Progress} {t n p : List ℕ} (goes : Goes text ends x t₀ n₀ p₀ s t n p)
-    {a e : ℕ} (q : a ≡ functionAt (s .reader .draft .functions)) (w : e ≡ endOf (s .reader .draft .functions)) (f′ n′ p′ : List ℕ) (kept : length f′ ≡ length (midOf a (e - a) t))
-    {r : Step} (adv : Advances text ends s (midOf a (e - a) t) n p r f′ n′ p′) where
-  pub goes-on : {y : Progress} → r ≡ steps.Closed y → Goes text ends x t₀ n₀ p₀ y (putMid a (e - a) t f′) n′ p′
-  goes-on {y} is fs parse l at i = step-on (goes fs parse l at i) q w f′ n′ p′ kept r adv y is .0
+module _ {text : List ℕ} {ends : Bool} {x : Progress} {t₀ n₀ p₀ v₀ : List ℕ} {s : Progress} {t n p v : List ℕ} (goes : Goes text ends x t₀ n₀ p₀ v₀ s t n p v)
+    {a e : ℕ} (q : a ≡ functionAt (s .reader .draft .functions)) (w : e ≡ endOf (s .reader .draft .functions)) (f′ n′ p′ v′ : List ℕ) (kept : length f′ ≡ length (midOf a (e - a) t))
+    {r : Step} (adv : Advances text ends s (midOf a (e - a) t) n p v r f′ n′ p′ v′) where
+  pub goes-on : {y : Progress} → r ≡ steps.Closed y → Goes text ends x t₀ n₀ p₀ v₀ y (putMid a (e - a) t f′) n′ p′ v′
+  goes-on {y} is fs parse l at i = step-on (goes fs parse l at i) q w f′ n′ p′ v′ kept r adv y is .0
 
-  pub goes-less : TableReached text x t₀ n₀ p₀ → {y : Progress} → r ≡ steps.Closed y → left text (y .lexer) < left text (s .lexer)
-  goes-less h {y} is = step-on (goes (h .functions) (h .parse) (h .lexer) (h .at) (h .inTable)) q w f′ n′ p′ kept r adv y is .1
+  pub goes-less : TableReached text x t₀ n₀ p₀ v₀ → {y : Progress} → r ≡ steps.Closed y → left text (y .lexer) < left text (s .lexer)
+  goes-less h {y} is = step-on (goes (h .functions) (h .parse) (h .lexer) (h .at) (h .inTable)) q w f′ n′ p′ v′ kept r adv y is .1
 
-  pub goes-out : NotClosed r → Feeds text ends x t₀ n₀ p₀ r (putMid a (e - a) t f′) n′ p′
-  goes-out out fs parse l at i = step-out (goes fs parse l at i) q w f′ n′ p′ kept r adv out
+  pub goes-out : NotClosed r → Feeds text ends x t₀ n₀ p₀ v₀ r (putMid a (e - a) t f′) n′ p′ v′
+  goes-out out fs parse l at i = step-out (goes fs parse l at i) q w f′ n′ p′ v′ kept r adv out
 
 -- ---- a whole text
 
-lexer-start : (text : List ℕ) → LexerAt text lexer₀ (idleAt 0 0)
-lexer-start text = record { stands = stands-first text; order = omega arith; within = omega arith }
+lexer-start : (text v : List ℕ) → length v ≡ maxName → LexerAt text v lexer₀ (idleAt 0 0)
+lexer-start text v r = record { stands = stands-first v r; order = omega arith; within = omega arith }
 
 table-first : {t n p : List ℕ} → t ≡ zeros tableLength → n ≡ zeros namesLength → p ≡ zeros pendingLength → InTable [] parse₀ (readerAt 0) t n p
 table-first e f g =
@@ -207,9 +207,10 @@ table-first e f g =
       between = between-fresh (lent-start refl f g) (readerAt 0) refl refl;
     }
 
-pub reached-first : (text : List ℕ) {x : Progress} → x ≡ progressStart → {t n p : List ℕ} → t ≡ zeros tableLength → n ≡ zeros namesLength → p ≡ zeros pendingLength → TableReached text x t n p
-reached-first text is e f g =
-    rw is (record { functions = []; parse = parse₀; lexer = lexer₀; at = lexer-start text; inTable = table-first e f g })
+pub reached-first : (text : List ℕ) {x : Progress} → x ≡ progressStart → {t n p v : List ℕ} → t ≡ zeros tableLength → n ≡ zeros namesLength → p ≡ zeros pendingLength → length v ≡ maxName
+    → TableReached text x t n p v
+reached-first text is {v = v} e f g r =
+    rw is (record { functions = []; parse = parse₀; lexer = lexer₀; at = lexer-start text v r; inTable = table-first e f g })
 
 -- what the text comes to, from its beginning
 comes-to : (text : List ℕ) → length text ≤ maxText → {z : Parse} → toGo parse₀ lexer₀ (drop 0 text ++ []) ≡ z → read text ≡ finish z
@@ -218,36 +219,36 @@ comes-to text short e =
     read-by-tokens text short ∙ ap finish (ap (λ (bs : List ℕ). foldl takeToken parse₀ (tokensFrom lexer₀ bs)) (sym (append-nil text)) ∙ e)
 
 -- fed: an answer, or all is read
-module _ (text : List ℕ) (short : length text ≤ maxText) {x : Progress} (is : x ≡ progressStart) {t₀ n₀ p₀ : List ℕ} (first : (t₀ ≡ zeros tableLength) × (n₀ ≡ zeros namesLength) × (p₀ ≡ zeros pendingLength))
-    {r : Step} {t n p : List ℕ} (feeds : Feeds text false x t₀ n₀ p₀ r t n p) where
-  fed : Fed text false parse₀ lexer₀ (idleAt 0 0) t n p r
-  fed = rw is at feeds [] parse₀ lexer₀ (lexer-start text) (table-first (first .0) (first .1) (first .2))
+module _ (text : List ℕ) (short : length text ≤ maxText) {x : Progress} (is : x ≡ progressStart) {t₀ n₀ p₀ v₀ : List ℕ} (first : (t₀ ≡ zeros tableLength) × (n₀ ≡ zeros namesLength) × (p₀ ≡ zeros pendingLength) × (length v₀ ≡ maxName))
+    {r : Step} {t n p v : List ℕ} (feeds : Feeds text false x t₀ n₀ p₀ v₀ r t n p v) where
+  fed : Fed text false parse₀ lexer₀ (idleAt 0 0) t n p v r
+  fed = rw is at feeds [] parse₀ lexer₀ (lexer-start text v₀ (first .3)) (table-first (first .0) (first .1) (first .2))
 
   pub fed-refused : NotReading r → (t′ : List ℕ) → ToldOf t′ (read text) (refusalOf r)
   fed-refused out t′ = by fed out
     where
-      by : {r : Step} → Fed text false parse₀ lexer₀ (idleAt 0 0) t n p r → NotReading r → ToldOf t′ (read text) (refusalOf r)
+      by : {r : Step} → Fed text false parse₀ lexer₀ (idleAt 0 0) t n p v r → NotReading r → ToldOf t′ (read text) (refusalOf r)
       by (Fed.refused k q e) out = rw (comes-to text short (e [] (λ t. refl))) (ToldOf.refused k q)
       by (Fed.reading fs parse y l e at all i same) out = absurd (out y refl)
       by (Fed.ended fs y e count few table same) out = absurd (false≢true e)
 
   module _ {y : Progress} (now : r ≡ steps.Reading y) where
-    read-on : {y : Progress} → Fed text false parse₀ lexer₀ (idleAt 0 0) t n p (steps.Reading y)
-        → (fs : List Func) × (parse : Parse) × (l : Lexerᴸ) × LexerAt text l (y .lexer) × InTable fs parse (y .reader) t n p
+    read-on : {y : Progress} → Fed text false parse₀ lexer₀ (idleAt 0 0) t n p v (steps.Reading y)
+        → (fs : List Func) × (parse : Parse) × (l : Lexerᴸ) × LexerAt text v l (y .lexer) × InTable fs parse (y .reader) t n p
         × ((more : List ℕ) → toGo parse₀ lexer₀ (drop 0 text ++ more) ≡ toGo parse l (drop (y .lexer .next) text ++ more))
     read-on (Fed.reading fs parse y l e at all i same) = (fs, parse, l, at, i, same)
 
-    pub fed-reached : TableReached text y t n p
+    pub fed-reached : TableReached text y t n p v
     fed-reached = let (fs, parse, l, at, i, same) = read-on (rw now at fed) in record { functions = fs; parse = parse; lexer = l; at = at; inTable = i }
 
-    module _ {r′ : Step} {t′ n′ p′ : List ℕ} (closes : Feeds text true y t n p r′ t′ n′ p′) where
-      whole-fed : Fed text true parse₀ lexer₀ (idleAt 0 0) t′ n′ p′ r′
+    module _ {r′ : Step} {t′ n′ p′ v′ : List ℕ} (closes : Feeds text true y t n p v r′ t′ n′ p′ v′) where
+      whole-fed : Fed text true parse₀ lexer₀ (idleAt 0 0) t′ n′ p′ v′ r′
       whole-fed =
           let (fs, parse, l, at, i, same) = read-on (rw now at fed) in
           from same (closes fs parse l at i)
         where
           from : {parse : Parse} {l : Lexerᴸ} → ((more : List ℕ) → toGo parse₀ lexer₀ (drop 0 text ++ more) ≡ toGo parse l (drop (y .lexer .next) text ++ more))
-              → {r : Step} → Fed text true parse l (y .lexer) t′ n′ p′ r → Fed text true parse₀ lexer₀ (idleAt 0 0) t′ n′ p′ r
+              → {r : Step} → Fed text true parse l (y .lexer) t′ n′ p′ v′ r → Fed text true parse₀ lexer₀ (idleAt 0 0) t′ n′ p′ v′ r
           from same (Fed.refused k q e) = Fed.refused k q (λ more r. same more ∙ e more r)
           from same (Fed.reading fs parse y l e at all i s) = absurd (true≢false e)
           from same (Fed.ended fs y e count few table s) = Fed.ended fs y e count few table (same [] ∙ s)
@@ -255,13 +256,13 @@ module _ (text : List ℕ) (short : length text ≤ maxText) {x : Progress} (is 
       pub closed-refused : NotEnded r′ → (t″ : List ℕ) → ToldOf t″ (read text) (refusalOf r′)
       closed-refused out t″ = by whole-fed out
         where
-          by : {r : Step} → Fed text true parse₀ lexer₀ (idleAt 0 0) t′ n′ p′ r → NotEnded r → ToldOf t″ (read text) (refusalOf r)
+          by : {r : Step} → Fed text true parse₀ lexer₀ (idleAt 0 0) t′ n′ p′ v′ r → NotEnded r → ToldOf t″ (read text) (refusalOf r)
           by (Fed.refused k q e) out = rw (comes-to text short (e [] (λ t. refl))) (ToldOf.refused k q)
           by (Fed.reading fs parse y l e at all i same) out = absurd (true≢false e)
           by (Fed.ended fs y e count few table same) out = absurd (out y refl)
 
       module _ {z : Progress} (ended : r′ ≡ steps.Ended z) where
-        at-end : {z : Progress} → Fed text true parse₀ lexer₀ (idleAt 0 0) t′ n′ p′ (steps.Ended z)
+        at-end : {z : Progress} → Fed text true parse₀ lexer₀ (idleAt 0 0) t′ n′ p′ v′ (steps.Ended z)
             → (fs : List Func) × (z .reader .draft .functions ≡ length fs) × (length fs ≤ maxFunctions) × (t′ ≡ tableWith fs []) × (read text ≡ Reading.program fs)
         at-end (Fed.ended fs z e count few table same) = (fs, count, few, table, comes-to text short same)
 
@@ -277,37 +278,37 @@ module _ (text : List ℕ) (short : length text ≤ maxText) {x : Progress} (is 
 
 -- ---- without a table
 
-pub record JudgedTo (text : List ℕ) (s : Progress) (f n p : List ℕ) : Type 0 where
+pub record JudgedTo (text : List ℕ) (s : Progress) (f n p v : List ℕ) : Type 0 where
   pub functions : List Func
   pub parse : Parse
   pub lexer : Lexerᴸ
-  pub at : LexerAt text lexer (s .lexer)
+  pub at : LexerAt text v lexer (s .lexer)
   pub between : Between functions parse (s .reader) f n p
   pub same : Same text true parse₀ lexer₀ (idleAt 0 0) parse lexer (s .lexer)
 
-pub judge-start : (text : List ℕ) {x : Progress} → x ≡ progressStart → {f n p : List ℕ} → f ≡ zeros functionLength → n ≡ zeros namesLength → p ≡ zeros pendingLength
-    → JudgedTo text x f n p
-judge-start text is e g h =
+pub judge-start : (text : List ℕ) {x : Progress} → x ≡ progressStart → {f n p v : List ℕ} → f ≡ zeros functionLength → n ≡ zeros namesLength → p ≡ zeros pendingLength → length v ≡ maxName
+    → JudgedTo text x f n p v
+judge-start text is {v = v} e g h r =
     rw is
     (record {
       functions = [];
       parse = parse₀;
       lexer = lexer₀;
-      at = lexer-start text;
+      at = lexer-start text v r;
       between = between-fresh (lent-start e g h) (readerAt 0) refl refl;
       same = λ more r. refl;
     })
 
-module _ {text : List ℕ} {s : Progress} {f n p : List ℕ} (h : JudgedTo text s f n p) where
-  pub judge-reached : ProgressReached text s f n p
+module _ {text : List ℕ} {s : Progress} {f n p v : List ℕ} (h : JudgedTo text s f n p v) where
+  pub judge-reached : ProgressReached text s f n p v
   judge-reached = record { functions = h .functions; parse = h .parse; lexer = h .lexer; at = h .at; between = h .between }
 
-  module _ {r : Step} {f′ n′ p′ : List ℕ} (adv : Advances text true s f n p r f′ n′ p′) where
-    judged : Arrives text true (h .functions) (h .parse) (h .lexer) (s .lexer) f′ n′ p′ r
+  module _ {r : Step} {f′ n′ p′ v′ : List ℕ} (adv : Advances text true s f n p v r f′ n′ p′ v′) where
+    judged : Arrives text true (h .functions) (h .parse) (h .lexer) (s .lexer) f′ n′ p′ v′ r
     judged = adv (h .functions) (h .parse) (h .lexer) (h .at) (h .between)
 
     module _ {y : Progress} (is : r ≡ steps.Closed y) where
-      pub judge-on : {z : List ℕ} → z ≡ zeros functionLength → JudgedTo text y z n′ p′
+      pub judge-on : {z : List ℕ} → z ≡ zeros functionLength → JudgedTo text y z n′ p′ v′
       judge-on {z} e =
           let (g, l′, at, less, with, same) = closed-of (rw is at judged) in
           record {
@@ -325,7 +326,7 @@ module _ {text : List ℕ} {s : Progress} {f n p : List ℕ} (h : JudgedTo text 
     pub judge-out : length text ≤ maxText → NotClosed r → JudgedAs (read text) (refusalOf r)
     judge-out short out = by judged out
       where
-        by : {r : Step} → Arrives text true (h .functions) (h .parse) (h .lexer) (s .lexer) f′ n′ p′ r → NotClosed r → JudgedAs (read text) (refusalOf r)
+        by : {r : Step} → Arrives text true (h .functions) (h .parse) (h .lexer) (s .lexer) f′ n′ p′ v′ r → NotClosed r → JudgedAs (read text) (refusalOf r)
         by (Arrives.refused k q e) out = rw (comes-to text short (h .same [] (λ t. refl) ∙ e [] (λ t. refl))) (JudgedAs.refused k q)
         by (Arrives.closed g y l′ at less with same) out = absurd (out y refl)
         by (Arrives.reading parse′ y l′ e at all b same) out = absurd (true≢false e)

@@ -4,7 +4,7 @@ use mathlib.Core.Bool.{Bool, true, false, cond}
 use mathlib.Core.List.{List, [], _∷_, _++_, foldl, map}
 use Prim.Native.Nat.{ℕ, _+_, _≤_, _<_}
 use lib.Dec.{T, ltb}
-use lib.ListN.{length, getD, take, drop}
+use lib.ListN.{length, getD, drop}
 use Rattle.laws.specs.Lists.{gather}
 use Rattle.laws.specs.Sections.{pad}
 use Rattle.language.specs.Answers.{zeros}
@@ -19,7 +19,8 @@ use Rattle.name_index.specs.Chains.{Indexed}
 use Rattle.name_index.specs.Hashes.{heads}
 use Rattle.name_index.specs.Names.{namesIn}
 use Rattle.grammar.specs.Meaning.{bytesOf, stageIs}
-use Rattle.grammar.specs.declared.Token.the-variants as tokens
+use Rattle.grammar.specs.declared.Token.{Token}
+use Rattle.lexer.specs.Contents.{gatheredPlace, contentsIn}
 use Rattle.lexer.specs.Lexing as lexing
 use Rattle.lexer.specs.Lexing.{Finds, Scanned, LexerFinished, left, idleAt}
 use Rattle.lexer.specs.declared.Lexer.{Lexer}
@@ -51,41 +52,46 @@ isEndLexeme (lexemes.Number g v o) = false
 isEndLexeme (lexemes.Mark b) = false
 isEndLexeme lexemes.End = true
 
--- The bytes that a spelled token names.
-abbrev pub spelledBytes : List ℕ → Spelled → List ℕ
-spelledBytes text y = take (y .bytes) (drop (y .from) text)
+-- A token that is no name.
+abbrev pub nameless : Token → Spelled
+nameless t = record { token = t; from = 0; bytes = 0 }
 
--- A lexeme of the text as a token, with the bytes of a name.
-pub record SpelledAs (text : List ℕ) (x : Lexeme) (y : Spelled) : Type 0 where
-  pub within : y .from + y .bytes ≤ length text
+-- The contents that a spelled token names.
+abbrev pub spelledBytes : (text h : List ℕ) → Spelled → List ℕ
+spelledBytes text h y = contentsIn text h (y .from) (y .bytes)
+
+-- A lexeme as a token, with the contents of a name in the text or in h.
+pub record SpelledAs (text h : List ℕ) (x : Lexeme) (y : Spelled) : Type 0 where
+  pub within : (y .from ≡ gatheredPlace → ⊥) → y .from + y .bytes ≤ length text
+  pub room : y .bytes ≤ length h
   pub short : y .bytes ≤ maxName
-  pub own : bytesOf (y .token) (spelledBytes text y) ≡ spelledBytes text y
-  pub means : (m : Tokenᴸ) → lexing.Means text x m → Means (spelledBytes text y) (y .token) m
+  pub own : bytesOf (y .token) (spelledBytes text h y) ≡ spelledBytes text h y
+  pub means : (m : Tokenᴸ) → lexing.Means text h x m → Means (spelledBytes text h y) (y .token) m
   pub end : isEnd (y .token) ≡ isEndLexeme x
 
 -- What the lexer found: what it finds in bytes, or the end.
-pub data FoundAs (text : List ℕ) : Found → List Foundᴸ → Type 0 where
-  finds : {f : Found} {one : List Foundᴸ} → Finds text f one → FoundAs text f one
-  end : (p : TextPlace) → p .byte ≤ length text → FoundAs text (founds.Lexeme p lexemes.End) (Foundᴸ.token (p .byte) Tokenᴸ.end ∷ [])
+pub data FoundAs (text h : List ℕ) : Found → List Foundᴸ → Type 0 where
+  finds : {f : Found} {one : List Foundᴸ} → Finds text h f one → FoundAs text h f one
+  end : (p : TextPlace) → p .byte ≤ length text → FoundAs text h (founds.Lexeme p lexemes.End) (Foundᴸ.token (p .byte) Tokenᴸ.end ∷ [])
 
-pub record FoundHere (text : List ℕ) (f : Found) : Type 0 where
+pub record FoundHere (text h : List ℕ) (f : Found) : Type 0 where
   pub one : List Foundᴸ
-  pub found : FoundAs text f one
+  pub found : FoundAs text h f one
 
 abbrev pub isEndFound : Found → Bool
 isEndFound founds.Nothing = false
 isEndFound (founds.Lexeme p x) = isEndLexeme x
 isEndFound (founds.Stray p) = false
 
-abbrev pub TakesFound : (text : List ℕ) (f : Found) (c : Reader) (x : Lent) (r : Taken) (x′ : Lent) → Type 0
-TakesFound text f c x r x′ =
-    (fs : List Func) (parse : Parse) → Reads fs x parse (taken.Reading c) → (one : List Foundᴸ) → FoundAs text f one
+abbrev pub TakesFound : (text h : List ℕ) (f : Found) (c : Reader) (x : Lent) (r : Taken) (x′ : Lent) → Type 0
+TakesFound text h f c x r x′ =
+    (fs : List Func) (parse : Parse) → Reads fs x parse (taken.Reading c) → (one : List Foundᴸ) → FoundAs text h f one
     → Reads fs x′ (foldl meaning.takeToken parse one) r
 
 -- What comes next in a text: what a scan finds; at the end what the end ends, and the end.
-pub data Nexts (text : List ℕ) (c : Lexer) (r : Lexed) : Type 0 where
-  scanned : c .next < length text → Scanned text c r → Nexts text c r
-  finished : length text ≡ c .next → LexerFinished c r → Nexts text c r
+pub data Nexts (text : List ℕ) (c : Lexer) (h : List ℕ) (r : Lexed) (h′ : List ℕ) : Type 0 where
+  scanned : c .next < length text → Scanned text c h r h′ → Nexts text c h r h′
+  finished : length text ≡ c .next → LexerFinished c r → h′ ≡ h → Nexts text c h r h′
 
 -- ---- between two bytes
 
@@ -93,8 +99,9 @@ pub data Nexts (text : List ℕ) (c : Lexer) (r : Lexed) : Type 0 where
 abbrev pub progressStart : Progress
 progressStart = record { lexer = idleAt 0 0; reader = readerAt 0 }
 
-pub record LexerAt (text : List ℕ) (l : Lexerᴸ) (c : Lexer) : Type 0 where
-  pub stands : lexing.Stands text l c
+-- What is gathered of an open name is in h.
+pub record LexerAt (text h : List ℕ) (l : Lexerᴸ) (c : Lexer) : Type 0 where
+  pub stands : lexing.Stands h l c
   pub order : c .start ≤ c .next
   pub within : c .next ≤ length text
 
@@ -117,11 +124,11 @@ pub record Between (fs : List Func) (parse : Parse) (c : Reader) (f n p : List �
   pub names : length fs < maxFunctions → namesIn f registerNamesOffset registerLength (c .draft .head .registers) ≡ namesOf draft
   pub once : length fs < maxFunctions → distinct (namesOf draft) ≡ true
 
-pub record ProgressReached (text : List ℕ) (x : Progress) (f n p : List ℕ) : Type 0 where
+pub record ProgressReached (text : List ℕ) (x : Progress) (f n p h : List ℕ) : Type 0 where
   pub functions : List Func
   pub parse : Parse
   pub lexer : Lexerᴸ
-  pub at : LexerAt text lexer (x .lexer)
+  pub at : LexerAt text h lexer (x .lexer)
   pub between : Between functions parse (x .reader) f n p
 
 -- What the chains of a function's registers need, and have.
@@ -154,23 +161,23 @@ pub record ClosedWith (fs : List Func) (g : Func) (c : Reader) (f n p : List ℕ
 
 -- From a parse and a lexer, with the functions fs closed, the bytes lent come to an answer, to one function more, to their end, or to the
 -- text's. Whatever comes after them, all bytes come to the same from here and from there.
-pub data Arrives (text : List ℕ) (ends : Bool) (fs : List Func) (parse : Parse) (l : Lexerᴸ) (c : Lexer) (f n p : List ℕ) : Step → Type 0 where
+pub data Arrives (text : List ℕ) (ends : Bool) (fs : List Func) (parse : Parse) (l : Lexerᴸ) (c : Lexer) (f n p h : List ℕ) : Step → Type 0 where
   refused : (k : ℕ) (q : TextPlace) → ((more : List ℕ) → Rest ends more → toGo parse l (drop (c .next) text ++ more) ≡ Parse.refused k (q .byte))
-      → Arrives text ends fs parse l c f n p (steps.Refused k q)
-  closed : (g : Func) (y : Progress) (l′ : Lexerᴸ) → LexerAt text l′ (y .lexer) → left text (y .lexer) < left text c → ClosedWith fs g (y .reader) f n p
+      → Arrives text ends fs parse l c f n p h (steps.Refused k q)
+  closed : (g : Func) (y : Progress) (l′ : Lexerᴸ) → LexerAt text h l′ (y .lexer) → left text (y .lexer) < left text c → ClosedWith fs g (y .reader) f n p
       → ((more : List ℕ) → Rest ends more
       → toGo parse l (drop (c .next) text ++ more) ≡ toGo (Parse.reading Stage.top (fresh (fs ++ (g ∷ [])))) l′ (drop (y .lexer .next) text ++ more))
-      → Arrives text ends fs parse l c f n p (steps.Closed y)
-  reading : (parse′ : Parse) (y : Progress) (l′ : Lexerᴸ) → ends ≡ false → LexerAt text l′ (y .lexer) → length text ≤ y .lexer .next → Between fs parse′ (y .reader) f n p
+      → Arrives text ends fs parse l c f n p h (steps.Closed y)
+  reading : (parse′ : Parse) (y : Progress) (l′ : Lexerᴸ) → ends ≡ false → LexerAt text h l′ (y .lexer) → length text ≤ y .lexer .next → Between fs parse′ (y .reader) f n p
       → ((more : List ℕ) → toGo parse l (drop (c .next) text ++ more) ≡ toGo parse′ l′ (drop (y .lexer .next) text ++ more))
-      → Arrives text ends fs parse l c f n p (steps.Reading y)
+      → Arrives text ends fs parse l c f n p h (steps.Reading y)
   ended : (y : Progress) → ends ≡ true → y .reader .draft .functions ≡ length fs → (length fs < maxFunctions → f ≡ zeros functionLength) → toGo parse l (drop (c .next) text ++ []) ≡ Parse.reading Stage.top (fresh fs)
-      → Arrives text ends fs parse l c f n p (steps.Ended y)
+      → Arrives text ends fs parse l c f n p h (steps.Ended y)
 
-abbrev pub Advances : (text : List ℕ) (ends : Bool) (x : Progress) (f n p : List ℕ) (r : Step) (f′ n′ p′ : List ℕ) → Type 0
-Advances text ends x f n p r f′ n′ p′ =
-    (fs : List Func) (parse : Parse) (l : Lexerᴸ) → LexerAt text l (x .lexer) → Between fs parse (x .reader) f n p
-    → Arrives text ends fs parse l (x .lexer) f′ n′ p′ r
+abbrev pub Advances : (text : List ℕ) (ends : Bool) (x : Progress) (f n p h : List ℕ) (r : Step) (f′ n′ p′ h′ : List ℕ) → Type 0
+Advances text ends x f n p h r f′ n′ p′ h′ =
+    (fs : List Func) (parse : Parse) (l : Lexerᴸ) → LexerAt text h l (x .lexer) → Between fs parse (x .reader) f n p
+    → Arrives text ends fs parse l (x .lexer) f′ n′ p′ h′ r
 
 -- ---- a table
 
@@ -191,28 +198,28 @@ pub record InTable (fs : List Func) (parse : Parse) (c : Reader) (t n p : List �
   pub table : t ≡ tableWith fs cells
   pub between : Between fs parse c cells n p
 
-pub record TableReached (text : List ℕ) (x : Progress) (t n p : List ℕ) : Type 0 where
+pub record TableReached (text : List ℕ) (x : Progress) (t n p h : List ℕ) : Type 0 where
   pub functions : List Func
   pub parse : Parse
   pub lexer : Lexerᴸ
-  pub at : LexerAt text lexer (x .lexer)
+  pub at : LexerAt text h lexer (x .lexer)
   pub inTable : InTable functions parse (x .reader) t n p
 
 -- The same through all functions: the bytes lent come to an answer, to their end, or to the text's, with the table of all functions.
-pub data Fed (text : List ℕ) (ends : Bool) (parse : Parse) (l : Lexerᴸ) (c : Lexer) (t n p : List ℕ) : Step → Type 0 where
+pub data Fed (text : List ℕ) (ends : Bool) (parse : Parse) (l : Lexerᴸ) (c : Lexer) (t n p h : List ℕ) : Step → Type 0 where
   refused : (k : ℕ) (q : TextPlace) → ((more : List ℕ) → Rest ends more → toGo parse l (drop (c .next) text ++ more) ≡ Parse.refused k (q .byte))
-      → Fed text ends parse l c t n p (steps.Refused k q)
-  reading : (fs : List Func) (parse′ : Parse) (y : Progress) (l′ : Lexerᴸ) → ends ≡ false → LexerAt text l′ (y .lexer) → length text ≤ y .lexer .next
+      → Fed text ends parse l c t n p h (steps.Refused k q)
+  reading : (fs : List Func) (parse′ : Parse) (y : Progress) (l′ : Lexerᴸ) → ends ≡ false → LexerAt text h l′ (y .lexer) → length text ≤ y .lexer .next
       → InTable fs parse′ (y .reader) t n p
       → ((more : List ℕ) → toGo parse l (drop (c .next) text ++ more) ≡ toGo parse′ l′ (drop (y .lexer .next) text ++ more))
-      → Fed text ends parse l c t n p (steps.Reading y)
+      → Fed text ends parse l c t n p h (steps.Reading y)
   ended : (fs : List Func) (y : Progress) → ends ≡ true → y .reader .draft .functions ≡ length fs → length fs ≤ maxFunctions → t ≡ tableWith fs []
-      → toGo parse l (drop (c .next) text ++ []) ≡ Parse.reading Stage.top (fresh fs) → Fed text ends parse l c t n p (steps.Ended y)
+      → toGo parse l (drop (c .next) text ++ []) ≡ Parse.reading Stage.top (fresh fs) → Fed text ends parse l c t n p h (steps.Ended y)
 
-abbrev pub Feeds : (text : List ℕ) (ends : Bool) (x : Progress) (t n p : List ℕ) (r : Step) (t′ n′ p′ : List ℕ) → Type 0
-Feeds text ends x t n p r t′ n′ p′ =
-    (fs : List Func) (parse : Parse) (l : Lexerᴸ) → LexerAt text l (x .lexer) → InTable fs parse (x .reader) t n p
-    → Fed text ends parse l (x .lexer) t′ n′ p′ r
+abbrev pub Feeds : (text : List ℕ) (ends : Bool) (x : Progress) (t n p h : List ℕ) (r : Step) (t′ n′ p′ h′ : List ℕ) → Type 0
+Feeds text ends x t n p h r t′ n′ p′ h′ =
+    (fs : List Func) (parse : Parse) (l : Lexerᴸ) → LexerAt text h l (x .lexer) → InTable fs parse (x .reader) t n p
+    → Fed text ends parse l (x .lexer) t′ n′ p′ h′ r
 
 -- ---- a whole text
 

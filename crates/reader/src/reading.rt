@@ -2,12 +2,12 @@
 // since the next one has cells of its own, and with the bytes that are lent.
 use crate::taking::Reader;
 use crate::taking::Taken;
-use crate::tokens::part;
 use crate::tokens::token_of;
 use drafts::Draft;
 use lexer::Found;
 use lexer::Lexed;
 use lexer::Lexer;
+use lexer::contents_of;
 use name_index::HEADS;
 use name_index::index;
 use table::MAX_FUNCTIONS;
@@ -53,9 +53,10 @@ pub fn begin() -> Progress
 
 impl Reader {
     // What the lexer found, if anything: 2 for a place that has no token.
-    fn take_found(
+    fn take_found<'a>(
         self,
-        text: &[u8],
+        text: &'a [u8],
+        held: &'a [u8],
         f: &mut [u8],
         names: &mut [u8],
         pend: &mut [u8],
@@ -64,16 +65,16 @@ impl Reader {
         found: Found,
     ) -> Taken
         requires { ⌜ ReaderReached self (lentOf (now f) (now names) (now pend) (now last) (now before)) ⌝ }
-        requires { ⌜ (length (now text) ≤ maxText) × (FoundHere (now text) found) ⌝ }
-        ensures { λ r. ⌜ TakesFound (now (text .entry)) found self (lentOf (now (f .entry)) (now (names .entry)) (now (pend .entry)) (now (last .entry)) (now (before .entry))) r (lentOf (now (f .exit)) (now (names .exit)) (now (pend .exit)) (now (last .exit)) (now (before .exit))) ⌝ }
+        requires { ⌜ (length (now text) ≤ maxText) × (FoundHere (now text) (now held) found) ⌝ }
+        ensures { λ r. ⌜ TakesFound (now (text .entry)) (now (held .entry)) found self (lentOf (now (f .entry)) (now (names .entry)) (now (pend .entry)) (now (last .entry)) (now (before .entry))) r (lentOf (now (f .exit)) (now (names .exit)) (now (pend .exit)) (now (last .exit)) (now (before .exit))) ⌝ }
         ensures { λ r. ⌜ Suits (isEndFound found) r ⌝ }
     {
         match found {
             Found::Nothing => Taken::Reading(self),
             Found::Lexeme(p, x) => {
-                let y = token_of(x, text);
+                let y = token_of(x, text, held);
                 let token = y.token;
-                let name = part(text, y.from, y.bytes);
+                let name = contents_of(text, held, y.from, y.bytes);
                 self.take(f, names, pend, last, before, name, p, token)
             }
             Found::Stray(p) => Taken::Refused(2, p),
@@ -82,12 +83,12 @@ impl Reader {
 }
 
 // What comes next: what a scan finds; at the end of the text what the end ends, and then the end.
-fn next(l: Lexer, text: &[u8], classes: &[u8; 256]) -> Lexed
+fn next(l: Lexer, text: &[u8], classes: &[u8; 256], held: &mut [u8]) -> Lexed
     requires { ⌜ (l .start ≤ l .next) × (l .next ≤ length (now text)) × (now classes ≡ classTable) ⌝ }
-    ensures { λ r. ⌜ Nexts (now (text .entry)) l r ⌝ }
+    ensures { λ r. ⌜ Nexts (now (text .entry)) l (now (held .entry)) r (now (held .exit)) ⌝ }
 {
     if l.next < text.len() {
-        return l.scan(text, classes);
+        return l.scan(text, classes, held);
     }
     l.finish()
 }
@@ -128,10 +129,11 @@ pub fn advance(
     f: &mut [u8],
     names: &mut [u8],
     pend: &mut [u8],
+    held: &mut [u8],
 ) -> Step
     requires { ⌜ length (now text) ≤ maxText ⌝ }
-    requires { ⌜ ProgressReached (now text) x (now f) (now names) (now pend) ⌝ }
-    ensures { λ r. ⌜ Advances (now (text .entry)) ends x (now (f .entry)) (now (names .entry)) (now (pend .entry)) r (now (f .exit)) (now (names .exit)) (now (pend .exit)) ⌝ }
+    requires { ⌜ ProgressReached (now text) x (now f) (now names) (now pend) (now held) ⌝ }
+    ensures { λ r. ⌜ Advances (now (text .entry)) ends x (now (f .entry)) (now (names .entry)) (now (pend .entry)) (now (held .entry)) r (now (f .exit)) (now (names .exit)) (now (pend .exit)) (now (held .exit)) ⌝ }
 {
     let mut last = [0u16; HEADS];
     let mut before = [0u16; MAX_REGISTERS];
@@ -146,10 +148,10 @@ pub fn advance(
                 reader: s,
             });
         }
-        let y = next(l, text, &table);
+        let y = next(l, text, &table, held);
         let found = y.found;
         l = y.lexer;
-        match s.take_found(text, f, names, pend, &mut last, &mut before, found) {
+        match s.take_found(text, held, f, names, pend, &mut last, &mut before, found) {
             Taken::Refused(n, p) => {
                 return Step::Refused(n, p);
             }

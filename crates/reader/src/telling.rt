@@ -8,6 +8,7 @@ use drafts::PENDING_LENGTH;
 use numbers::zero;
 use table::FUNCTION_LENGTH;
 use table::MAX_FUNCTIONS;
+use table::MAX_NAME;
 use table::function_at;
 use text_place::TextPlace;
 ghost use mathlib.Core.Bool.{true, false};
@@ -45,17 +46,18 @@ fn through(
     t: &mut [u8],
     names: &mut [u8],
     pend: &mut [u8],
+    held: &mut [u8],
 ) -> Step
     requires { ⌜ length (now text) ≤ maxText ⌝ }
-    requires { ⌜ TableReached (now text) x (now t) (now names) (now pend) ⌝ }
-    ensures { λ r. ⌜ Feeds (now (text .entry)) ends x (now (t .entry)) (now (names .entry)) (now (pend .entry)) r (now (t .exit)) (now (names .exit)) (now (pend .exit)) ⌝ }
+    requires { ⌜ TableReached (now text) x (now t) (now names) (now pend) (now held) ⌝ }
+    ensures { λ r. ⌜ Feeds (now (text .entry)) ends x (now (t .entry)) (now (names .entry)) (now (pend .entry)) (now (held .entry)) r (now (t .exit)) (now (names .exit)) (now (pend .exit)) (now (held .exit)) ⌝ }
 {
     let mut s = x;
     loop {
         let n = s.reader.draft.functions;
         let a = function_at(n);
         let e = end_of(n);
-        let r = advance(s, text, ends, &mut t[a..e], names, pend);
+        let r = advance(s, text, ends, &mut t[a..e], names, pend, held);
         let Step::Closed(y) = r else {
             return r;
         };
@@ -64,21 +66,35 @@ fn through(
 }
 
 // The bytes of a text, or of a part of it, into a table.
-pub fn feed(x: Progress, text: &[u8], t: &mut [u8], names: &mut [u8], pend: &mut [u8]) -> Step
+pub fn feed(
+    x: Progress,
+    text: &[u8],
+    t: &mut [u8],
+    names: &mut [u8],
+    pend: &mut [u8],
+    held: &mut [u8],
+) -> Step
     requires { ⌜ length (now text) ≤ maxText ⌝ }
-    requires { ⌜ TableReached (now text) x (now t) (now names) (now pend) ⌝ }
-    ensures { λ r. ⌜ Feeds (now (text .entry)) false x (now (t .entry)) (now (names .entry)) (now (pend .entry)) r (now (t .exit)) (now (names .exit)) (now (pend .exit)) ⌝ }
+    requires { ⌜ TableReached (now text) x (now t) (now names) (now pend) (now held) ⌝ }
+    ensures { λ r. ⌜ Feeds (now (text .entry)) false x (now (t .entry)) (now (names .entry)) (now (pend .entry)) (now (held .entry)) r (now (t .exit)) (now (names .exit)) (now (pend .exit)) (now (held .exit)) ⌝ }
 {
-    through(x, text, false, t, names, pend)
+    through(x, text, false, t, names, pend, held)
 }
 
 // The end of a text, whose last bytes are these.
-pub fn close(x: Progress, text: &[u8], t: &mut [u8], names: &mut [u8], pend: &mut [u8]) -> Step
+pub fn close(
+    x: Progress,
+    text: &[u8],
+    t: &mut [u8],
+    names: &mut [u8],
+    pend: &mut [u8],
+    held: &mut [u8],
+) -> Step
     requires { ⌜ length (now text) ≤ maxText ⌝ }
-    requires { ⌜ TableReached (now text) x (now t) (now names) (now pend) ⌝ }
-    ensures { λ r. ⌜ Feeds (now (text .entry)) true x (now (t .entry)) (now (names .entry)) (now (pend .entry)) r (now (t .exit)) (now (names .exit)) (now (pend .exit)) ⌝ }
+    requires { ⌜ TableReached (now text) x (now t) (now names) (now pend) (now held) ⌝ }
+    ensures { λ r. ⌜ Feeds (now (text .entry)) true x (now (t .entry)) (now (names .entry)) (now (pend .entry)) (now (held .entry)) r (now (t .exit)) (now (names .exit)) (now (pend .exit)) (now (held .exit)) ⌝ }
 {
-    through(x, text, true, t, names, pend)
+    through(x, text, true, t, names, pend, held)
 }
 
 // The text read into a table that is all zero: begun, fed and closed.
@@ -88,11 +104,12 @@ pub fn read_text(text: &[u8], t: &mut [u8]) -> Told
 {
     let mut names = [0u8; NAMES_LENGTH];
     let mut pend = [0u8; PENDING_LENGTH];
-    let fed = feed(begin(), text, t, &mut names, &mut pend);
+    let mut held = [0u8; MAX_NAME];
+    let fed = feed(begin(), text, t, &mut names, &mut pend, &mut held);
     let Step::Reading(x) = fed else {
         return refusal(fed);
     };
-    let closed = close(x, text, t, &mut names, &mut pend);
+    let closed = close(x, text, t, &mut names, &mut pend, &mut held);
     let Step::Ended(y) = closed else {
         return refusal(closed);
     };
@@ -117,10 +134,11 @@ pub fn judge_text(text: &[u8]) -> Told
 {
     let mut names = [0u8; NAMES_LENGTH];
     let mut pend = [0u8; PENDING_LENGTH];
+    let mut held = [0u8; MAX_NAME];
     let mut f = [0u8; FUNCTION_LENGTH];
     let mut x = begin();
     loop {
-        let r = advance(x, text, true, &mut f, &mut names, &mut pend);
+        let r = advance(x, text, true, &mut f, &mut names, &mut pend, &mut held);
         let Step::Closed(y) = r else {
             return refusal(r);
         };

@@ -2,6 +2,6 @@
 mod names;
 mod twice;
 
-pub use names::all_spelled;
-pub use names::spelled;
+pub use names::all_spellable;
+pub use names::spellable;
 pub use twice::distinct_names;

@@ -22,7 +22,7 @@ use table::MAX_REGISTERS;
 use table::function_at;
 use table::function_count;
 
-// All lines of the function at cell a; `registers` and `blocks` hold the numbers of its made names.
+// All lines of the function at cell a; `registers` and `blocks` hold the numbers of its made names and the flags of the others.
 fn put_lines(
     t: &[u8],
     a: usize,

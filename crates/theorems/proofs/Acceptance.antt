@@ -17,7 +17,7 @@ use Rattle.laws.proofs.Every.{Every, none, more, every-append, every-at, every-
 use Rattle.laws.proofs.Sums.{sum-zero, map-getD}
 use Rattle.language.specs.Instructions.{typeCount}
 use Rattle.language.specs.Programs.{Row, Register, Block, Func, Program, noFunction, maxRegisters, maxBlocks, maxRows, noRegister, noBlock, isSsa, blockAt, rowsAt, rowsOf, isPhi, isTerminator, entriesOf, entryCount}
-use Rattle.language.specs.Checking.{Spot, spotAt, Verdict, check, inRange, typed, breaks9, breaks10, breaks11, breaks12, breaks13, breaks14, breaks15, breaks16, breaks17, breaksRow, distinct, spelledOrNone}
+use Rattle.language.specs.Checking.{Spot, spotAt, Verdict, check, inRange, typed, breaks9, breaks10, breaks11, breaks12, breaks13, breaks14, breaks15, breaks16, breaks17, breaksRow, distinct, spellableOrNone}
 use Rattle.language.specs.Running.{phisOf, phiTarget}
 use Rattle.language.specs.Translating.{phiBlocks, edgesTo, keptBlock, registerFor, translation, translationFits}
 use Rattle.theorems.specs.Clean.{Clean}
@@ -74,8 +74,8 @@ distinct-more (n ∷ ns) {es} t h =
     (distinct-more ns (and-r (empty n || not (any (same n) ns)) (distinct ns) t) h)
 
 -- "Registers and blocks may have a name of no bytes"
-none-fits : (n : List ℕ) → n ≡ [] → T (spelledOrNone n)
-unfolding spelledOrNone
+none-fits : (n : List ℕ) → n ≡ [] → T (spellableOrNone n)
+unfolding spellableOrNone
 none-fits n e = rw e tt
 
 -- ---- registers
@@ -103,10 +103,10 @@ module _ (f : Func) (s : Sound f) where
       let ten : Register → Bool = λ r. ltb (r .type) typeCount in
       all-every ten (every-append (every-all ten (f .registers) (s .types)) (every-imp (λ k p. p .0) new-registers))
 
-  register-names-right : T (all (λ r. spelledOrNone (r .name)) (translation f .registers))
+  register-names-right : T (all (λ r. spellableOrNone (r .name)) (translation f .registers))
   unfolding translation
   register-names-right =
-      let fits : Register → Bool = λ r. spelledOrNone (r .name) in
+      let fits : Register → Bool = λ r. spellableOrNone (r .name) in
       all-every fits
       (every-append (every-all fits (f .registers) (s .registerNames))
       (every-imp (λ k p. none-fits (k .name) (p .1)) new-registers))
@@ -133,10 +133,10 @@ name-kept f b l =
     ∙ ap (λ x. blockAt f x .name) (getD-below n b 0 l)
 
 module _ (f : Func) (s : Sound f) where
-  block-names-right : T (all (λ b. spelledOrNone (b .name)) (translation f .blocks))
+  block-names-right : T (all (λ b. spellableOrNone (b .name)) (translation f .blocks))
   unfolding keptBlock
   block-names-right =
-      let fits : Block → Bool = λ b. spelledOrNone (b .name) in
+      let fits : Block → Bool = λ b. spellableOrNone (b .name) in
       all-every fits
       (every-block f (every-at (every-all fits (f .blocks) (s .blockNames)) noBlock) (λ y k l q. none-fits [] refl))
 

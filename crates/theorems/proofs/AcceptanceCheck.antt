@@ -15,11 +15,11 @@ use Rattle.laws.specs.Lists.{any, all, keep, gather, below, empty, same}
 use Rattle.laws.proofs.Tests.{not-is-false}
 use Rattle.laws.proofs.Every.{Every, none, more, every-at, every-imp, every-gather, every-gathered, every-below, every-below-at, every-all, every-none, none-every, every-kept, kept-every, every-empty, empty-every}
 use Rattle.language.specs.Programs.{Row, Func, Program, noBlock, maxRegisters, maxBlocks, maxRows, maxEntries, entryCount, blockAt, rowsAt, rowsOf, firstRow, maxFunctions, functionIn}
-use Rattle.language.specs.Checking.{Spot, spotAt, spotsFrom, spotsIn, spotsOf, inRange, breaks9, breaks10, breaks11, breaks12, breaks13, breaks14, breaks15, breaks16, breaks17, rowTests, breaksRow, Verdict, rowsThat, faults10, faults, firstFault, sizesRight, numbersRight, entryRight, namesRight, sound, judge, check, rowNumber, spelledOrNone, distinct}
+use Rattle.language.specs.Checking.{Spot, spotAt, spotsFrom, spotsIn, spotsOf, inRange, breaks9, breaks10, breaks11, breaks12, breaks13, breaks14, breaks15, breaks16, breaks17, rowTests, breaksRow, Verdict, rowsThat, faults10, faults, firstFault, sizesRight, numbersRight, entryRight, namesRight, sound, judge, check, rowNumber, spellableOrNone, distinct}
 use Rattle.language.specs.Instructions.{typeCount, void}
 use Rattle.language.specs.Table.{tableLength, decode}
 use Rattle.language.specs.Answers.{checkAnswer}
-use Rattle.language.specs.Names.{spelled}
+use Rattle.language.specs.Names.{spellable}
 use Rattle.theorems.specs.Clean.{Clean}
 use Rattle.theorems.specs.Accepted.{namesBefore}
 use Rattle.theorems.proofs.Judged.{accepted-each, each-accepted}
@@ -173,9 +173,9 @@ pub record Sound (f : Func) : Type 0 where
   pub ranges : T (all (inRange f) (rowsOf f))
   pub entry : f .entry < length (f .blocks)
   pub unnamed : T (empty (blockAt f (f .entry) .name))
-  pub name : T (spelled (f .name))
-  pub registerNames : T (all (λ r. spelledOrNone (r .name)) (f .registers))
-  pub blockNames : T (all (λ b. spelledOrNone (b .name)) (f .blocks))
+  pub name : T (spellable (f .name))
+  pub registerNames : T (all (λ r. spellableOrNone (r .name)) (f .registers))
+  pub blockNames : T (all (λ b. spellableOrNone (b .name)) (f .blocks))
   pub registersDistinct : T (distinct (map (λ r. r .name) (f .registers)))
   pub blocksDistinct : T (distinct (map (λ b. b .name) (f .blocks)))
 

@@ -56,3 +56,4 @@ pub mod RoundTrip
 pub mod RoundTripTranslation
 pub mod TurnWritten
 pub mod Candidates
+pub mod Names

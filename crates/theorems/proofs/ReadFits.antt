@@ -22,14 +22,14 @@ use Rattle.language.specs.Tokens.{TextPlace, Token, Found, token, stray, tokens
 use Rattle.language.specs.Grammar.{Stage, Act, nextMove}
 use Rattle.language.specs.Reading.{Mention, OpenRow, OpenBlock, Head, Parts, Draft, ActOutcome, Parse, Reading, rowsIn, entriesIn, openRows, draftRows, phiEntries, functionNumber, registerNumber, blockNumber, numberInRange, bitsOf, rowAs, rowOf, resolveRow, resolveBlock, resolve, undeclared, ifResolved, fresh, withFunction, withParts, beginFunction, markSsa, setResult, nameFunction, beginRegister, nameRegister, beginBlock, nameBlock, endBlock, beginInstruction, setTarget, setInstruction, addSource, addEntry, addMention, setNumber, endInstruction, endFunction, performAct, afterAct, takeToken, parse₀, finish, read}
 use Rattle.language.specs.Rooms.{Begun, Room, Roomy}
-use Rattle.language.proofs.NameLaws.{isSpelled, names-spelled}
+use Rattle.language.proofs.NameLaws.{isSpellable, names-spellable}
 use Rattle.language.proofs.ReadingLaws.{read-by-tokens}
 use Rattle.theorems.specs.Statements.{ReadBack}
 use Rattle.language.proofs.Rooms.{entryTotal, entries-append, rows-closed, roomy₀, roomy-taken}
 use Rattle.language.proofs.SizeFacts.{text-too-long}
 use Rattle.theorems.specs.TableLaw.{NameFits, RegisterFits, RowFits, FunctionFits, Fits}
 use Rattle.theorems.proofs.Table.{table}
-use Rattle.theorems.proofs.TableSound.{spelled-fits, width-most}
+use Rattle.theorems.proofs.TableSound.{spellable-fits, width-most}
 use Rattle.theorems.proofs.ReadMoves.{TokenFits, StageFits, ActFits, moves-fit}
 
 -- ---- what is held while a function is open
@@ -406,15 +406,15 @@ after-onward : (s : Stage) → StageFits s → (o : ActOutcome) → After o → 
 after-onward s k (ActOutcome.refuse n p) h = tt
 after-onward s k (ActOutcome.proceed d) h = (k, h)
 
--- A name that is found is spelled, so that it fits.
-token-fits : (p : TextPlace) (t : Token) → T (isSpelled (token p t)) → TokenFits t
-token-fits p (Token.name n) h = spelled-fits n h
+-- A name that is found is spellable, so that it fits.
+token-fits : (p : TextPlace) (t : Token) → T (isSpellable (token p t)) → TokenFits t
+token-fits p (Token.name n) h = spellable-fits n h
 token-fits p (Token.word w) h = tt
 token-fits p (Token.number s v) h = tt
 token-fits p (Token.mark b) h = tt
 token-fits p Token.end h = tt
 
-after-take : (x : Parse) → ParseFits x → Roomy x → (f : Found) → T (isSpelled f) → ParseFits (takeToken x f)
+after-take : (x : Parse) → ParseFits x → Roomy x → (f : Found) → T (isSpellable f) → ParseFits (takeToken x f)
 unfolding takeToken
 after-take (Parse.refused n p) k r f t = tt
 after-take (Parse.reading s d) k r (token p t) e =
@@ -422,7 +422,7 @@ after-take (Parse.reading s d) k r (token p t) e =
     after-onward (nextMove s t .stage) (m .stage) (performAct (nextMove s t .act) p d) (after-perform d (k .1) r (nextMove s t .act) (m .act) p)
 after-take (Parse.reading s d) k r (stray p) e = tt
 
-after-tokens : (x : Parse) → ParseFits x → Roomy x → {fs : List Found} → Every (λ f. T (isSpelled f)) fs → ParseFits (foldl takeToken x fs) × Roomy (foldl takeToken x fs)
+after-tokens : (x : Parse) → ParseFits x → Roomy x → {fs : List Found} → Every (λ f. T (isSpellable f)) fs → ParseFits (foldl takeToken x fs) × Roomy (foldl takeToken x fs)
 after-tokens x k r none = (k, r)
 after-tokens x k r (more {x = f} e h) = after-tokens (takeToken x f) (after-take x k r f e) (roomy-taken x f r) h
 
@@ -440,7 +440,7 @@ after-finish (Parse.reading s d) k r = record { functionCount = omega (arith, r 
 
 reading-fits : (text : List ℕ) → Bytes text → length text ≤ maxText → ReadingFits (read text)
 reading-fits text b l =
-    let k = after-tokens parse₀ start-fits roomy₀ (every-all isSpelled (tokensOf text) (names-spelled text b)) in
+    let k = after-tokens parse₀ start-fits roomy₀ (every-all isSpellable (tokensOf text) (names-spellable text b)) in
     subst⁻¹ ReadingFits (read-by-tokens text l) (after-finish (foldl takeToken parse₀ (tokensOf text)) (k .0) (k .1))
 
 pub read-fits : (text : List ℕ) → Bytes text → (p : Program) → read text ≡ Reading.program p → Fits p

@@ -2,7 +2,7 @@
 -- Assumes nothing.
 use mathlib.Core.Path.{_≡_, refl, sym, _∙_, ap, subst, subst⁻¹}
 use mathlib.Core.Bool.{Bool, true, false, cond}
-use mathlib.Core.List.{List, [], _∷_, _++_, foldl}
+use mathlib.Core.List.{List, [], _∷_, _++_}
 use mathlib.Core.Logic.{inl, inr}
 use Prim.Native.Nat.{ℕ, zero, _*_, _%_, _^_, _≤_, _<_}
 use native.Mathlib.Nat.{lt-of-lt-of-le, mod-lt, zero-lt-suc}
@@ -11,15 +11,14 @@ use lib.Dec.{T, ltb, leb, ltb→lt, leb→le, eqb→eq, lit<, lit≤}
 use lib.ListN.{length, getD}
 use lib.Pow.{pow-mono}
 use lib.Ieee.Fits.{and-l, and-r}
-use mir.Facts.{or-yes}
-use Rattle.laws.specs.Lists.{empty}
+use mir.Facts.{and-yes, or-yes}
+use Rattle.laws.specs.Lists.{all, empty}
 use Rattle.laws.specs.Sections.{Bytes}
 use Rattle.laws.proofs.Every.{every-all, every-at, every-left, every-right}
 use Rattle.language.specs.Instructions.{Form, formOf, formNumber, width, loadType, instructionCount}
-use Rattle.language.specs.Names.{Spelling, spell, nextSpelled, whole, spelled}
-use Rattle.language.proofs.SpelledNames.{spoiled}
+use Rattle.language.specs.Names.{spellable}
 use Rattle.language.specs.Programs.{Row, Func, Program, noRegister, noBlock, noFunction, rowsOf, opOf, formIn, targetsOf, sourcesOf, entriesOf, maxFunctions}
-use Rattle.language.specs.Checking.{Verdict, check, judgeFrom, shaped, inRange, numberFits, spelledOrNone}
+use Rattle.language.specs.Checking.{Verdict, check, judgeFrom, shaped, inRange, numberFits, spellableOrNone}
 use Rattle.theorems.specs.Statements.{AcceptedBack}
 use Rattle.theorems.specs.TableLaw.{NameFits, RowFits, FunctionFits, Fits, Held, loadedNumber}
 use Rattle.theorems.proofs.AcceptanceCheck.{clean-of-check, Sound, sound-parts}
@@ -29,31 +28,22 @@ use Rattle.theorems.proofs.Table.{table}
 
 -- ---- names
 
-spelled-bytes : (s : Spelling) (n : List ℕ) → T (whole (foldl spell s n)) → Bytes n
-spelled-bytes s [] h = tt
-spelled-bytes s (b ∷ n) h = by (ltb b 256) refl h (spelled-bytes (nextSpelled s b) n)
-  where
-    by :
-        (c : Bool)
-        → ltb b 256 ≡ c
-        → T (whole (foldl spell (cond c (nextSpelled s b) Spelling.wrong) n))
-        → (T (whole (foldl spell (nextSpelled s b) n)) → Bytes n)
-        → Bytes (b ∷ n)
-    by true e h ih = (ltb→lt b 256 (subst⁻¹ (λ (c : Bool). T c) e tt), ih h)
-    by false e h ih = absurd (subst (λ (x : Spelling). T (whole x)) (spoiled n) h)
+spellable-bytes : (n : List ℕ) → T (all (λ b. ltb b 256) n) → Bytes n
+spellable-bytes [] h = tt
+spellable-bytes (b ∷ n) h = let a = and-yes (ltb b 256) (all (λ b. ltb b 256) n) h in (ltb→lt b 256 (a .0), spellable-bytes n (a .1))
 
-pub spelled-fits : (n : List ℕ) → T (spelled n) → NameFits n
-unfolding spelled
-spelled-fits n h =
-    record { short = search (and-l, and-r, leb→le); bytes = spelled-bytes Spelling.none n (search (and-l, and-r)) }
+pub spellable-fits : (n : List ℕ) → T (spellable n) → NameFits n
+unfolding spellable
+spellable-fits n h =
+    record { short = search (and-l, and-r, leb→le); bytes = spellable-bytes n (search (and-l, and-r)) }
 
 none-fits : (n : List ℕ) → T (empty n) → NameFits n
 none-fits [] h = record { short = lit≤ tt; bytes = tt }
 none-fits (x ∷ n) h = absurd h
 
-or-none-fits : (n : List ℕ) → T (spelledOrNone n) → NameFits n
-unfolding spelledOrNone
-or-none-fits n h = elim (or-yes (empty n) (spelled n) h) [ inl e ↦ none-fits n e | inr e ↦ spelled-fits n e ]
+or-none-fits : (n : List ℕ) → T (spellableOrNone n) → NameFits n
+unfolding spellableOrNone
+or-none-fits n h = elim (or-yes (empty n) (spellable n) h) [ inl e ↦ none-fits n e | inr e ↦ spellable-fits n e ]
 
 -- ---- rows
 
@@ -127,7 +117,7 @@ true-of false t = absurd t
 pub sound-fits : (f : Func) → Sound f → FunctionFits f
 sound-fits f s =
     record {
-      name = spelled-fits (f .name) (s .name);
+      name = spellable-fits (f .name) (s .name);
       ssa = omega (arith, s .mark);
       result = omega (arith, s .result);
       params = omega (arith, s .params, s .registers);

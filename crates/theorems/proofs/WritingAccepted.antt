@@ -14,9 +14,8 @@ use Rattle.laws.proofs.Every.{Every, every-all, every-imp, every-at, every-of, 
 use Rattle.laws.proofs.Indexing.{any-at}
 use Rattle.laws.proofs.Positions.{same-is}
 use Rattle.language.specs.Instructions.{formOf, formNumber, typeCount, instructionCount}
-use Rattle.language.specs.Names.{spelled}
 use Rattle.language.specs.Programs.{Row, Func, Program, noRegister, noBlock, noFunction, functionIn, blockAt, rowsAt, rowsOf, entryCount, opOf, formIn, targetsOf, sourcesOf, entriesOf, namedBy, isPhi}
-use Rattle.language.specs.Checking.{Verdict, check, shaped, inRange, spelledOrNone, predecessors, spotAt, breaks15}
+use Rattle.language.specs.Checking.{Verdict, check, shaped, inRange, spellableOrNone, predecessors, spotAt, breaks15}
 use Rattle.language.specs.MadeNames.{named, written}
 use Rattle.theorems.specs.Clean.{Clean}
 use Rattle.theorems.specs.Accepted.{namesBefore}
@@ -94,9 +93,9 @@ module _ (f : Func) (c : Clean f) (n : AllNamed f) where
         params = s .params;
         registerCount = s .registers;
         types = every-imp (λ r h. ltb→lt (r .type) typeCount h) (every-all (λ r. ltb (r .type) typeCount) (f .registers) (s .types));
-        registerNames = every-unmap nameOf (f .registers) (n .spelled);
+        registerNames = every-unmap nameOf (f .registers) (n .allSpellable);
         registers = registers-declared;
-        blockNames = every-all (λ b. spelledOrNone (b .name)) (f .blocks) (s .blockNames);
+        blockNames = every-all (λ b. spellableOrNone (b .name)) (f .blocks) (s .blockNames);
         blocks = every-of noBlock (f .blocks) block-ready;
         rooms =
             record {

@@ -9,7 +9,7 @@ use lib.ListN.{length, getD, length-map, List·getD-map}
 use lib.Seq.{ext-getD}
 use Rattle.laws.specs.Lists.{together}
 use Rattle.laws.proofs.Every.{every-at, every-of, map-fixed}
-use Rattle.language.specs.Names.{spelled}
+use Rattle.language.specs.Names.{spellable}
 use Rattle.language.specs.Programs.{Register, Block, Func, noBlock, noFunction, functionIn, blockAt}
 use Rattle.language.specs.Writing.{textOf}
 use Rattle.language.specs.MadeNames.{registerNames, blockNames, namedFunction, named, written}
@@ -35,13 +35,13 @@ blocks-again : (bs : List Block) → together (λ b n. record { name = n; rows =
 blocks-again [] = refl
 blocks-again (b ∷ bs) = ap (λ (l : List Block). b ∷ l) (blocks-again bs)
 
-not-spelled : T (spelled []) → ⊥
-unfolding spelled
-not-spelled h = h
+not-spellable : T (spellable []) → ⊥
+unfolding spellable
+not-spellable h = h
 
 module _ (f : Func) (s : Sound f) (n : AllNamed f) where
   registers-stay : registerNames f ≡ registersOf f
-  registers-stay = names-stay (registers-made f) (λ i l e. not-spelled (subst (λ (n : List ℕ). T (spelled n)) e (every-at (n .spelled) [] i l)))
+  registers-stay = names-stay (registers-made f) (λ i l e. not-spellable (subst (λ (n : List ℕ). T (spellable n)) e (every-at (n .allSpellable) [] i l)))
 
   -- entry alone has a name of no bytes
   blocks-stay : blockNames f ≡ blocksOf f

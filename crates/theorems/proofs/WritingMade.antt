@@ -1,29 +1,28 @@
--- Made names are new, different from each other, and spelled. Assumes nothing.
-use mathlib.Core.Bool.{Bool, true, false, cond, not, _&&_, _||_, false≢true}
-use mathlib.Core.List.{List, [], _∷_, _++_, foldl, foldl-append}
+-- Made names are new, different from each other, and spellable. Assumes nothing.
+use mathlib.Core.Bool.{Bool, true, false, cond, not, _||_, false≢true}
+use mathlib.Core.List.{List, [], _∷_}
 use mathlib.Core.Logic.{_⊎_, inl, inr, ⊎-elim}
 use mathlib.Core.Path.{_≡_, refl, sym, _∙_, ap, subst}
-use Prim.Native.Nat.{ℕ, zero, suc, _+_, _-_, _*_, _%_, _≤_, _<_, suc-le-suc}
-use native.Mathlib.Nat.{not-suc-le-zero, mod-lt, le-of-suc-le-suc, zero-lt-suc}
+use Prim.Native.Nat.{ℕ, zero, suc, _+_, _-_, _*_, _≤_, _<_, suc-le-suc}
+use native.Mathlib.Nat.{not-suc-le-zero, le-of-suc-le-suc, zero-lt-suc}
 use native.Mathlib.Decide.{decLt}
 use native.Mathlib.Omega.{arith}
-use lib.Dec.{T, eqb, leb, lit<}
+use lib.Dec.{T, lit<}
 use lib.ListN.{length, getD, drop, length-append}
 use lib.Seq.{drop-append-seam}
-use borrow.Author.Tests.{lt-ltb, le-leb, eq-eqb, not-true, not-false}
-use mir.Facts.{yes-and}
+use borrow.Author.Tests.{not-true, not-false}
 use Rattle.laws.specs.Lists.{any, keep, position, same, from}
 use Rattle.laws.proofs.Positions.{position-le, position-hit, position-before, same-eq}
 use Rattle.laws.proofs.Indexing.{getD-from, length-from}
 use Rattle.laws.proofs.Tests.{of-true}
-use Rattle.language.specs.Bytes.{classOf, digitZero}
-use Rattle.language.specs.Words.{words, wordOf, wordCount}
-use Rattle.language.specs.Names.{Spelling, spell, whole, spelled}
-use Rattle.language.specs.Programs.{maxName}
+use Rattle.laws.specs.Sections.{Bytes}
+use Rattle.laws.proofs.Sections.{bytes-append}
+use Rattle.language.specs.Names.{spellable}
 use Rattle.language.specs.Listing.{digits}
-use Rattle.language.proofs.Digits.{digits-by, digits-apart, digits-short}
-use Rattle.language.specs.MadeNames.{registerPrefix, blockPrefix, Title, given, wanted, madeName, inUse, nextFree, entitled}
-use Rattle.theorems.proofs.WritingTokens.{digit-class}
+use Rattle.language.proofs.Digits.{digits-apart, digits-short, digits-bytes}
+use Rattle.language.proofs.MadeNamesLaws.{Prefix, prefix-short, made-plain-name}
+use Rattle.language.proofs.SpelledNames.{plain-spellable}
+use Rattle.language.specs.MadeNames.{Title, given, wanted, madeName, inUse, nextFree, entitled}
 
 -- ---- numbers and names
 
@@ -237,41 +236,13 @@ module _ (prefix : List ℕ) (used : List (List ℕ)) where
             ]
       ]
 
--- ---- made names are spelled
+-- ---- made names are spellable
 
-digits-plain : (n : ℕ) → foldl spell Spelling.plain (digits n) ≡ Spelling.plain
-digits-plain =
-    digits-by (λ n ds. foldl spell Spelling.plain ds ≡ Spelling.plain) one
-    (λ n ds h e. foldl-append spell Spelling.plain ds ((digitZero + n % 10) ∷ []) ∙ rw e (one (n % 10) (mod-lt n (lit< tt))))
-  where
-    one : (d : ℕ) → d < 10 → spell Spelling.plain (digitZero + d) ≡ Spelling.plain
-    one d h = rw (lt-ltb (digitZero + d) 256 (omega arith), digit-class d h)
+prefix-bytes : {prefix : List ℕ} → Prefix prefix → Bytes prefix
+prefix-bytes Prefix.registers = (lit< tt, (lit< tt, tt))
+prefix-bytes Prefix.blocks = (lit< tt, (lit< tt, tt))
 
--- The prefixes of made names.
-pub data Prefix : List ℕ → Type 0 where
-  registers : Prefix (registerPrefix)
-  blocks : Prefix (blockPrefix)
-
-prefix-plain : {prefix : List ℕ} → Prefix prefix → foldl spell Spelling.none prefix ≡ Spelling.plain
-unfolding classOf
-prefix-plain registers = refl
-prefix-plain blocks = refl
-
-prefix-short : {prefix : List ℕ} → Prefix prefix → length prefix ≡ 2
-prefix-short registers = refl
-prefix-short blocks = refl
-
-prefix-no-word : {prefix : List ℕ} → Prefix prefix → (ds : List ℕ) → wordOf (prefix ++ ds) ≡ wordCount
-unfolding wordOf words
-prefix-no-word registers ds = refl
-prefix-no-word blocks ds = refl
-
-pub made-spelled : {prefix : List ℕ} → Prefix prefix → (j : ℕ) → j < 100000 → T (spelled (madeName prefix j))
-unfolding spelled
-made-spelled {prefix} p j h =
-    let n = madeName prefix j in
-    let plain : foldl spell Spelling.none n ≡ Spelling.plain = foldl-append spell Spelling.none prefix (digits j) ∙ rw (prefix-plain p) (digits-plain j) in
-    let short : length n ≤ maxName = omega (arith, length-append prefix (digits j), prefix-short p, digits-short 4 j h) in
-    yes-and (whole (foldl spell Spelling.none n) && leb (length n) maxName) (eqb (wordOf n) wordCount)
-    (yes-and (whole (foldl spell Spelling.none n)) (leb (length n) maxName) (rw plain tt) (rw (le-leb (length n) maxName short) tt))
-    (rw (eq-eqb (wordOf n) wordCount (prefix-no-word p (digits j))) tt)
+pub made-spellable : {prefix : List ℕ} → Prefix prefix → (j : ℕ) → j < 100000 → T (spellable (madeName prefix j))
+made-spellable {prefix} p j h =
+    plain-spellable (madeName prefix j) (bytes-append prefix (digits j) (prefix-bytes p) (digits-bytes j)) (made-plain-name p j)
+    (omega (arith, length-append prefix (digits j), prefix-short p, digits-short 4 j h))

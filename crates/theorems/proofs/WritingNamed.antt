@@ -18,9 +18,9 @@ use Rattle.laws.proofs.Positions.{position-hit, same-eq, same-is}
 use Rattle.laws.proofs.Searching.{either-right}
 use Rattle.laws.proofs.Tests.{of-true}
 use Rattle.language.specs.Instructions.{typeCount}
-use Rattle.language.specs.Names.{spelled as spelledᴺ}
+use Rattle.language.specs.Names.{spellable}
 use Rattle.language.specs.Programs.{Row, Func, Program, noBlock, noFunction, functionIn, blockAt, rowsAt, rowsOf, entryCount, maxRegisters}
-use Rattle.language.specs.Checking.{Verdict, check, spotAt, breaksRow, Missing, inRange, spelledOrNone}
+use Rattle.language.specs.Checking.{Verdict, check, spotAt, breaksRow, Missing, inRange, spellableOrNone}
 use Rattle.language.specs.MadeNames.{Title, given, wanted, registerPrefix, blockPrefix, madeName, inUse, entitled, registerTitle, blockTitle, registerNames, blockNames, namedFunction, named}
 use Rattle.theorems.specs.Accepted.{namesBefore, RulesHold}
 use Rattle.theorems.specs.RoundTrip.{AlikeButNames, OnlyNamesFilled, NamesMade, MadeOneWay, RegistersNamed, BlocksNamed, AllApart, NamesDiffer, StillAccepted}
@@ -28,8 +28,8 @@ use Rattle.theorems.proofs.AcceptanceCheck.{Sound, sound-parts, sound-a
 use Rattle.theorems.proofs.Accepted.{accepted-exactly}
 use Rattle.theorems.proofs.WritingAlike.{rows-alike, registers-alike, blocks-alike, all-rows-alike, range-alike, breaks-alike, missing-alike}
 use Rattle.theorems.proofs.WritingDeclared.{distinct-at, at-distinct}
-use Rattle.theorems.proofs.WritingMade.{Prefix, made-apart, made-spelled, Wants, Gives, wants-none, numberAt, name-given, name-made, number-free, number-rises, number-most, number-smallest}
-use Rattle.language.proofs.MadeNamesLaws.{entitled-length}
+use Rattle.theorems.proofs.WritingMade.{made-apart, made-spellable, Wants, Gives, wants-none, numberAt, name-given, name-made, number-free, number-rises, number-most, number-smallest}
+use Rattle.language.proofs.MadeNamesLaws.{entitled-length, Prefix}
 
 -- ---- names of one kind, by their titles
 
@@ -261,14 +261,14 @@ only-names-filled f =
 
 -- ---- an accepted function
 
-spelled-some : (n : List ℕ) → T (spelledOrNone n) → (n ≡ [] → ⊥) → T (spelledᴺ n)
-unfolding spelledOrNone
-spelled-some [] h d = absurd (d refl)
-spelled-some (b ∷ n) h d = h
+spellable-some : (n : List ℕ) → T (spellableOrNone n) → (n ≡ [] → ⊥) → T (spellable n)
+unfolding spellableOrNone
+spellable-some [] h d = absurd (d refl)
+spellable-some (b ∷ n) h d = h
 
-spelled-or : (n : List ℕ) → T (spelledᴺ n) → T (spelledOrNone n)
-unfolding spelledOrNone
-spelled-or n h = either-right (empty n) (spelledᴺ n) h
+spellable-or : (n : List ℕ) → T (spellable n) → T (spellableOrNone n)
+unfolding spellableOrNone
+spellable-or n h = either-right (empty n) (spellable n) h
 
 module _ (f : Func) (s : Sound f) where
   abbrev g : Func
@@ -277,27 +277,27 @@ module _ (f : Func) (s : Sound f) where
   alike : AlikeButNames f g
   alike = only-names-filled f
 
-  registers-spelled : Every (λ n. T (spelledᴺ n)) (registersOf g)
+  registers-spellable : Every (λ n. T (spellable n)) (registersOf g)
   unfolding registerNames
-  registers-spelled =
+  registers-spellable =
       let ns = registersOf f in
-      let kept : Every (λ n. T (spelledOrNone n)) ns =
-      every-map (λ r. r .name) (λ r h. h) (every-all (λ r. spelledOrNone (r .name)) (f .registers) (s .registerNames)) in
-      subst⁻¹ (Every (λ n. T (spelledᴺ n))) (registers-are f)
-      (every-filled registerPrefix (λ i. getD ns i [] ≡ []) ns (map registerTitle ns) (length-map ns registerTitle) (registers-titled ns) (λ n. T (spelledᴺ n))
-      (rw length-map (s .registers)) (made-spelled Prefix.registers)
-      (λ i l u. spelled-some (getD ns i []) (every-at kept [] i l) u))
+      let kept : Every (λ n. T (spellableOrNone n)) ns =
+      every-map (λ r. r .name) (λ r h. h) (every-all (λ r. spellableOrNone (r .name)) (f .registers) (s .registerNames)) in
+      subst⁻¹ (Every (λ n. T (spellable n))) (registers-are f)
+      (every-filled registerPrefix (λ i. getD ns i [] ≡ []) ns (map registerTitle ns) (length-map ns registerTitle) (registers-titled ns) (λ n. T (spellable n))
+      (rw length-map (s .registers)) (made-spellable Prefix.registers)
+      (λ i l u. spellable-some (getD ns i []) (every-at kept [] i l) u))
 
-  blocks-spelled : Every (λ n. T (spelledOrNone n)) (blocksOf g)
+  blocks-spellable : Every (λ n. T (spellableOrNone n)) (blocksOf g)
   unfolding blockNames
-  blocks-spelled =
+  blocks-spellable =
       let ns = blocksOf f in
       let e = f .entry in
-      let kept : Every (λ n. T (spelledOrNone n)) ns =
-      every-map (λ b. b .name) (λ b h. h) (every-all (λ b. spelledOrNone (b .name)) (f .blocks) (s .blockNames)) in
-      subst⁻¹ (Every (λ n. T (spelledOrNone n))) (blocks-are f)
-      (every-filled blockPrefix (Nameless e ns) ns (blockTitles e ns) (titles-count e ns) (blocks-titled e ns) (λ n. T (spelledOrNone n))
-      (rw length-map (omega (arith, s .blocks))) (λ n l. spelled-or (madeName blockPrefix n) (made-spelled Prefix.blocks n l))
+      let kept : Every (λ n. T (spellableOrNone n)) ns =
+      every-map (λ b. b .name) (λ b h. h) (every-all (λ b. spellableOrNone (b .name)) (f .blocks) (s .blockNames)) in
+      subst⁻¹ (Every (λ n. T (spellableOrNone n))) (blocks-are f)
+      (every-filled blockPrefix (Nameless e ns) ns (blockTitles e ns) (titles-count e ns) (blocks-titled e ns) (λ n. T (spellableOrNone n))
+      (rw length-map (omega (arith, s .blocks))) (λ n l. spellable-or (madeName blockPrefix n) (made-spellable Prefix.blocks n l))
       (λ i l u. every-at kept [] i l))
 
   registers-apart : AllApart (registersOf g)
@@ -357,9 +357,9 @@ module _ (f : Func) (s : Sound f) where
         unnamed = rw entry-unnamed tt;
         name = s .name;
         registerNames =
-            all-every (λ r. spelledOrNone (r .name))
-            (every-imp (λ r h. spelled-or (r .name) h) (every-unmap (λ r. r .name) (g .registers) registers-spelled));
-        blockNames = all-every (λ b. spelledOrNone (b .name)) (every-unmap (λ b. b .name) (g .blocks) blocks-spelled);
+            all-every (λ r. spellableOrNone (r .name))
+            (every-imp (λ r h. spellable-or (r .name) h) (every-unmap (λ r. r .name) (g .registers) registers-spellable));
+        blockNames = all-every (λ b. spellableOrNone (b .name)) (every-unmap (λ b. b .name) (g .blocks) blocks-spellable);
         registersDistinct = at-distinct (registersOf g) registers-apart;
         blocksDistinct = at-distinct (blocksOf g) blocks-apart;
       }
@@ -424,12 +424,12 @@ names-differ p i e l =
 
 -- All names are there, and no two of a kind are the same.
 pub record AllNamed (f : Func) : Type 0 where
-  pub spelled : Every (λ n. T (spelledᴺ n)) (registersOf f)
+  pub allSpellable : Every (λ n. T (spellable n)) (registersOf f)
   pub registers : AllApart (registersOf f)
   pub blocks : AllApart (blocksOf f)
 
 pub all-named : (p : Program) → check p ≡ Verdict.accepted → Every AllNamed (named p)
 unfolding named
 all-named p e =
-    every-map namedFunction (λ f s. record { spelled = registers-spelled f s; registers = registers-apart f s; blocks = blocks-apart f s })
+    every-map namedFunction (λ f s. record { allSpellable = registers-spellable f s; registers = registers-apart f s; blocks = blocks-apart f s })
     (every-of noFunction p (λ i l. sound-parts (namesBefore p i) (functionIn p i) (accepted-exactly p .0 e .functions i l .head)))

@@ -15,9 +15,9 @@ use Rattle.laws.proofs.Appending.{gather-append}
 use Rattle.language.specs.Bytes.{Class, classOf, leftParen, rightParen, leftBrace, rightBrace, comma, semicolon, equals}
 use Rattle.language.specs.Instructions.{void, loadType}
 use Rattle.language.specs.Arithmetic.{meaning}
-use Rattle.language.specs.Names.{spelled}
+use Rattle.language.specs.Names.{spellable}
 use Rattle.language.specs.Programs.{Row, Register, Block, Func, Program, noRegister, noBlock, blockAt, isSsa, targetsOf, namedBy, maxText, maxFunctions, maxRegisters}
-use Rattle.language.specs.Checking.{spelledOrNone}
+use Rattle.language.specs.Checking.{spellableOrNone}
 use Rattle.language.specs.Tokens.{Token, tokensOf}
 use Rattle.language.specs.Grammar.{Stage, nextMove}
 use Rattle.language.specs.Reading.{Draft, Reading, performAct, takeToken, parse₀, finish, read}
@@ -34,16 +34,16 @@ use Rattle.theorems.proofs.WritingResolved.{Closing, closed}
 
 -- What is known of a function that the check accepts, once all its names are filled in.
 pub record FunctionReady (f : Func) : Type 0 where
-  pub name : T (spelled (f .name))
+  pub name : T (spellable (f .name))
   pub placed : f .placed ≡ true
   pub ssa : f .ssa < 2
   pub result : f .result ≤ void
   pub params : f .params ≤ length (f .registers)
   pub registerCount : length (f .registers) ≤ maxRegisters
   pub types : Every (λ r. r .type < 10) (f .registers)
-  pub registerNames : Every (λ r. T (spelled (r .name))) (f .registers)
+  pub registerNames : Every (λ r. T (spellable (r .name))) (f .registers)
   pub registers : Apart nameOf [] (f .registers)
-  pub blockNames : Every (λ b. T (spelledOrNone (b .name))) (f .blocks)
+  pub blockNames : Every (λ b. T (spellableOrNone (b .name))) (f .blocks)
   pub blocks : Every (BlockReady f) (f .blocks)
   pub rooms : Rooms [] (f .blocks)
   pub entry : f .entry < length (f .blocks)
@@ -165,8 +165,8 @@ ssa-spelled f = by (isSsa f)
     by true = one (lit< tt)
     by false = every-nil
 
-block-spelled : (n : List ℕ) → T (spelledOrNone n) → Spellable (blockToken n)
-unfolding spelledOrNone
+block-spelled : (n : List ℕ) → T (spellableOrNone n) → Spellable (blockToken n)
+unfolding spellableOrNone
 block-spelled [] h = lit< tt
 block-spelled (b ∷ n) h = h
 
@@ -225,7 +225,7 @@ module _ (f : Func) (k : FunctionReady f) where
   blocks-spelled :
       (bs : List Block)
       → Every (BlockReady f) bs
-      → Every (λ b. T (spelledOrNone (b .name))) bs
+      → Every (λ b. T (spellableOrNone (b .name))) bs
       → Every (λ b. b < length (f .blocks)) (gather namedBy (blockRows bs))
       → Every (Every Spellable) (gather (blockLines f) bs)
   unfolding blockLines
@@ -243,7 +243,7 @@ module _ (f : Func) (k : FunctionReady f) where
   function-spelled =
       let ps = takeN (f .params) (f .registers) in
       let rest = drop (f .params) (f .registers) in
-      let facts : Every (λ r. (r .type < 10) × T (spelled (r .name))) (ps ++ rest) =
+      let facts : Every (λ r. (r .type < 10) × T (spellable (r .name))) (ps ++ rest) =
       rw (take-append-drop (f .params) (f .registers)) (every-both (k .types) (k .registerNames)) in
       every-cons
       (every-cons (lit< tt)

@@ -4,23 +4,24 @@ use mathlib.Core.Bool.{Bool, true, false, cond, _&&_}
 use mathlib.Core.List.{List, [], _∷_, _++_, foldl, foldl-append, append-assoc, append-nil}
 use mathlib.Core.Logic.{_⊎_, inl, inr, ⊎-elim}
 use mathlib.Core.Path.{_≡_, refl, sym, _∙_, ap, subst, subst⁻¹}
-use Prim.Native.Nat.{ℕ, zero, suc, _+_, _-_, _*_, _/_, _%_, _≤_, _<_}
+use Prim.Native.Nat.{ℕ, _+_, _-_, _*_, _/_, _%_, _<_}
 use native.Mathlib.Nat.{div-add-mod, mod-lt}
 use native.Mathlib.Omega.{arith}
-use lib.Dec.{T, eqb, ltb, leb, leb→le, eqb→eq, lit<}
-use lib.ListN.{length, length-append}
+use lib.Dec.{T, eqb, leb, leb→le, eqb→eq, lit<}
+use lib.ListN.{length}
 use mir.Facts.{and-yes}
-use borrow.Author.Tests.{lt-ltb, eq-eqb, ne-eqb}
+use borrow.Author.Tests.{ne-eqb}
 use Rattle.laws.specs.Lists.{all, below, gather}
 use Rattle.laws.proofs.Every.{Every, more as every-cons, every-all, every-below-at}
-use Rattle.language.specs.Bytes.{Class, classOf, nameByte, digitByte, quoteByte, backslash, letterX, digitZero, lineFeed, minus}
+use Rattle.language.specs.Bytes.{Class, classOf, nameByte, digitByte, letterX, digitZero, lineFeed, minus}
 use Rattle.language.specs.Words.{words, wordOf, wordCount, spellingOf}
-use Rattle.language.specs.Names.{Spelling, spell, nextSpelled, firstSpelled, insideQuotes, whole, spelled}
+use Rattle.language.specs.Names.{plainBytes, spellable, spelling}
 use Rattle.language.specs.Programs.{maxName}
 use Rattle.language.specs.Listing.{digits}
-use Rattle.language.specs.Tokens.{Token, Found, token, Mode, Lexer, Lexed, lexer₀, quiet, finds, begun, begunName, longerName, longerNumber, begunNumber, digitMode, begin, beginAs, nameOrWord, ended, endedAs, ends, extends, quotes, closes, endsNumber, decimalDigit, stepAs, lexStep, lexEnd, lexMore, tokensFrom, tokensOf}
-use Rattle.language.proofs.Digits.{digits-by}
-use Rattle.language.proofs.SpelledNames.{right, wrong-stays, right-before}
+use Rattle.language.specs.Tokens.{Token, Found, token, Mode, Lexer, Lexed, lexer₀, quiet, finds, begun, longerNumber, begunNumber, digitMode, begin, beginAs, nameOrWord, ended, endedAs, ends, endsNumber, decimalDigit, stepAs, lexStep, lexEnd, lexMore, tokensFrom, tokensOf}
+use Rattle.language.proofs.Digits.{digits-by, digit-class}
+use Rattle.language.proofs.NamesLexed.{GoesOnAs, after, plain-after}
+use Rattle.language.proofs.SpelledNames.{spelling-after}
 use Rattle.theorems.specs.RoundTrip.{FindsTokens, none, more}
 use Rattle.language.specs.Writing.{bytesFor, lineBytes, spaceByte}
 
@@ -33,12 +34,6 @@ finds-append (more p h) k = more p (finds-append h k)
 -- Nothing is open.
 record Between (us : List Token) (x : Lexed) : Type 0 where
   mode : x .lexer .mode ≡ Mode.between
-  found : FindsTokens us (x .found)
-
--- A name so far.
-record Naming (m : Mode) (n : List ℕ) (us : List Token) (x : Lexed) : Type 0 where
-  mode : x .lexer .mode ≡ m
-  bytes : x .lexer .bytes ≡ n
   found : FindsTokens us (x .found)
 
 -- A number so far.
@@ -92,14 +87,6 @@ module _ (c : ℕ) (space : classOf c ≡ Class.space) where
   ended-on {us} t x p h y e =
       record { mode = ap (λ (z : Lexed). z .lexer .mode) e; found = subst⁻¹ (λ (z : Lexed). FindsTokens (us ++ (t ∷ [])) (z .found)) e (finds-append h (more p none)) }
 
-  name-ends : {n : List ℕ} {us : List Token} (x : Lexed) → Naming Mode.plain n us x → Between (us ++ (nameOrWord n ∷ [])) (lexMore x c)
-  name-ends {n} {us} x k =
-      let l = x .lexer in
-      ended-on (nameOrWord n) x (l .start) (k .found) (lexMore x c)
-      (more-is x c Mode.plain (k .mode) ∙ ap (λ (t : Bool). also x (cond t (extends Mode.plain l c) (ends l c))) no-name-byte
-      ∙ ap (also x) (ends-is l Mode.plain (k .mode))
-      ∙ ap (λ (n : List ℕ). also x (record { lexer = begun Mode.between (l .next); found = token (l .start) (nameOrWord n) ∷ [] ++ [] })) (k .bytes))
-
   digit-no : digitByte c ≡ false
   digit-no = rw space
 
@@ -135,261 +122,52 @@ module _ (c : ℕ) (space : classOf c ≡ Class.space) where
           ∙ ap (also x) (last ∙ ends-is l Mode.decimal e)
           ∙ ap (λ (f : Found). also x (record { lexer = begun Mode.between (l .next); found = f ∷ [] ++ [] })) shown)
 
--- ---- a name
-
--- the bytes so far spell a name as far as s
-abbrev Stands : Spelling → List ℕ → List Token → Lexed → Type 0
-Stands Spelling.none n us x = ⊥
-Stands Spelling.plain n us x = Naming Mode.plain n us x
-Stands Spelling.opened n us x = Naming Mode.quoted n us x × (length n ≡ 1)
-Stands Spelling.inside n us x = Naming Mode.quoted n us x × (2 ≤ length n)
-Stands Spelling.escaping n us x = Naming Mode.escaping n us x × (2 ≤ length n)
-Stands Spelling.closed n us x = Between (us ++ (Token.name n ∷ [])) x
-Stands Spelling.wrong n us x = ⊥
-
-module _ (n : List ℕ) (b : ℕ) (us : List Token) (x : Lexed) (f : length n < maxName) where
-  longer : (m m′ : Mode) (y : Lexed) → Naming m n us x → y ≡ also x (extends m′ (x .lexer) b) → Naming m′ (n ++ (b ∷ [])) us y
-  unfolding extends
-  longer m m′ y k e =
-      let d : y ≡ also x (quiet (longerName m′ (x .lexer) b)) =
-      e ∙ ap (λ (t : Bool). also x (cond t (quiet (longerName m′ (x .lexer) b)) (finds (Found.stray (x .lexer .start)) (begun Mode.between (x .lexer .next)))))
-      (ap (λ (n : List ℕ). ltb (length n) maxName) (k .bytes) ∙ lt-ltb (length n) maxName f) in
-      record {
-        mode = ap (λ (y : Lexed). y .lexer .mode) d;
-        bytes = ap (λ (y : Lexed). y .lexer .bytes) d ∙ ap (λ (n : List ℕ). n ++ (b ∷ [])) (k .bytes);
-        found = subst⁻¹ (λ (y : Lexed). FindsTokens us (y .found)) d (still (x .found) (k .found));
-      }
-
-  plain-on :
-      Naming Mode.plain n us x
-      → (t : Bool)
-      → nameByte b ≡ t
-      → T (right (cond t Spelling.plain Spelling.wrong))
-      → Stands (cond t Spelling.plain Spelling.wrong) (n ++ (b ∷ [])) us (lexMore x b)
-  plain-on k true e r =
-      longer Mode.plain Mode.plain (lexMore x b) k
-      (more-is x b Mode.plain (k .mode) ∙ ap (λ (t : Bool). also x (cond t (extends Mode.plain (x .lexer) b) (ends (x .lexer) b))) e)
-  plain-on k false e r = absurd r
-
-  two : 1 ≤ length n → 2 ≤ length (n ++ (b ∷ []))
-  two h = simp length-append (omega arith)
-
-  -- a byte in quotes that closes nothing
-  quotes-on :
-      (m : Mode)
-      → 1 ≤ length n
-      → Naming m n us x
-      → (y : Lexed)
-      → y ≡ also x (quotes (x .lexer) b)
-      → Stands (insideQuotes b) (n ++ (b ∷ [])) us y
-  unfolding quotes
-  quotes-on m h k y e = by (eqb b backslash) e
-    where
-      by :
-          (t : Bool) → y ≡ also x (extends (cond t Mode.escaping Mode.quoted) (x .lexer) b)
-          → Stands (cond t Spelling.escaping Spelling.inside) (n ++ (b ∷ [])) us y
-      by true e = (longer m Mode.escaping y k e, two h)
-      by false e = (longer m Mode.quoted y k e, two h)
-
-  closes-on :
-      2 ≤ length n
-      → Naming Mode.quoted n us x
-      → (y : Lexed)
-      → y ≡ also x (closes (x .lexer) b)
-      → Between (us ++ (Token.name (n ++ (b ∷ [])) ∷ [])) y
-  unfolding closes
-  closes-on h k y e =
-      let l = x .lexer in
-      let no-1 : eqb (length (l .bytes)) 1 ≡ false = ap (λ (n : List ℕ). eqb (length n) 1) (k .bytes) ∙ ne-eqb (length n) 1 (λ e. absurd (omega arith)) in
-      let fits : ltb (length (l .bytes)) maxName ≡ true = ap (λ (n : List ℕ). ltb (length n) maxName) (k .bytes) ∙ lt-ltb (length n) maxName f in
-      let d : y ≡ also x (finds (token (l .start) (Token.name (l .bytes ++ (b ∷ [])))) (begun Mode.between (l .next))) = e ∙ rw (no-1, fits) in
-      record {
-        mode = ap (λ (y : Lexed). y .lexer .mode) d;
-        found =
-            subst⁻¹ (λ (y : Lexed). FindsTokens (us ++ (Token.name (n ++ (b ∷ [])) ∷ [])) (y .found)) d
-            (rw (k .bytes) (finds-append (k .found) (more (l .start) none)));
-      }
-
-  -- any byte with which the bytes so far still spell a name
-  on : (s : Spelling) → Stands s n us x → T (right (nextSpelled s b)) → Stands (nextSpelled s b) (n ++ (b ∷ [])) us (lexMore x b)
-  on Spelling.none k r = absurd k
-  on Spelling.plain k r = plain-on k (nameByte b) refl r
-  on Spelling.opened k r = by (eqb b quoteByte) refl r
-    where
-      by :
-          (t : Bool) → eqb b quoteByte ≡ t → T (right (cond t Spelling.wrong (insideQuotes b)))
-          → Stands (cond t Spelling.wrong (insideQuotes b)) (n ++ (b ∷ [])) us (lexMore x b)
-      by true e r = absurd r
-      by false e r =
-          quotes-on Mode.quoted (omega arith) (k .0) (lexMore x b)
-          (more-is x b Mode.quoted (k .0 .mode) ∙ ap (λ (t : Bool). also x (cond t (closes (x .lexer) b) (quotes (x .lexer) b))) e)
-  on Spelling.inside k r = by (eqb b quoteByte) refl r
-    where
-      by :
-          (t : Bool) → eqb b quoteByte ≡ t → T (right (cond t Spelling.closed (insideQuotes b)))
-          → Stands (cond t Spelling.closed (insideQuotes b)) (n ++ (b ∷ [])) us (lexMore x b)
-      by true e r =
-          closes-on (k .1) (k .0) (lexMore x b)
-          (more-is x b Mode.quoted (k .0 .mode) ∙ ap (λ (t : Bool). also x (cond t (closes (x .lexer) b) (quotes (x .lexer) b))) e)
-      by false e r =
-          quotes-on Mode.quoted (omega arith) (k .0) (lexMore x b)
-          (more-is x b Mode.quoted (k .0 .mode) ∙ ap (λ (t : Bool). also x (cond t (closes (x .lexer) b) (quotes (x .lexer) b))) e)
-  on Spelling.escaping k r = quotes-on Mode.escaping (omega arith) (k .0) (lexMore x b) (more-is x b Mode.escaping (k .0 .mode))
-  on Spelling.closed k r = absurd r
-  on Spelling.wrong k r = absurd r
-
-spells-on :
-    (bs n : List ℕ) (s : Spelling) (us : List Token) (x : Lexed) → Stands s n us x → length n + length bs ≤ maxName → T (right (foldl spell s bs))
-    → Stands (foldl spell s bs) (n ++ bs) us (foldl lexMore x bs)
-spells-on [] n s us x z h r = rw append-nil z
-spells-on (b ∷ bs) n s us x z h r = by (ltb b 256) r (spells-on bs)
-  where
-    by :
-        (t : Bool) → T (right (foldl spell (cond t (nextSpelled s b) Spelling.wrong) bs))
-        → ((n : List ℕ) (s : Spelling) (us : List Token) (x : Lexed) → Stands s n us x → length n + length bs ≤ maxName → T (right (foldl spell s bs))
-        → Stands (foldl spell s bs) (n ++ bs) us (foldl lexMore x bs))
-        → Stands (foldl spell (cond t (nextSpelled s b) Spelling.wrong) bs) (n ++ (b ∷ bs)) us (foldl lexMore (lexMore x b) bs)
-    by true r ih =
-        subst (λ (m : List ℕ). Stands (foldl spell (nextSpelled s b) bs) m us (foldl lexMore (lexMore x b) bs)) (append-assoc n (b ∷ []) bs)
-        (ih (n ++ (b ∷ [])) (nextSpelled s b) us (lexMore x b) (on n b us x (omega arith) s z (right-before (nextSpelled s b) bs r)) (simp length-append (omega arith)) r)
-    by false r ih = absurd (wrong-stays bs r)
+-- ---- any token, with a space after it
 
 begin-is : (x : Lexed) (b : ℕ) → x .lexer .mode ≡ Mode.between → (c : Class) → classOf b ≡ c → lexMore x b ≡ also x (beginAs c (x .lexer .next) b)
 unfolding begin
 begin-is x b e c d = more-is x b Mode.between e ∙ ap (λ (k : Class). also x (beginAs k (x .lexer .next) b)) d
 
-first-on :
-    (b : ℕ) (us : List Token) (x : Lexed)
-    → Between us x
-    → T (right (firstSpelled (classOf b)))
-    → Stands (firstSpelled (classOf b)) (b ∷ []) us (lexMore x b)
-first-on b us x k r = by (classOf b) refl r
-  where
-    opens : (m : Mode) → lexMore x b ≡ also x (quiet (begunName m (x .lexer .next) b)) → Naming m (b ∷ []) us (lexMore x b)
-    opens m e =
-        record {
-          mode = ap (λ (y : Lexed). y .lexer .mode) e;
-          bytes = ap (λ (y : Lexed). y .lexer .bytes) e;
-          found = subst⁻¹ (λ (y : Lexed). FindsTokens us (y .found)) e (still (x .found) (k .found));
-        }
-
-    by : (c : Class) → classOf b ≡ c → T (right (firstSpelled c)) → Stands (firstSpelled c) (b ∷ []) us (lexMore x b)
-    by Class.letter e r = opens Mode.plain (begin-is x b (k .mode) Class.letter e)
-    by Class.digit e r = absurd r
-    by Class.space e r = absurd r
-    by Class.quote e r = (opens Mode.quoted (begin-is x b (k .mode) Class.quote e), refl)
-    by Class.sign e r = absurd r
-    by Class.slash e r = absurd r
-    by Class.mark e r = absurd r
-    by Class.other e r = absurd r
-
-spells-all :
-    (n : List ℕ) (us : List Token) (x : Lexed)
-    → Between us x
-    → length n ≤ maxName
-    → T (right (foldl spell Spelling.none n))
-    → (foldl spell Spelling.none n ≡ Spelling.none → ⊥)
-    → Stands (foldl spell Spelling.none n) n us (foldl lexMore x n)
-spells-all [] us x k h r ne = absurd (ne refl)
-spells-all (b ∷ bs) us x k h r ne = by (ltb b 256) r
-  where
-    by :
-        (t : Bool) → T (right (foldl spell (cond t (firstSpelled (classOf b)) Spelling.wrong) bs))
-        → Stands (foldl spell (cond t (firstSpelled (classOf b)) Spelling.wrong) bs) (b ∷ bs) us (foldl lexMore (lexMore x b) bs)
-    by true r =
-        let s = firstSpelled (classOf b) in
-        spells-on bs (b ∷ []) s us (lexMore x b) (first-on b us x k (right-before s bs r)) (omega arith) r
-    by false r = absurd (wrong-stays bs r)
-
--- ---- any token, with a space after it
-
 -- Some text spells this token.
 abbrev pub Spellable : Token → Type 0
-Spellable (Token.name n) = T (spelled n)
+Spellable (Token.name n) = T (spellable n)
 Spellable (Token.word w) = w < wordCount
 Spellable (Token.number s v) = Unit {0}
 Spellable (Token.mark b) = classOf b ≡ Class.mark
 Spellable Token.end = ⊥
 
-plainly : Spelling → Bool
-plainly Spelling.none = false
-plainly Spelling.plain = true
-plainly Spelling.opened = false
-plainly Spelling.inside = false
-plainly Spelling.escaping = false
-plainly Spelling.closed = false
-plainly Spelling.wrong = false
-
-plainly-is : (s : Spelling) → T (plainly s) → s ≡ Spelling.plain
-unfolding plainly
-plainly-is Spelling.none h = absurd h
-plainly-is Spelling.plain h = refl
-plainly-is Spelling.opened h = absurd h
-plainly-is Spelling.inside h = absurd h
-plainly-is Spelling.escaping h = absurd h
-plainly-is Spelling.closed h = absurd h
-plainly-is Spelling.wrong h = absurd h
-
 -- every word is spelled like a plain name, and is itself
 word-test : ℕ → Bool
-word-test w = let n = spellingOf w in plainly (foldl spell Spelling.none n) && leb (length n) maxName && eqb (wordOf n) w
+word-test w = let n = spellingOf w in plainBytes n && leb (length n) maxName && eqb (wordOf n) w
 
 words-tested : T (all word-test (below wordCount))
-unfolding word-test plainly words wordOf classOf
+unfolding word-test words wordOf classOf
 words-tested = tt
 
-plain-is-none : (s : Spelling) → s ≡ Spelling.plain → s ≡ Spelling.none → ⊥
-plain-is-none s p q = let z : _≡_ {A = ℕ} 0 1 = cc in omega arith
-
 module _ (c : ℕ) (space : classOf c ≡ Class.space) (us : List Token) (x : Lexed) (k : Between us x) where
-  plain-then :
-      (n : List ℕ)
-      → foldl spell Spelling.none n ≡ Spelling.plain
-      → length n ≤ maxName
-      → Between (us ++ (nameOrWord n ∷ [])) (lexMore (foldl lexMore x n) c)
-  plain-then n e h =
-      name-ends c space (foldl lexMore x n)
-      (subst (λ (s : Spelling). Stands s n us (foldl lexMore x n)) e (spells-all n us x k h (rw e tt) (plain-is-none _ e)))
+  -- bytes after which the lexer goes on as if it had found t
+  found-then :
+      (bs : List ℕ) (e : ℕ) (t : Token) → GoesOnAs (after (x .found) (x .lexer .next) e t) (foldl lexMore x bs)
+      → Between (us ++ (t ∷ [])) (lexMore (foldl lexMore x bs) c)
+  found-then bs e t g =
+      let y = after (x .found) (x .lexer .next) e t in
+      subst⁻¹ (λ (z : Lexed). Between (us ++ (t ∷ [])) z) (g .at-byte c (no-name-byte c space))
+      (space-on c space y (record { mode = refl; found = finds-append (k .found) (more (x .lexer .next) none) }))
 
   word-then : (w : ℕ) → w < wordCount → Between (us ++ (Token.word w ∷ [])) (lexMore (foldl lexMore x (spellingOf w)) c)
   unfolding word-test nameOrWord
   word-then w h =
       let n = spellingOf w in
-      let s = foldl spell Spelling.none n in
       let t : T (word-test w) = every-below-at wordCount (every-all word-test (below wordCount) words-tested) w h in
-      let p = and-yes (plainly s && leb (length n) maxName) (eqb (wordOf n) w) t in
-      let q = and-yes (plainly s) (leb (length n) maxName) (p .0) in
+      let p = and-yes (plainBytes n && leb (length n) maxName) (eqb (wordOf n) w) t in
+      let q = and-yes (plainBytes n) (leb (length n) maxName) (p .0) in
       let e : wordOf n ≡ w = eqb→eq (wordOf n) w (p .1) in
       let known : nameOrWord n ≡ Token.word w = rw (e, ne-eqb w wordCount (λ d. absurd (omega arith))) in
       subst (λ (t : Token). Between (us ++ (t ∷ [])) (lexMore (foldl lexMore x n) c)) known
-      (plain-then n (plainly-is s (q .0)) (leb→le (length n) maxName (q .1)))
+      (found-then n (x .lexer .next + length n) (nameOrWord n) (plain-after x (k .mode) n (q .0) (leb→le (length n) maxName (q .1))))
 
-  name-then : (n : List ℕ) → T (spelled n) → Between (us ++ (Token.name n ∷ [])) (lexMore (foldl lexMore x n) c)
-  unfolding spelled nameOrWord
-  name-then n h =
-      let s = foldl spell Spelling.none n in
-      let p = and-yes (whole s && leb (length n) maxName) (eqb (wordOf n) wordCount) h in
-      let q = and-yes (whole s) (leb (length n) maxName) (p .0) in
-      by s refl (q .0) (leb→le (length n) maxName (q .1)) (eqb→eq (wordOf n) wordCount (p .1))
-    where
-      by :
-          (s : Spelling)
-          → foldl spell Spelling.none n ≡ s
-          → T (whole s)
-          → length n ≤ maxName
-          → wordOf n ≡ wordCount
-          → Between (us ++ (Token.name n ∷ [])) (lexMore (foldl lexMore x n) c)
-      by Spelling.none e w f d = absurd w
-      by Spelling.plain e w f d =
-          subst (λ (t : Token). Between (us ++ (t ∷ [])) (lexMore (foldl lexMore x n) c)) (rw (eq-eqb (wordOf n) wordCount d)) (plain-then n e f)
-      by Spelling.opened e w f d = absurd w
-      by Spelling.inside e w f d = absurd w
-      by Spelling.escaping e w f d = absurd w
-      by Spelling.closed e w f d =
-          space-on c space (foldl lexMore x n)
-          (subst (λ (s : Spelling). Stands s n us (foldl lexMore x n)) e
-          (spells-all n us x k f (rw e tt) (λ z. let y : _≡_ {A = ℕ} 0 1 = cc in omega arith)))
-      by Spelling.wrong e w f d = absurd w
+  name-then : (n : List ℕ) → T (spellable n) → Between (us ++ (Token.name n ∷ [])) (lexMore (foldl lexMore x (spelling n)) c)
+  name-then n h = found-then (spelling n) (x .lexer .next + length (spelling n)) (Token.name n) (spelling-after x (k .mode) n h)
 
   mark-then : (b : ℕ) → classOf b ≡ Class.mark → Between (us ++ (Token.mark b ∷ [])) (lexMore (lexMore x b) c)
   mark-then b h =
@@ -402,20 +180,6 @@ module _ (c : ℕ) (space : classOf c ≡ Class.space) (us : List Token) (x : Le
       })
 
 -- ---- numbers
-
-pub digit-class : (d : ℕ) → d < 10 → classOf (digitZero + d) ≡ Class.digit
-unfolding classOf
-digit-class zero h = refl
-digit-class (suc zero) h = refl
-digit-class (suc (suc zero)) h = refl
-digit-class (suc (suc (suc zero))) h = refl
-digit-class (suc (suc (suc (suc zero)))) h = refl
-digit-class (suc (suc (suc (suc (suc zero))))) h = refl
-digit-class (suc (suc (suc (suc (suc (suc zero)))))) h = refl
-digit-class (suc (suc (suc (suc (suc (suc (suc zero))))))) h = refl
-digit-class (suc (suc (suc (suc (suc (suc (suc (suc zero)))))))) h = refl
-digit-class (suc (suc (suc (suc (suc (suc (suc (suc (suc zero))))))))) h = refl
-digit-class (suc (suc (suc (suc (suc (suc (suc (suc (suc (suc d)))))))))) h = absurd (omega arith)
 
 digit-modes : (t : Bool) → (cond t Mode.leadingZero Mode.decimal ≡ Mode.leadingZero) ⊎ (cond t Mode.leadingZero Mode.decimal ≡ Mode.decimal)
 digit-modes true = inl refl

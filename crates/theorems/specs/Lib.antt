@@ -10,3 +10,4 @@ pub mod NeverStuck
 pub mod Predecessors
 pub mod RoundTrip
 pub mod Candidates
+pub mod Names

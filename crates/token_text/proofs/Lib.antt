@@ -1,3 +1,4 @@
+pub mod Escaping
 pub mod Lines
 pub mod NamesLaws
 pub mod Spelled

@@ -1,7 +1,7 @@
 -- The name of a table's register or block, with the made names filled in: given, made, or none for entry. Assumes nothing.
-use mathlib.Core.Bool.{Bool, cond, not, _&&_}
+use mathlib.Core.Bool.{Bool, false, cond, not, _&&_}
 use mathlib.Core.List.{List, [], _∷_}
-use mathlib.Core.Path.{_≡_, refl, sym, ap, _∙_}
+use mathlib.Core.Path.{_≡_, refl, sym, ap, _∙_, subst}
 use Prim.Native.Nat.{ℕ, _<_}
 use native.Mathlib.Omega.{arith}
 use lib.Dec.{eqb}
@@ -16,7 +16,7 @@ use Rattle.language.specs.Tokens.{Token}
 use Rattle.language.specs.Writing.{blockToken}
 use Rattle.language.proofs.TableView.{register-count, register-is, block-count, block-is}
 use Rattle.naming.proofs.Filled.{filled-register-name, filled-block-name}
-use Rattle.naming.specs.Numbered.{RegistersNumbered, BlocksNumbered}
+use Rattle.naming.specs.Numbered.{plainFlag, RegistersNumbered, BlocksNumbered}
 
 no-bytes : (n : List ℕ) → length n ≡ 0 → n ≡ []
 no-bytes [] h = refl
@@ -39,6 +39,13 @@ module _ (t : List ℕ) (a : ℕ) (made : List ℕ) (r : ℕ) (h : r < registerC
   pub register-made : length (registerName t a r) ≡ 0 → madeName registerPrefix (getD made r 0) ≡ getD (namedFunction (decodeFunction t a) .registers) r noRegister .name
   register-made none = sym (name-of ∙ ap (λ (n : List ℕ). cond (empty n) (madeName registerPrefix (getD made r 0)) n) (no-bytes (registerName t a r) none))
 
+  pub register-flag : (length (registerName t a r) ≡ 0 → ⊥) → getD made r 0 ≡ plainFlag (registerName t a r)
+  unfolding decodeRegister
+  register-flag some =
+      let within : r < length (decodeFunction t a .registers) = omega (arith, register-count t a) in
+      subst (λ (x : Register). empty (x .name) ≡ false → getD made r 0 ≡ plainFlag (x .name)) (register-is t a r h) (numbers .plain r within)
+      (empty-some (registerName t a r) some)
+
   pub register-given : (length (registerName t a r) ≡ 0 → ⊥) → registerName t a r ≡ getD (namedFunction (decodeFunction t a) .registers) r noRegister .name
   register-given some = sym (name-of ∙ ap (λ (x : Bool). cond x (madeName registerPrefix (getD made r 0)) (registerName t a r)) (empty-some (registerName t a r) some))
 
@@ -50,6 +57,12 @@ module _ (t : List ℕ) (a : ℕ) (made : List ℕ) (b : ℕ) (h : b < blockCoun
       filled-block-name (decodeFunction t a) b within
       ∙ numbers .named b within
       ∙ ap (λ (x : Block). cond (empty (x .name) && not (eqb b (functionEntry t a))) (madeName blockPrefix (getD made b 0)) (x .name)) (block-is t a b h)
+
+  pub block-flag : (length (blockName t a b) ≡ 0 → ⊥) → getD made b 0 ≡ plainFlag (blockName t a b)
+  unfolding decodeBlock decodeFunction
+  block-flag some =
+      let within : b < length (decodeFunction t a .blocks) = omega (arith, block-count t a) in
+      subst (λ (x : Block). empty (x .name) ≡ false → getD made b 0 ≡ plainFlag (x .name)) (block-is t a b h) (numbers .plain b within) (empty-some (blockName t a b) some)
 
   pub block-given : (length (blockName t a b) ≡ 0 → ⊥) → blockName t a b ≡ blockAt (namedFunction (decodeFunction t a)) b .name
   block-given some =

@@ -4,7 +4,7 @@ use mathlib.Core.List.{List, [], _∷_, _++_, append-nil, append-assoc}
 use mathlib.Core.Path.{_≡_, refl, sym, ap, _∙_}
 use Prim.Native.Nat.{ℕ, _+_, _≤_, _<_}
 use native.Mathlib.Omega.{arith}
-use lib.Dec.{leb, leb→le}
+use lib.Dec.{T, leb, leb→le}
 use lib.ListN.{length, take, replicate}
 use lib.IntN.{ℤ, pos, negsuc}
 use borrow.Author.Tests.{ne-eqb}
@@ -14,13 +14,16 @@ use Rattle.laws.proofs.Cells.{at-sets}
 use Rattle.laws.proofs.Sections.{at-part}
 use Rattle.laws.proofs.Positions.{same-eq}
 use Rattle.language.specs.Arithmetic.{meaning}
-use Rattle.language.specs.Bytes.{minus}
+use Rattle.language.specs.Bytes.{minus, quoteByte}
 use Rattle.language.specs.Instructions.{void}
 use Rattle.language.specs.Listing.{digits}
 use Rattle.language.specs.MadeNames.{madeName}
+use Rattle.language.specs.Names.{plainName, escaped, spelling}
 use Rattle.language.specs.Tokens.{Token}
 use Rattle.language.specs.Words.{words, wordCount, spellingOf}
 use Rattle.language.specs.Writing.{spaceByte, bytesFor, typeToken, resultToken, meantToken, numberToken}
+use Rattle.language.proofs.MadeNamesLaws.{plain-spelling}
+use Rattle.naming.specs.Numbered.{plainFlag}
 use Rattle.decimal.specs.declared.ranges.Meant.{Meant}
 use Rattle.decimal.specs.Meanings.{meantBy}
 use Rattle.decimal.specs.Writing.{Written}
@@ -28,6 +31,7 @@ use Rattle.page.specs.Page.{Page, puts}
 use Rattle.page.proofs.Pages.{puts-append}
 use Rattle.token_text.specs.Spaced.{spaced}
 use Rattle.token_text.proofs.Lines.{spaced-append}
+use Rattle.token_text.proofs.Escaping.{spelled-quoted}
 use Rattle.vocabulary.specs.Letters.{lettersOf, letterCount}
 
 -- one part after the other
@@ -65,13 +69,33 @@ result-void e = ap (λ (n : ℕ). spaced (resultToken n ∷ [])) (sym e)
 pub result-type : (k : ℕ) → (k ≡ void → ⊥) → spaced (typeToken k ∷ []) ≡ spaced (resultToken k ∷ [])
 result-type k h = ap (λ (b : Bool). spaced (cond b (Token.word 2) (typeToken k) ∷ [])) (sym (ne-eqb k void h))
 
--- a name; a made one
-pub name-spaced : {n m : List ℕ} → n ≡ m → n ++ (spaceByte ∷ []) ≡ spaced (Token.name m ∷ [])
+-- a name; a made one, which is its own spelling
+pub name-spaced : (n : List ℕ) → spelling n ++ (spaceByte ∷ []) ≡ spaced (Token.name n ∷ [])
 unfolding bytesFor
-name-spaced {n} e = spaced-one (Token.name n) ∙ ap (λ (l : List ℕ). spaced (Token.name l ∷ [])) e
+name-spaced n = spaced-one (Token.name n)
 
-pub made-spaced : (prefix : List ℕ) (n : ℕ) → prefix ++ (digits n ++ (spaceByte ∷ [])) ≡ spaced (Token.name (madeName prefix n) ∷ [])
-made-spaced prefix n = sym (append-assoc prefix (digits n) (spaceByte ∷ [])) ∙ name-spaced refl
+-- a given one, whose flag says that it is plain
+pub flagged-spaced : (n : List ℕ) {k : ℕ} → k ≡ plainFlag n → k ≡ 1 → n ++ (spaceByte ∷ []) ≡ spaced (Token.name n ∷ [])
+flagged-spaced n {k} is one = by (plainName n) refl (sym is ∙ one)
+  where
+    by : (t : Bool) → plainName n ≡ t → cond {A = ℕ} t 1 0 ≡ 1 → n ++ (spaceByte ∷ []) ≡ spaced (Token.name n ∷ [])
+    by true e h = ap (λ (l : List ℕ). l ++ (spaceByte ∷ [])) (sym (plain-spelling n (rw e tt))) ∙ name-spaced n
+    by false e h = absurd (omega arith)
+
+-- or that it is not
+pub flagged-quoted : (n : List ℕ) {k : ℕ} → k ≡ plainFlag n → (k ≡ 1 → ⊥) → quoteByte ∷ (escaped n ++ (quoteByte ∷ spaceByte ∷ [])) ≡ spaced (Token.name n ∷ [])
+flagged-quoted n {k} is none = by (plainName n) refl is
+  where
+    by : (t : Bool) → plainName n ≡ t → k ≡ cond {A = ℕ} t 1 0 → quoteByte ∷ (escaped n ++ (quoteByte ∷ spaceByte ∷ [])) ≡ spaced (Token.name n ∷ [])
+    by true e h = absurd (none h)
+    by false e h =
+        ap (λ (l : List ℕ). quoteByte ∷ l) (sym (append-assoc (escaped n) (quoteByte ∷ []) (spaceByte ∷ [])))
+        ∙ ap (λ (l : List ℕ). l ++ (spaceByte ∷ [])) (spelled-quoted n (sym e) refl) ∙ name-spaced n
+
+pub made-spaced : (prefix : List ℕ) (n : ℕ) → T (plainName (madeName prefix n)) → prefix ++ (digits n ++ (spaceByte ∷ [])) ≡ spaced (Token.name (madeName prefix n) ∷ [])
+made-spaced prefix n plain =
+    sym (append-assoc prefix (digits n) (spaceByte ∷ []))
+    ∙ ap (λ (l : List ℕ). l ++ (spaceByte ∷ [])) (sym (plain-spelling (madeName prefix n) plain)) ∙ name-spaced (madeName prefix n)
 
 -- what was written from a buffer's beginning on
 pub written-front : {entry exit xs : List ℕ} {end : ℕ} → Written entry 0 xs exit end → end ≤ length entry → take end exit ≡ xs

@@ -1,4 +1,5 @@
 pub mod ByteClasses
-pub mod Packing
-pub mod LetterLaws
 pub mod ChainLaws
+pub mod LetterLaws
+pub mod Packing
+pub mod PlainNames

@@ -29,7 +29,7 @@ check-function-spec =
     tie.close
     (tie.spec
     (λ c κs. omega arith)
-    (λ c κs. let s = c .before .before .before in (s .pre .0, s .pre .1, omega (arith, c .function-at .ensures), s .pre .2))
+    (λ c κs. let s = c .before .before .before in (s .pre .0, s .pre .1, omega (arith, c .function-at .ensures)))
     (λ c.
     let s = c .before .before .before .before .before in
     let t = s .args .t .now in
@@ -43,7 +43,7 @@ check-function-spec =
     let i = s .args .i in
     let here = c .before .before .before .function-at .ensures in
     let rows = rw here at (c .before .before .sound-rows .ensures) in
-    (rw here (preparable-right t (functionAt i) i (omega arith) (right t i rows (omega arith))), s .pre .3))
+    (rw here (preparable-right t (functionAt i) i (omega arith) (right t i rows (omega arith))), s .pre .2))
     (λ c κs. omega (arith, c .before .before .before .before .before .before .before .function-at .ensures))
     (λ c κs.
     let s = c .before .before .before .before .before .before .before .before .before .before .before in

@@ -13,10 +13,10 @@ use Rattle.checker.proofs.check_table.Statement.{statement}
 use Rattle.checker.proofs.check_table.Tie as tie
 
 abbrev Inv-loop : tie.InvT-loop
-Inv-loop t n classes m₀ i₀ m i = (i ≤ n) × (length m ≡ flowLength) × (checkAnswer t ≡ judgedFrom t i)
+Inv-loop t n m₀ i₀ m i = (i ≤ n) × (length m ≡ flowLength) × (checkAnswer t ≡ judgedFrom t i)
 
 abbrev μ-loop : tie.MeasureT-loop
-μ-loop t n classes m₀ i₀ m i = n - i
+μ-loop t n m₀ i₀ m i = n - i
 
 pub check-table-spec : {M : Type 1} → statement M
 check-table-spec =
@@ -27,26 +27,25 @@ check-table-spec =
     (λ c. other-length (c .before .before .args .t .now) (c .if1 .taken))
     (λ c κs. omega arith)
     (λ c. too-many (c .before .before .before .before .args .t .now) (c .before .before .if1 .left) (omega arith))
-    (λ c κs. search needs)
-    (λ c. (omega arith, length-replicate {A = ℕ} flowLength 0, start (c .before .before .before .before .before .args .t .now) (c .before .before .before .if1 .left) (omega arith)))
-    (λ c. sym (c .before .before .before .loop .inv .1))
-    (λ c κs. (c .before .before .before .before .before .before .before .if1 .left, omega arith, c .before .before .before .before .classes .ensures, c .before .before .before .loop .inv .1))
+    (λ c. (omega arith, length-replicate {A = ℕ} flowLength 0, start (c .before .before .before .before .args .t .now) (c .before .before .if1 .left) (omega arith)))
+    (λ c. sym (c .before .before .loop .inv .1))
+    (λ c κs. (c .before .before .before .before .before .if1 .left, omega arith, c .before .before .loop .inv .1))
     (λ c. search needs)
     (λ c. search needs)
     (λ c. omega arith)
     (λ c. omega arith)
     (λ c.
-    let t = c .before .before .before .before .before .before .before .before .before .before .before .before .before .args .t .now in
-    let loop = c .before .before .before .before .before .before .before .loop in
+    let t = c .before .before .before .before .before .before .before .before .before .before .before .args .t .now in
+    let loop = c .before .before .before .before .before .before .loop in
     let call = c .before .before .before .check-function in (
       omega arith,
-      call .kept .1 .1 .1 .0 ∙ loop .inv .1,
+      call .kept .1 .1 .0 ∙ loop .inv .1,
       loop .inv .2 ∙ goes-on t (loop .i) (omega arith) (sym (call .ensures) ∙ ap verdictOf (c .enum-told .given .1))
           ∙ ap (judgedFrom t) (sym (add-one (loop .i))),
     ))
     (λ c.
-    let t = c .before .before .before .before .before .before .before .before .before .before .before .before .before .before .args .t .now in
-    let loop = c .before .before .before .before .before .before .before .before .loop in
+    let t = c .before .before .before .before .before .before .before .before .before .before .before .before .args .t .now in
+    let loop = c .before .before .before .before .before .before .before .loop in
     let found = c .before .k .given in
     sym (loop .inv .2 ∙ ends t (loop .i) (omega arith) (found .0 .0) (found .0 .1 .0) (sym (c .before .before .before .before .check-function .ensures) ∙ ap verdictOf (found .1))))
-    (λ c. sym (c .before .loop .inv .2 ∙ all-judged (c .before .before .before .before .before .before .before .args .t .now) (c .before .loop .i) (omega arith))))
+    (λ c. sym (c .before .loop .inv .2 ∙ all-judged (c .before .before .before .before .before .before .args .t .now) (c .before .loop .i) (omega arith))))

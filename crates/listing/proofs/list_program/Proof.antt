@@ -41,6 +41,7 @@ put-line-requires c κs =
       omega (arith, low, start .pre .0, c .before .function-at .ensures),
       rw (c .before .function-at .ensures) (function-fits (start .args .t .now) (start .pre .1) (at .loop .i) (rw (sym count) (c .before .before .loop-test .taken))),
       omega (arith, low, start .pre .2, at .loop .inv .1, written-length (at .loop .inv .2)),
+      omega (arith, low, at .loop .inv .1),
     )
 
 loop-again : tie.Need-loop-again Inv-loop μ-loop

@@ -2,7 +2,7 @@
 use mathlib.Core.Logic.{⊎-elim}
 use borrow.Author.Needs.{needs}
 use borrow.Author.Tests.{eqb-true}
-use Rattle.lexer.proofs.TokenSteps.{Idle}
+use Rattle.language.proofs.TokenSteps.{Idle}
 use Rattle.lexer.proofs.Passing.{finished-idle, finished-open}
 use Rattle.lexer.proofs.Lexer.finish.Statement.{statement}
 use Rattle.lexer.proofs.Lexer.finish.Tie as tie
@@ -16,7 +16,7 @@ returns c =
 returns-2 : tie.Need-returns-2
 returns-2 c =
     let at = c .before .before .before .before in
-    rw (c .ended .ensures, c .before .idle .ensures) (finished-open (at .before .before .args .self) (at .before .before .pre) (at .if1 .left))
+    rw (c .ended .ensures, c .before .idle .ensures) (finished-open (at .before .before .args .self) (at .if1 .left))
 
 pub finish-spec : {M : Type 1} → statement M
 finish-spec = tie.close (tie.spec returns (λ c κs. search needs) (λ c κs. search needs) returns-2)

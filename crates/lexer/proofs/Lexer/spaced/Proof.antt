@@ -2,14 +2,14 @@
 use borrow.Author.Needs.{needs}
 use mathlib.Core.Path.{refl, sym}
 use Rattle.lexer.specs.Lexing.{idleAt}
-use Rattle.lexer.proofs.TokenSteps.{Idle}
+use Rattle.language.proofs.TokenSteps.{Idle}
 use Rattle.lexer.proofs.Stepping.{passed-none, passed-then, passed-idle}
 use Rattle.lexer.proofs.Passing.{spaces-passed}
 use Rattle.lexer.proofs.Lexer.spaced.Statement.{statement}
 use Rattle.lexer.proofs.Lexer.spaced.Tie as tie
 
 returns : tie.Need-returns
-returns c = (passed-none (c .before .before .before .args .text .now) (c .before .before .before .args .self) (c .before .before .before .pre .1) (c .before .before .before .pre .0), refl)
+returns c = ((λ h. passed-none (c .before .before .before .args .text .now) (c .before .before .before .args .self) h (c .before .before .before .pre .1) (c .before .before .before .pre .0)), refl)
 
 returns-2 : tie.Need-returns-2
 returns-2 c =
@@ -17,8 +17,8 @@ returns-2 c =
     let text = start .args .text .now in
     let l = start .args .self in
     rw (c .idle .ensures) (
-      passed-then text l (idleAt 0 (l .next)) (idleAt 0 (c .before .spaces-end .result)) (passed-idle Idle.between text l (start .pre .1) (c .before .before .if1 .left))
-          (spaces-passed text (λ i. c .before .before .before .before .shared-slice-known .given i .fits) (l .next) (c .before .spaces-end .result) (c .before .spaces-end .ensures)),
+      (λ h. passed-then text l (idleAt 0 (l .next)) (idleAt 0 (c .before .spaces-end .result)) (passed-idle Idle.between text l (start .pre .1) (c .before .before .if1 .left) h)
+          (spaces-passed text h (λ i. c .before .before .before .before .shared-slice-known .given i .fits) (l .next) (c .before .spaces-end .result) (c .before .spaces-end .ensures))),
       sym (c .before .before .if1 .left),
     )
 

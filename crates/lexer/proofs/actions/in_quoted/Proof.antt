@@ -3,15 +3,14 @@ use Rattle.laws.proofs.Branches.{branches}
 use Rattle.lexer.proofs.actions.in_quoted.Statement.{statement}
 use Rattle.lexer.proofs.actions.in_quoted.Tie as tie
 use Rattle.lexer.specs.Actions.{inQuotedAt}
-use borrow.Author.Needs.{needs}
 
 pub in-quoted-spec : {M : Type 1} → statement M
 unfolding inQuotedAt
 in-quoted-spec =
     tie.close
     (tie.spec
-    (λ c κs. search needs)
-    (λ c. search branches)
-    (λ c. search branches)
-    (λ c. search branches)
-    (λ c. search branches))
+    (λ c. search branches depth 12)
+    (λ c. search branches depth 12)
+    (λ c. search branches depth 12)
+    (λ c. search branches depth 12)
+    (λ c. search branches depth 12))

@@ -1,5 +1,6 @@
 -- `reader::reading::next`: a scan, or the end.
 use borrow.Author.Needs.{needs}
+use mathlib.Core.Path.{refl}
 use native.Mathlib.Omega.{arith}
 use Rattle.reader.specs.Text.{Nexts}
 use Rattle.reader.proofs.reading.next.Statement.{statement}
@@ -10,6 +11,7 @@ next-spec =
     tie.close
     (tie.spec
     (λ c κs. search needs)
-    (λ c. Nexts.scanned (c .before .if1 .taken) (c .scan .ensures))
+    (λ c. search needs)
+    (λ c. Nexts.scanned (c .before .before .before .before .if1 .taken) (c .before .before .scan .ensures))
     (λ c κs. search needs)
-    (λ c. Nexts.finished (omega arith) (c .finish .ensures)))
+    (λ c. Nexts.finished (omega arith) (c .finish .ensures) refl))

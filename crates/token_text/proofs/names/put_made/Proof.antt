@@ -13,4 +13,4 @@ put-made-spec =
     (λ c κs. search needs)
     (λ c κs. search needs)
     (λ c. search needs)
-    (λ c. let args = c .before .before .before .before .before .before .before .before .before .before .args in puts-then _ _ _ (c .before .before .before .before .before .before .put-part .ensures) (c .before .before .put-spaced-digits .ensures) ∙ ap (puts _) (made-spaced (args .prefix .now) (args .number))))
+    (λ c. let args = c .before .before .before .before .before .before .before .before .before .before .args in puts-then _ _ _ (c .before .before .before .before .before .before .put-part .ensures) (c .before .before .put-spaced-digits .ensures) ∙ ap (puts _) (made-spaced (args .prefix .now) (args .number) (c .before .before .before .before .before .before .before .before .before .before .pre))))

@@ -1,5 +1,5 @@
--- `token_text::names::put_name`: its bytes, then the space.
-use mathlib.Core.Path.{refl, ap, _∙_}
+-- `token_text::names::put_name`: its spelling, then the space.
+use mathlib.Core.Path.{ap, _∙_}
 use borrow.Author.Needs.{needs}
 use Rattle.page.specs.Page.{puts}
 use Rattle.token_text.proofs.Spelled.{puts-then, name-spaced}
@@ -14,4 +14,4 @@ put-name-spec =
     (λ c. search needs)
     (λ c κs. search needs)
     (λ c. search needs)
-    (λ c. puts-then _ _ _ (c .before .before .before .before .before .before .before .put-part .ensures) (c .before .before .put-part2 .ensures) ∙ ap (puts _) (name-spaced refl)))
+    (λ c. puts-then _ _ _ (c .before .before .before .before .before .before .before .put-spelling .ensures) (c .before .before .put-part .ensures) ∙ ap (puts _) (name-spaced (c .before .before .before .before .before .before .before .before .before .before .before .args .name .now))))

@@ -1,6 +1,5 @@
 -- `reader::reading::Reader::take_found`: a lexeme is taken as its token.
 use mathlib.Core.Path.{refl, subst}
-use native.Mathlib.Omega.{arith}
 use borrow.Author.Needs.{needs}
 use Rattle.reader.specs.Text.{FoundHere}
 use Rattle.reader.proofs.Spelling.{here-within, beside, lexeme-taken, lexeme-suits, nothing-taken, stray-taken}
@@ -14,15 +13,13 @@ enum-known-found : tie.Need-enum-known-found
 enum-known-found c = search needs
 
 token-of-requires : tie.Need-token-of-requires
-token-of-requires c κs = here-within (subst (FoundHere _) (c .before .found .given .1) (c .before .before .before .before .before .before .before .before .before .pre .1 .1))
+token-of-requires c κs = here-within (subst (FoundHere _ _) (c .before .found .given .1) (c .before .before .before .before .before .before .before .before .before .before .pre .1 .1))
 
-part-requires : tie.Need-part-requires
-part-requires c κs =
-    let within = c .token-of .ensures .within in
-    omega arith
+contents-of-requires : tie.Need-contents-of-requires
+contents-of-requires c κs = (c .token-of .ensures .room, c .token-of .ensures .within)
 
 take-requires : tie.Need-take-requires
-take-requires c κs = (c .before .before .before .before .before .before .before .before .before .before .before .before .before .before .before .before .pre .0, beside (c .before .before .before .before .before .before .token-of .ensures) (subst (FoundHere _) (c .before .before .before .before .before .before .before .before .found .given .1) (c .before .before .before .before .before .before .before .before .before .before .before .before .before .before .before .before .pre .1 .1)) (c .before .before .before .before .before .before .before .before .before .before .before .before .before .before .before .before .pre .1 .0) (c .before .before .before .before .before .part .ensures))
+take-requires c κs = (c .before .before .before .before .before .before .before .before .before .before .before .before .before .before .before .before .before .pre .0, beside (c .before .before .before .before .before .before .token-of .ensures) (subst (FoundHere _ _) (c .before .before .before .before .before .before .before .before .found .given .1) (c .before .before .before .before .before .before .before .before .before .before .before .before .before .before .before .before .before .pre .1 .1)) (c .before .before .before .before .before .before .before .before .before .before .before .before .before .before .before .before .before .pre .1 .0) (c .before .before .before .before .before .contents-of .ensures))
 
 enum-known-found-2 : tie.Need-enum-known-found-2
 enum-known-found-2 c = search needs
@@ -46,7 +43,7 @@ same-length-5 : tie.Need-same-length-5
 same-length-5 c = c .before .before .before .before .before .before .before .before .before .before .take .kept .1 .1 .1 .1 .1 .0
 
 returns-2 : tie.Need-returns-2
-returns-2 c = rw (c .before .before .before .before .before .before .before .before .before .before .before .before .before .before .before .before .before .before .before .found .given .1) (lexeme-taken (c .before .before .before .before .before .before .before .before .before .before .before .before .before .before .before .before .before .token-of .ensures) (c .before .before .before .before .before .before .before .before .before .before .before .before .before .before .before .before .part .ensures .0) (c .before .before .before .before .before .before .before .before .before .before .take .ensures .0), lexeme-suits (c .before .before .before .before .before .before .before .before .before .before .before .before .before .before .before .before .before .token-of .ensures) (c .before .before .before .before .before .before .before .before .before .before .take .result) (c .before .before .before .before .before .before .before .before .before .before .take .ensures .1))
+returns-2 c = rw (c .before .before .before .before .before .before .before .before .before .before .before .before .before .before .before .before .before .before .before .found .given .1) (lexeme-taken (c .before .before .before .before .before .before .before .before .before .before .before .before .before .before .before .before .before .token-of .ensures) (c .before .before .before .before .before .before .before .before .before .before .before .before .before .before .before .before .contents-of .ensures .0) (c .before .before .before .before .before .before .before .before .before .before .take .ensures .0), lexeme-suits (c .before .before .before .before .before .before .before .before .before .before .before .before .before .before .before .before .before .token-of .ensures) (c .before .before .before .before .before .before .before .before .before .before .take .result) (c .before .before .before .before .before .before .before .before .before .before .take .ensures .1))
 
 returns-3 : tie.Need-returns-3
 returns-3 c = rw (c .before .found2 .given .1) (stray-taken, tt)
@@ -58,7 +55,7 @@ take-found-spec =
     enum-told
     enum-known-found
     token-of-requires
-    part-requires
+    contents-of-requires
     take-requires
     enum-known-found-2
     returns
