@@ -33,7 +33,7 @@ unfoldable pub slashLast : List ℕ → Bool
 slashLast n = eqb (getD n (length n - 1) 0) backslash
 
 -- Some text can spell these contents: "1 to 64 bytes", counted on them. A backslash does not come last: it would make the closing quote part of
--- the name. Any other byte may stand anywhere.
+-- the name. Any byte may stand anywhere else; a number that is no byte's is in no text.
 unfoldable pub spellable : List ℕ → Bool
 spellable n = not (empty n) && leb (length n) maxName && not (slashLast n) && all (λ b. ltb b 256) n
 

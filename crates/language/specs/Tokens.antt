@@ -56,10 +56,11 @@ begunName m p b = record { mode = m; next = p + 1; start = p; bytes = b ∷ []; 
 abbrev pub begunNumber : Mode → ℕ → Bool → ℕ → Lexer
 begunNumber m p s v = record { mode = m; next = p + 1; start = p; bytes = []; negative = s; value = v }
 
--- One byte more of a name, which gives its contents these bytes more, or none.
+-- One byte more of a name, with which its contents have these bytes more.
 abbrev pub longerName : Mode → Lexer → List ℕ → Lexer
 longerName m l bs = record { mode = m; next = l .next + 1; start = l .start; bytes = l .bytes ++ bs; negative = false; value = 0 }
 
+-- A backslash more, which waits: the contents are as they were.
 abbrev pub waitingName : Lexer → Lexer
 waitingName l = record { mode = Mode.escaping; next = l .next + 1; start = l .start; bytes = l .bytes; negative = false; value = 0 }
 
