@@ -17,8 +17,7 @@ use Rattle.language.specs.Instructions.{Form, Operand, form_of, operand_of, has_
 use Rattle.language.specs.Programs.{Func, max_functions, max_registers, max_blocks, max_rows, max_entries}
 use Rattle.language.specs.Bytes.{left_paren, right_paren, left_brace, right_brace, comma, semicolon, equals}
 use Rattle.language.specs.Words.{is_type, type_of, first_type, first_instruction, function_word, ssa_word, void_word, register_word, block_word, entry_word, is_instruction, instruction_of}
-use Rattle.language.specs.Places.{TextPlace}
-use Rattle.language.specs.Tokens.{Token, Found}
+use Rattle.language.specs.Tokens.{TextPlace, Token, Found}
 use Rattle.language.specs.Grammar.{Bracketed, Stage, Act, Move, next_move, to, wrong_move, on_name, on_word, on_number, on_block, on_mark_or, on_mark, on_end_or, is_word_or, is_word, a_type, a_result, a_parameter, a_block, an_instruction, word_alone, word_with_target, after_word, sources, after_sources, after_source, after_mention, in_operand}
 use Rattle.language.specs.Reading.{Mention, OpenBlock, Head, Parts, Draft, ActOutcome, Parse, refuse, proceed, fresh, draft_of, draft_rows, phi_entries, function_number, register_number, block_number, undeclared, number_in_range, if_room, if_new, if_declared, if_resolved, after_act, perform_act, take_token, parse₀}
 use Rattle.language.specs.Reading as reading

@@ -7,8 +7,7 @@ use native.Mathlib.Omega.{arith}
 use native.Mathlib.Decide.{dec_lt}
 use lib.ListN.{length}
 use Rattle.language.specs.Programs.{max_text}
-use Rattle.language.specs.Places.{TextPlace, first_place}
-use Rattle.language.specs.Tokens.{Token, Found, tokens_of}
+use Rattle.language.specs.Tokens.{TextPlace, Token, Found, tokens_of}
 use Rattle.language.specs.Grammar.{Stage, next_move}
 use Rattle.language.specs.Reading.{Draft, ActOutcome, Parse, Reading, perform_act, after_act, take_token, parse₀, finish, read}
 use Rattle.language.specs.Refusals.{Reaches}
@@ -96,7 +95,7 @@ refused_by text n p l e = by (dec_lt max_text (length text))
 
     by : Dec (max_text < length text) → By text n p
     by (yes h) =
-        let z : Reading.refused 1 first_place ≡ Reading.refused n p = sym (text_too_long text h) ∙ e in
+        let z : Reading.refused 1 0 ≡ Reading.refused n p = sym (text_too_long text h) ∙ e in
         absurd (let m : 1 ≡ n = cc in omega arith)
     by (no h) =
         let m : length text ≤ max_text = omega arith in

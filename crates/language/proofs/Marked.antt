@@ -9,7 +9,6 @@ use Prim.Native.String.{String}
 use lib.IntN.{pos, neg_ℤ}
 use lib.ListN.{get_or}
 use Rattle.language.specs.Bytes.{bytes_of}
-use Rattle.language.specs.Places.{TextPlace, at_line}
 use Rattle.language.specs.Programs.{Func, Program, no_function, is_ssa}
 use Rattle.language.specs.Reading.{Reading, read}
 use Rattle.language.specs.Checking.{Verdict, check}
@@ -19,10 +18,9 @@ use Rattle.language.proofs.Computing.{computing}
 use Rattle.language.proofs.ReadingFacts.{reads, turn_text}
 use Rattle.language.proofs.RunFacts.{Summary, summary, Reported, reported}
 
--- What comes of a text's first function on its arguments: a refusal, in the text or after it; a run, with its report by meaning and its steps; a run and that of the
+-- What comes of a text's first function on its arguments: a refusal; a run, with its report by meaning and its steps; a run and that of the
 -- translation.
 pub data Told : Type 0 where
-  misread : (number : ℕ) (place : TextPlace) → Told
   refused : (number place : ℕ) → Told
   ran : (report : Reported) (steps : ℕ) → Told
   twice : (report : Reported) (steps : ℕ) (again : Reported) (translated : ℕ) → Told
@@ -46,7 +44,7 @@ judged p args Verdict.accepted = let f = get_or p 0 no_function in told_of f arg
 judged p args (Verdict.refused n r) = Told.refused n r
 
 abbrev told : Reading → List ℕ → Told
-told (Reading.refused n p) args = Told.misread n p
+told (Reading.refused n p) args = Told.refused n p
 told (Reading.program p) args = judged p args (check p)
 
 pub record Case : Type 0 where
@@ -108,7 +106,7 @@ marked =
     ∷ case (one "int8" "int8" "ari.neg") (128 ∷ []) (Reported.whole (neg_ℤ (pos 128)))
     -- P12 `load.ui8 (255)` reads, `(256)` is 4
     ∷ case (loads "255") [] (Reported.whole (pos 255))
-    ∷ record { text = loads "256"; arguments = []; answer = Told.misread 4 (at_line 1 68) }
+    ∷ record { text = loads "256"; arguments = []; answer = Told.refused 4 67 }
     ∷ []
 
 -- Each text on its arguments comes to what stands beside it.

@@ -16,7 +16,6 @@ use Rattle.laws.proofs.Appending.{all_append}
 use Rattle.language.specs.Bytes.{Class, class_of, name_byte, digit_byte, hex_byte, quote_byte, backslash, slash_byte, line_feed, letter_x, digit_zero}
 use Rattle.language.specs.Words.{word_of, word_count}
 use Rattle.language.specs.Names.{slash_last, spellable}
-use Rattle.language.specs.Places.{TextPlace}
 use Rattle.language.specs.Programs.{max_name}
 use Rattle.language.specs.Tokens.{Token, Found, token, stray, Mode, Lexer, Lexed, lexer₀, quiet, finds, begun, longer_name, waiting_name, spoils, digit_mode, begin, begin_as, name_or_word, ended, ended_as, ends, extends, quotes, escapes, closes, ends_number, decimal_digit, hexadecimal_digit, step_as, lex_step, lex_end, lex_more, tokens_from, tokens_of}
 
@@ -131,7 +130,7 @@ letter_in_name b e = rw e
 nothing_kept : Kept []
 nothing_kept = record { fits = lit≤ tt; last = none_last; bytes = tt }
 
-begin_good : (p : TextPlace) (b : ℕ) → b < 256 → Good (begin p b)
+begin_good : (p b : ℕ) → b < 256 → Good (begin p b)
 unfolding begin
 begin_good p b h = by (class_of b) refl
   where
@@ -148,7 +147,7 @@ begin_good p b h = by (class_of b) refl
 
 -- ---- what is open ends
 
-name_or_word_law : (n : List ℕ) (p : TextPlace) → Kept n × (1 ≤ length n) → T (is_spellable (token p (name_or_word n)))
+name_or_word_law : (n : List ℕ) (p : ℕ) → Kept n × (1 ≤ length n) → T (is_spellable (token p (name_or_word n)))
 unfolding name_or_word
 name_or_word_law n p k = by (eqb (word_of n) word_count)
   where
@@ -178,24 +177,24 @@ module _ (l : Lexer) (b : ℕ) (h : b < 256) where
 
 -- ---- a byte more of a name
 
-spoils_good : (l : Lexer) (b : ℕ) → Good (spoils l b)
-spoils_good l b = record { names = tt; keeps = tt }
+spoils_good : (l : Lexer) → Good (spoils l)
+spoils_good l = record { names = tt; keeps = tt }
 
-extends_good : (m : Mode) (l : Lexer) (b : ℕ) (bs : List ℕ) → (length l.bytes + length bs ≤ max_name → Keeps m (l.bytes ++ bs)) → Good (extends m l b bs)
+extends_good : (m : Mode) (l : Lexer) (bs : List ℕ) → (length l.bytes + length bs ≤ max_name → Keeps m (l.bytes ++ bs)) → Good (extends m l bs)
 unfolding extends
-extends_good m l b bs k = by (leb (length l.bytes + length bs) max_name) refl
+extends_good m l bs k = by (leb (length l.bytes + length bs) max_name) refl
   where
-    by : (t : Bool) → leb (length l.bytes + length bs) max_name ≡ t → Good (cond t (quiet (longer_name m l b bs)) (spoils l b))
+    by : (t : Bool) → leb (length l.bytes + length bs) max_name ≡ t → Good (cond t (quiet (longer_name m l bs)) (spoils l))
     by true e = record { names = tt; keeps = k (leb→le (length l.bytes + length bs) max_name (subst⁻¹ (λ (t : Bool). T t) e tt)) }
-    by false e = spoils_good l b
+    by false e = spoils_good l
 
 closes_good : (l : Lexer) → Kept l.bytes → Good (closes l)
 unfolding closes
 closes_good l k = by (eqb (length l.bytes) 0) refl
   where
     by : (t : Bool) → eqb (length l.bytes) 0 ≡ t
-        → Good (cond t (spoils l quote_byte) (finds (token l.start (Token.name l.bytes)) (begun Mode.between l.next quote_byte)))
-    by true e = spoils_good l quote_byte
+        → Good (cond t (spoils l) (finds (token l.start (Token.name l.bytes)) (begun Mode.between l.next)))
+    by true e = spoils_good l
     by false e =
         record { names = yes_and (spellable l.bytes) true (kept_spellable l.bytes k (λ z. absurd (differ (sym e ∙ eq-eqb (length l.bytes) 0 z)))) tt; keeps = tt }
       where
@@ -207,10 +206,10 @@ module _ (l : Lexer) (b : ℕ) (h : b < 256) where
   unfolding quotes
   quotes_good k = by (eqb b quote_byte) (eqb b backslash) refl
     where
-      by : (s t : Bool) → eqb b backslash ≡ t → Good (cond s (closes l) (cond t (quiet (waiting_name l)) (extends Mode.quoted l b (b ∷ []))))
+      by : (s t : Bool) → eqb b backslash ≡ t → Good (cond s (closes l) (cond t (quiet (waiting_name l)) (extends Mode.quoted l (b ∷ []))))
       by true t e = closes_good l k
       by false true e = record { names = tt; keeps = kept_waits k }
-      by false false e = extends_good Mode.quoted l b (b ∷ []) (λ f. kept_more l.bytes b h (kept_waits k) f e)
+      by false false e = extends_good Mode.quoted l (b ∷ []) (λ f. kept_more l.bytes b h (kept_waits k) f e)
 
   escapes_good : Waits l.bytes → Good (escapes l b)
   unfolding escapes
@@ -220,10 +219,10 @@ module _ (l : Lexer) (b : ℕ) (h : b < 256) where
       quote_no_slash e = rw (eqb-true b quote_byte e)
 
       by : (s : Bool) → eqb b quote_byte ≡ s → (t : Bool) → eqb b backslash ≡ t
-          → Good (cond s (extends Mode.quoted l b (b ∷ [])) (cond t (extends Mode.escaping l b (b ∷ [])) (extends Mode.quoted l b (backslash ∷ b ∷ []))))
-      by true d t e = extends_good Mode.quoted l b (b ∷ []) (λ f. kept_more l.bytes b h k f (quote_no_slash d))
-      by false d true e = extends_good Mode.escaping l b (b ∷ []) (λ f. waits_more l.bytes b h k f)
-      by false d false e = extends_good Mode.quoted l b (backslash ∷ b ∷ []) (λ f. kept_two l.bytes b h k f e)
+          → Good (cond s (extends Mode.quoted l (b ∷ [])) (cond t (extends Mode.escaping l (b ∷ [])) (extends Mode.quoted l (backslash ∷ b ∷ []))))
+      by true d t e = extends_good Mode.quoted l (b ∷ []) (λ f. kept_more l.bytes b h k f (quote_no_slash d))
+      by false d true e = extends_good Mode.escaping l (b ∷ []) (λ f. waits_more l.bytes b h k f)
+      by false d false e = extends_good Mode.quoted l (backslash ∷ b ∷ []) (λ f. kept_two l.bytes b h k f e)
 
   -- ---- any byte
 
@@ -249,7 +248,7 @@ module _ (l : Lexer) (b : ℕ) (h : b < 256) where
 
   number_good : Keeps l.mode l.bytes → Good (ends_number l b)
   unfolding ends_number
-  number_good k = either (name_byte b) (spoils l b) (ends l b) (spoils_good l b) (ends_good l b h k)
+  number_good k = either (name_byte b) (spoils l) (ends l b) (spoils_good l) (ends_good l b h k)
 
   step_good : (m : Mode) → l.mode ≡ m → Keeps m l.bytes → Good (step_as m l b)
   step_good m e k = by m e k
@@ -260,8 +259,8 @@ module _ (l : Lexer) (b : ℕ) (h : b < 256) where
       long : length (l.bytes ++ (b ∷ [])) ≡ length l.bytes + 1
       long = length-append l.bytes (b ∷ [])
 
-      plain : (t : Bool) → name_byte b ≡ t → Kept l.bytes → Good (cond t (extends Mode.plain l b (b ∷ [])) (ends l b))
-      plain true d k = extends_good Mode.plain l b (b ∷ []) (λ f. (kept_more l.bytes b h (kept_waits k) f (name_no_slash b d), omega (arith, long)))
+      plain : (t : Bool) → name_byte b ≡ t → Kept l.bytes → Good (cond t (extends Mode.plain l (b ∷ [])) (ends l b))
+      plain true d k = extends_good Mode.plain l (b ∷ []) (λ f. (kept_more l.bytes b h (kept_waits k) f (name_no_slash b d), omega (arith, long)))
       plain false d k = ends_good l b h given
 
       by : (m : Mode) → l.mode ≡ m → Keeps m l.bytes → Good (step_as m l b)

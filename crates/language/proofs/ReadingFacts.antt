@@ -7,7 +7,6 @@ use Prim.Native.String.{String}
 use lib.Dec.{eqb}
 use Rattle.laws.specs.Lists.{gather, all, below}
 use Rattle.language.specs.Bytes.{bytes_of}
-use Rattle.language.specs.Places.{TextPlace, at_line, no_place}
 use Rattle.language.specs.Instructions.{type_count, instruction_count, form_of, load_type, width, signed}
 use Rattle.language.specs.Programs.{Row, Register, Block, Func, op_of, rows_of, entry_count}
 use Rattle.language.specs.Grammar.{next_move, after_word, word_with_target, word_alone}
@@ -117,29 +116,21 @@ every_number : numbers_of (read every_text) ≡ below type_count ∷ below instr
 unfolding reads every_text
 every_number = refl
 
--- A text with its answer: number, line and column, or 0 and no place where it reads.
-abbrev pub answer_to : Reading → ℕ × TextPlace
+-- A text with its answer: number and place, or 0 and 0 where it reads.
+abbrev pub answer_to : Reading → ℕ × ℕ
 answer_to (Reading.refused n p) = (n, p)
-answer_to (Reading.program p) = (0, no_place)
+answer_to (Reading.program p) = (0, 0)
 
 pub record Case : Type 0 where
   pub text : List ℕ
-  pub answer : ℕ × TextPlace
-
--- A line and a column, or a column of the first line.
-infix 70 ◌refused◌on◌at◌
-abbrev pub ◌refused◌on◌at◌ : String → ℕ → ℕ → ℕ → Case
-s refused n on l at c = record { text = bytes_of s; answer = (n, at_line l c) }
+  pub answer : ℕ × ℕ
 
 infix 70 ◌refused◌at◌
 abbrev pub ◌refused◌at◌ : String → ℕ → ℕ → Case
-s refused n at c = s refused n on 1 at c
+s refused n at p = record { text = bytes_of s; answer = (n, p) }
 
-abbrev well_read : String → Case
-well_read s = record { text = bytes_of s; answer = (0, no_place) }
-
--- In a function's entry block, with two parameters; columns count from where the rows begin.
-abbrev in_block : String → ℕ × TextPlace → Case
+-- In a function's entry block, with two parameters; places count from where the rows begin.
+abbrev in_block : String → ℕ × ℕ → Case
 in_block s a =
     record {
       text = bytes_of "function void f(uint8 a, uint c) { block entry { " ++ bytes_of s ++ bytes_of " leave; } }";
@@ -147,99 +138,91 @@ in_block s a =
     }
 
 abbrev reading : String → Case
-reading s = in_block s (0, no_place)
+reading s = in_block s (0, 0)
 
 abbrev refusing : String → ℕ → ℕ → Case
-refusing s n c = in_block s (n, at_line 1 (49 + c))
+refusing s n p = in_block s (n, 49 + p)
 
 cases : List Case
 cases =
     -- 2, at the first byte of what would have been a token, and at a name too long where no name may stand
-    "\"" refused 2 at 1
-    ∷ "x /" refused 3 at 1
-    ∷ "/ x" refused 2 at 1
-    ∷ "aaaaaaaaaaaaaaaaaaaaaaaaaaaaaaaaaaaaaaaaaaaaaaaaaaaaaaaaaaaaaaaaa" refused 2 at 1
+    "\"" refused 2 at 0
+    ∷ "x /" refused 3 at 0
+    ∷ "/ x" refused 2 at 0
+    ∷ "aaaaaaaaaaaaaaaaaaaaaaaaaaaaaaaaaaaaaaaaaaaaaaaaaaaaaaaaaaaaaaaaa" refused 2 at 0
     -- 3, at the first token with which the text so far can no longer begin a text
-    ∷ well_read ""
-    ∷ "x" refused 3 at 1
-    ∷ "function" refused 3 at 9
-    ∷ "function void f(){block entry{leave;}}5" refused 3 at 39
-    ∷ "function f" refused 3 at 10
-    ∷ "function void entry" refused 3 at 15
-    ∷ "function void f(){register float32 x;" refused 3 at 28
-    ∷ "function void f(){block entry{}" refused 3 at 31
-    ∷ "function void f(){block entry{leave;}register" refused 3 at 38
-    ∷ refusing "x" 7 1
-    ∷ refusing "a = nop;" 3 5
-    ∷ refusing "ari.add a, a;" 3 1
-    ∷ refusing "a = not a;" 3 5
-    ∷ refusing "dead;" 7 1
-    ∷ refusing "a = phi ();" 3 10
-    ∷ refusing "a = phi (a a);" 3 12
-    ∷ refusing "jump (entry, entry);" 3 12
-    ∷ refusing "jump.cond c (entry);" 3 19
-    ∷ refusing "a = ari.add a;" 3 14
-    ∷ refusing "a = ari.neg a, a;" 3 14
-    ∷ refusing "return;" 3 7
-    ∷ refusing "leave a;" 3 7
-    ∷ refusing "a = load.ui8 (a);" 3 15
-    ∷ refusing "99999999999999999999;" 3 1
+    ∷ "" refused 0 at 0
+    ∷ "x" refused 3 at 0
+    ∷ "function" refused 3 at 8
+    ∷ "function void f(){block entry{leave;}}5" refused 3 at 38
+    ∷ "function f" refused 3 at 9
+    ∷ "function void entry" refused 3 at 14
+    ∷ "function void f(){register float32 x;" refused 3 at 27
+    ∷ "function void f(){block entry{}" refused 3 at 30
+    ∷ "function void f(){block entry{leave;}register" refused 3 at 37
+    ∷ refusing "x" 7 0
+    ∷ refusing "a = nop;" 3 4
+    ∷ refusing "ari.add a, a;" 3 0
+    ∷ refusing "a = not a;" 3 4
+    ∷ refusing "dead;" 7 0
+    ∷ refusing "a = phi ();" 3 9
+    ∷ refusing "a = phi (a a);" 3 11
+    ∷ refusing "jump (entry, entry);" 3 11
+    ∷ refusing "jump.cond c (entry);" 3 18
+    ∷ refusing "a = ari.add a;" 3 13
+    ∷ refusing "a = ari.neg a, a;" 3 13
+    ∷ refusing "return;" 3 6
+    ∷ refusing "leave a;" 3 6
+    ∷ refusing "a = load.ui8 (a);" 3 14
+    ∷ refusing "99999999999999999999;" 3 0
     -- 4, at the number's first byte, by the instruction's range
     ∷ reading "a = load.ui8 (255);"
-    ∷ refusing "a = load.ui8 (256);" 4 15
+    ∷ refusing "a = load.ui8 (256);" 4 14
     ∷ reading "a = load.ui8 (-0);"
-    ∷ refusing "a = load.ui8 (-1);" 4 15
+    ∷ refusing "a = load.ui8 (-1);" 4 14
     ∷ reading "a = load.i8 (127);"
-    ∷ refusing "a = load.i8 (128);" 4 14
+    ∷ refusing "a = load.i8 (128);" 4 13
     ∷ reading "a = load.i8 (-0x80);"
-    ∷ refusing "a = load.i8 (-129);" 4 14
-    ∷ refusing "a = load.i8 (0xFF);" 4 14
+    ∷ refusing "a = load.i8 (-129);" 4 13
+    ∷ refusing "a = load.i8 (0xFF);" 4 13
     ∷ reading "a = load.ui64 (+0000018446744073709551615);"
-    ∷ refusing "a = load.ui64 (18446744073709551616);" 4 16
+    ∷ refusing "a = load.ui64 (18446744073709551616);" 4 15
     ∷ reading "a = load.i64 (-9223372036854775808);"
-    ∷ refusing "a = load.i64 (9223372036854775808);" 4 15
+    ∷ refusing "a = load.i64 (9223372036854775808);" 4 14
     -- 6, at the second declaration's name: functions, registers and blocks are three kinds of names
-    ∷ "function void f(){block entry{leave;}}function void f" refused 6 at 53
-    ∷ "function void f(int a, int a" refused 6 at 28
-    ∷ "function void f(int a){register int a" refused 6 at 37
-    ∷ "function void f(){block a{nop;}block a" refused 6 at 38
-    ∷ "function void f(){block entry{nop;}block entry" refused 6 at 42
-    ∷ well_read "function void f(int f){block f{leave;}block entry{jump(f);}}"
+    ∷ "function void f(){block entry{leave;}}function void f" refused 6 at 52
+    ∷ "function void f(int a, int a" refused 6 at 27
+    ∷ "function void f(int a){register int a" refused 6 at 36
+    ∷ "function void f(){block a{nop;}block a" refused 6 at 37
+    ∷ "function void f(){block entry{nop;}block entry" refused 6 at 41
+    ∷ "function void f(int f){block f{leave;}block entry{jump(f);}}" refused 0 at 0
     -- 2, 6 and 7 by the contents: `a` and `'a'` are one name, `'\\a'` is another, and a word in quotes is a name
     ∷ reading "'a' = copy a; a = copy 'a';"
-    ∷ refusing "a = copy '\\a';" 7 10
-    ∷ "function void f(int ''" refused 2 at 21
-    ∷ "function void f(int a, int 'a'" refused 6 at 28
-    ∷ "function void f(int 'a\\'b', int 'a\\'b'" refused 6 at 33
-    ∷ "function void f(){block entry{leave;}}function void 'f'" refused 6 at 53
-    ∷ well_read "function void f(int 'jump'){block 'entry'{leave;}block entry{jump('entry');}}"
+    ∷ refusing "a = copy '\\a';" 7 9
+    ∷ "function void f(int ''" refused 2 at 20
+    ∷ "function void f(int a, int 'a'" refused 6 at 27
+    ∷ "function void f(int 'a\\'b', int 'a\\'b'" refused 6 at 32
+    ∷ "function void f(){block entry{leave;}}function void 'f'" refused 6 at 52
+    ∷ "function void f(int 'jump'){block 'entry'{leave;}block entry{jump('entry');}}" refused 0 at 0
     -- 7, a register at once, a block at the closing brace, after 8
-    ∷ refusing "c = cmp.eq a, b;" 7 15
-    ∷ refusing "a = phi (a, b);" 7 13
-    ∷ refusing "jump (x);" 7 7
-    ∷ refusing "jump.cond c (x, y);" 7 14
-    ∷ refusing "jump (x); y;" 7 11
-    ∷ refusing "jump (x); )" 3 11
-    ∷ "function void f(){block b{jump(x);}}\"" refused 8 at 36
-    ∷ "function void f(){block entry{jump(x);}}\"" refused 7 at 36
-    ∷ well_read "function void f(){block entry{jump(b);}block b{jump(entry);}}"
+    ∷ refusing "c = cmp.eq a, b;" 7 14
+    ∷ refusing "a = phi (a, b);" 7 12
+    ∷ refusing "jump (x);" 7 6
+    ∷ refusing "jump.cond c (x, y);" 7 13
+    ∷ refusing "jump (x); y;" 7 10
+    ∷ refusing "jump (x); )" 3 10
+    ∷ "function void f(){block b{jump(x);}}\"" refused 8 at 35
+    ∷ "function void f(){block entry{jump(x);}}\"" refused 7 at 35
+    ∷ "function void f(){block entry{jump(b);}block b{jump(entry);}}" refused 0 at 0
     -- 8, at the closing brace; `'entry'` is an ordinary name
-    ∷ "function void f(){}" refused 8 at 19
-    ∷ "function void f(){block 'entry'{leave;}}" refused 8 at 40
-    ∷ well_read "function void f(){block b{leave;}block entry{jump(b);}}"
-    -- on later lines: LF ends a line also in a comment and in quotes, CR never does; the end of a text that ends with LF is on the line after
-    ∷ "function\n" refused 3 on 2 at 1
-    ∷ "function\n\tvoid\r\n  5" refused 3 on 3 at 3
-    ∷ well_read "// x\n// y"
-    ∷ "// x\n// y\n \"" refused 2 on 3 at 2
-    ∷ "function void 'a\nb'\n5" refused 3 on 3 at 1
-    ∷ "function void f() {\n block entry {\n  jump (x);\n }\n}" refused 7 on 3 at 9
-    ∷ "function void f() {\n block b {\n  jump (x);\n }\n}\n" refused 8 on 5 at 1
+    ∷ "function void f(){}" refused 8 at 18
+    ∷ "function void f(){block 'entry'{leave;}}" refused 8 at 39
+    ∷ "function void f(){block b{leave;}block entry{jump(b);}}" refused 0 at 0
     ∷ []
 
 -- each text of the list has the answer written beside it
-abbrev pub agrees : ℕ × TextPlace → ℕ × TextPlace → Bool
-agrees a b = eqb a.0 b.0 && eqb a.1.line b.1.line && eqb a.1.column b.1.column
+abbrev pub agrees : ℕ × ℕ → ℕ × ℕ → Bool
+agrees a b = eqb a.0 b.0 && eqb a.1 b.1
 
 answers : all (λ c. agrees (answer_to (read c.text)) c.answer) cases ≡ true
 unfolding reads cases

@@ -5,8 +5,7 @@ use Prim.Native.Nat.{ℕ, ◌≤◌}
 use lib.ListN.{length}
 use borrow.Author.Tests.{le-ltb}
 use Rattle.language.specs.Programs.{max_text}
-use Rattle.language.specs.Places.{TextPlace}
-use Rattle.language.specs.Tokens.{Found, Lexed, quiet, lexer₀, lex_more, tokens_from, tokens_of}
+use Rattle.language.specs.Tokens.{TextPlace, Found, Lexed, quiet, lexer₀, lex_more, tokens_from, tokens_of}
 use Rattle.language.specs.Reading.{Parse, Reader, take_token, parse₀, read_byte, finish, read_end, read}
 
 -- once refused, a reading stays refused

@@ -4,8 +4,7 @@ use mathlib.Core.List.{List, ◌∷◌}
 use mathlib.Core.Path.{◌≡◌}
 use Prim.Native.Nat.{ℕ}
 use lib.Dec.{lit≤}
-use Rattle.language.specs.Places.{TextPlace}
-use Rattle.language.specs.Tokens.{Token}
+use Rattle.language.specs.Tokens.{TextPlace, Token}
 use Rattle.language.specs.Grammar.{Stage, Act, next_move}
 use Rattle.language.specs.Reading.{Draft, ActOutcome, perform_act}
 use Rattle.language.specs.Refusals.{Reaches, Beyond, FiveBeyond, Leads, ThreeStuck}

@@ -13,8 +13,7 @@ use Rattle.laws.specs.Lists.{sum}
 use Rattle.laws.proofs.Appending.{gather_append, sum_append}
 use Rattle.language.specs.Instructions.{Form, form_of, load_type}
 use Rattle.language.specs.Programs.{max_functions, max_registers, max_blocks, max_rows, max_entries}
-use Rattle.language.specs.Places.{TextPlace}
-use Rattle.language.specs.Tokens.{Token, Found}
+use Rattle.language.specs.Tokens.{TextPlace, Token, Found}
 use Rattle.language.specs.Grammar.{Stage, Act, next_move}
 use Rattle.language.specs.Reading.{Mention, OpenRow, OpenBlock, Parts, Draft, ActOutcome, Parse, rows_in, entries_in, open_rows, draft_rows, phi_entries, function_number, register_number, block_number, number_in_range, row_as, row_of, undeclared, resolve, if_room, if_resolved, begin_function, mark_ssa, set_result, name_function, begin_register, name_register, begin_block, name_block, end_block, begin_instruction, set_target, set_instruction, add_source, add_entry, add_mention, set_number, end_instruction, end_function, perform_act, after_act, take_token, parse₀}
 use Rattle.language.specs.Rooms.{Begun, outside, in_function, in_register, in_block, in_row, begun_at, Room, Roomy}

@@ -19,7 +19,6 @@ use Rattle.laws.proofs.Tests.{of_true}
 use Rattle.language.specs.Bytes.{class_of, name_byte, letter_byte, quote_byte, backslash}
 use Rattle.language.specs.Words.{word_of, word_count}
 use Rattle.language.specs.Names.{quote_next, unquoted, inside_after, slash_last, spellable, plain_bytes, plain_name, escaped, spelling}
-use Rattle.language.specs.Places.{TextPlace, first_place, past, past_all}
 use Rattle.language.specs.Programs.{max_name}
 use Rattle.language.specs.Tokens.{Token, Found, token, stray, Mode, Lexer, Lexed, lexer₀, quiet, begun, name_or_word, ended, lex_end, lex_more, tokens_from, tokens_of}
 use Rattle.language.proofs.TokenSteps.{lex_onward, Idle, idle, idle_same}
@@ -126,29 +125,29 @@ spellable_asks n h =
 
 pub spelling_after :
     (x : Lexed) → x.lexer.mode ≡ Mode.between → (n : List ℕ) → T (spellable n)
-    → GoesOnAs (after x.found x.lexer.next (past_all x.lexer.next (spelling n)) (Token.name n)) (foldl lex_more x (spelling n))
+    → GoesOnAs (after x.found x.lexer.next (x.lexer.next + length (spelling n)) (Token.name n)) (foldl lex_more x (spelling n))
 unfolding spelling plain_name name_or_word
 spelling_after x e n h = by (plain_bytes n) refl (eqb (word_of n) word_count) refl
   where
     a : Asked n
     a = spellable_asks n h
 
-    p : TextPlace
+    p : ℕ
     p = x.lexer.next
 
     in_quotes : List ℕ
     in_quotes = quote_byte ∷ (escaped n ++ (quote_byte ∷ []))
 
-    quoted : GoesOnAs (after x.found p (past_all p in_quotes) (Token.name n)) (foldl lex_more x in_quotes)
+    quoted : GoesOnAs (after x.found p (p + length in_quotes) (Token.name n)) (foldl lex_more x in_quotes)
     quoted =
-        subst (λ (m : List ℕ). GoesOnAs (after x.found p (past_all p in_quotes) (Token.name m)) (foldl lex_more x in_quotes)) (unquoted_escaped n)
+        subst (λ (m : List ℕ). GoesOnAs (after x.found p (p + length in_quotes) (Token.name m)) (foldl lex_more x in_quotes)) (unquoted_escaped n)
         (quoted_after x e (escaped n) (escaped_inside n a.ends) (subst⁻¹ (λ (m : List ℕ). Sized m) (unquoted_escaped n) a.sized))
 
     by :
         (s : Bool) → plain_bytes n ≡ s → (t : Bool) → eqb (word_of n) word_count ≡ t
-        → (let bs = cond (s && t) n in_quotes in GoesOnAs (after x.found p (past_all p bs) (Token.name n)) (foldl lex_more x bs))
+        → (let bs = cond (s && t) n in_quotes in GoesOnAs (after x.found p (p + length bs) (Token.name n)) (foldl lex_more x bs))
     by true b true w =
-        subst (λ (t : Token). GoesOnAs (after x.found p (past_all p n) t) (foldl lex_more x n)) (rw w)
+        subst (λ (t : Token). GoesOnAs (after x.found p (p + length n) t) (foldl lex_more x n)) (rw w)
         (plain_after x e n (of_true (plain_bytes n) b) a.sized.1)
     by true b false w = quoted
     by false b t w = quoted
@@ -156,8 +155,8 @@ spelling_after x e n h = by (plain_bytes n) refl (eqb (word_of n) word_count) re
 -- ---- what is found
 
 -- nothing is open in l before the byte at p
-idle_at : (l : Lexer) (p : TextPlace) → l.mode ≡ Mode.between → l.next ≡ p → (bs : List ℕ) → tokens_from (idle Mode.between p) bs ≡ tokens_from l bs
-idle_at l p m e bs = ap (λ (p : TextPlace). tokens_from (idle Mode.between p) bs) (sym e) ∙ sym (idle_same Idle.between l m bs)
+idle_at : (l : Lexer) (p : ℕ) → l.mode ≡ Mode.between → l.next ≡ p → (bs : List ℕ) → tokens_from (idle Mode.between p) bs ≡ tokens_from l bs
+idle_at l p m e bs = ap (λ (p : ℕ). tokens_from (idle Mode.between p) bs) (sym e) ∙ sym (idle_same Idle.between l m bs)
 
 -- one token found, and then the rest
 onward : (f : Found) (l : Lexer) (bs : List ℕ) → ending (foldl lex_more (record { lexer = l; found = f ∷ [] }) bs) ≡ f ∷ tokens_from l bs
@@ -170,11 +169,11 @@ module _ (l : Lexer) (between : l.mode ≡ Mode.between) where
   -- a plain name or a word, before a byte that is no name character
   pub plain_before :
       (n : List ℕ) → T (plain_bytes n) → length n ≤ max_name → (b : ℕ) → name_byte b ≡ false
-      → (l' : Lexer) → l'.mode ≡ Mode.between → l'.next ≡ past_all l.next n
+      → (l' : Lexer) → l'.mode ≡ Mode.between → l'.next ≡ l.next + length n
       → (rest : List ℕ) → tokens_from l (n ++ (b ∷ rest)) ≡ token l.next (name_or_word n) ∷ tokens_from l' (b ∷ rest)
   unfolding tokens_from
   plain_before n h z b q l' m k rest =
-      let p = past_all l.next n in
+      let p = l.next + length n in
       let f = token l.next (name_or_word n) in
       ap ending (foldl-append lex_more (quiet l) n (b ∷ rest))
       ∙ ap (λ (x : Lexed). ending (foldl lex_more x rest)) ((plain_after (quiet l) between n h z).at_byte b q)
@@ -184,17 +183,17 @@ module _ (l : Lexer) (between : l.mode ≡ Mode.between) where
   -- a name in quotes, before any bytes
   pub quoted_before :
       (bs : List ℕ) → T (inside_after false bs) → Sized (unquoted bs)
-      → (l' : Lexer) → l'.mode ≡ Mode.between → l'.next ≡ past_all l.next (quote_byte ∷ (bs ++ (quote_byte ∷ [])))
+      → (l' : Lexer) → l'.mode ≡ Mode.between → l'.next ≡ l.next + length bs + 2
       → (rest : List ℕ) → tokens_from l (quote_byte ∷ (bs ++ (quote_byte ∷ rest))) ≡ token l.next (Token.name (unquoted bs)) ∷ tokens_from l' rest
   unfolding tokens_from
   quoted_before bs h z l' m k rest =
-      let e = past_all l.next (quote_byte ∷ bs) in
+      let e = l.next + 1 + length bs in
       let f = token l.next (Token.name (unquoted bs)) in
       ap (λ (ts : List ℕ). ending (foldl lex_more (quiet l) (quote_byte ∷ ts))) (sym (append_assoc bs (quote_byte ∷ []) rest))
       ∙ ap ending (foldl-append lex_more (quiet l) (quote_byte ∷ (bs ++ (quote_byte ∷ []))) rest)
       ∙ ap (λ (x : Lexed). ending (foldl lex_more x rest)) (quoted_lexed (quiet l) between bs h z)
-      ∙ onward f (begun Mode.between e quote_byte) rest
-      ∙ ap (λ (fs : List Found). f ∷ fs) (idle_same Idle.between (begun Mode.between e quote_byte) refl rest ∙ idle_at l' (past e quote_byte) m (k ∙ foldl-append past (past l.next quote_byte) bs (quote_byte ∷ [])) rest)
+      ∙ onward f (begun Mode.between e) rest
+      ∙ ap (λ (fs : List Found). f ∷ fs) (idle_same Idle.between (begun Mode.between e) refl rest ∙ idle_at l' (e + 1) m (omega arith) rest)
 
   -- quotes with no contents, or with too many, are no token
   pub quoted_spoils :
@@ -214,11 +213,11 @@ module _ (l : Lexer) (between : l.mode ≡ Mode.between) where
   -- a name by its spelling, before a byte that is no name character
   pub spelling_before :
       (n : List ℕ) → T (spellable n) → (b : ℕ) → name_byte b ≡ false
-      → (l' : Lexer) → l'.mode ≡ Mode.between → l'.next ≡ past_all l.next (spelling n)
+      → (l' : Lexer) → l'.mode ≡ Mode.between → l'.next ≡ l.next + length (spelling n)
       → (rest : List ℕ) → tokens_from l (spelling n ++ (b ∷ rest)) ≡ token l.next (Token.name n) ∷ tokens_from l' (b ∷ rest)
   unfolding tokens_from
   spelling_before n h b q l' m k rest =
-      let p = past_all l.next (spelling n) in
+      let p = l.next + length (spelling n) in
       let f = token l.next (Token.name n) in
       ap ending (foldl-append lex_more (quiet l) (spelling n) (b ∷ rest))
       ∙ ap (λ (x : Lexed). ending (foldl lex_more x rest)) ((spelling_after (quiet l) between n h).at_byte b q)
@@ -226,7 +225,7 @@ module _ (l : Lexer) (between : l.mode ≡ Mode.between) where
       ∙ ap (λ (fs : List Found). f ∷ fs) (idle_at l' p m k (b ∷ rest))
 
   -- and at the end
-  pub spelling_last : (n : List ℕ) → T (spellable n) → tokens_from l (spelling n) ≡ token l.next (Token.name n) ∷ token (past_all l.next (spelling n)) Token.end ∷ []
+  pub spelling_last : (n : List ℕ) → T (spellable n) → tokens_from l (spelling n) ≡ token l.next (Token.name n) ∷ token (l.next + length (spelling n)) Token.end ∷ []
   unfolding tokens_from lex_end ended
   spelling_last n h = (spelling_after (quiet l) between n h).at_end
 
@@ -234,11 +233,13 @@ module _ (l : Lexer) (between : l.mode ≡ Mode.between) where
 
 -- What is found in a name's spelling.
 abbrev pub alone : List ℕ → List Found
-alone n = token first_place (Token.name n) ∷ token (past_all first_place (spelling n)) Token.end ∷ []
+alone n = token 0 (Token.name n) ∷ token (length (spelling n)) Token.end ∷ []
 
 pub spelling_alone : (n : List ℕ) → T (spellable n) → tokens_of (spelling n) ≡ alone n
 unfolding tokens_of
-spelling_alone n h = spelling_last lexer₀ refl n h
+spelling_alone n h =
+    let here : 0 + length (spelling n) ≡ length (spelling n) = omega arith in
+    spelling_last lexer₀ refl n h ∙ ap (λ (k : ℕ). token 0 (Token.name n) ∷ token k Token.end ∷ []) here
 
 bytes_escaped : (n : List ℕ) → Bytes n → Bytes (escaped n)
 unfolding escaped
@@ -270,7 +271,7 @@ unfolding plain_name tokens_of tokens_from lex_end ended name_or_word
 plain_spellable n h p f =
     let a = and_yes (plain_bytes n) (eqb (word_of n) word_count) p in
     let w : word_of n ≡ word_count = eqb→eq (word_of n) word_count a.1 in
-    let e : tokens_of n ≡ token first_place (name_or_word n) ∷ token (past_all first_place n) Token.end ∷ [] = (plain_after (quiet lexer₀) refl n a.0 f).at_end in
+    let e : tokens_of n ≡ token 0 (name_or_word n) ∷ token (0 + length n) Token.end ∷ [] = (plain_after (quiet lexer₀) refl n a.0 f).at_end in
     let named : name_or_word n ≡ Token.name n = rw w in
-    let found = subst (λ (t : Token). T (all is_spellable (token first_place t ∷ token (past_all first_place n) Token.end ∷ []))) named (subst (λ (fs : List Found). T (all is_spellable fs)) e (names_spellable n h)) in
+    let found = subst (λ (t : Token). T (all is_spellable (token 0 t ∷ token (0 + length n) Token.end ∷ []))) named (subst (λ (fs : List Found). T (all is_spellable fs)) e (names_spellable n h)) in
     (and_yes (spellable n) true found).0

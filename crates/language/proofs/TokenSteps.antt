@@ -3,7 +3,6 @@ use mathlib.Core.Path.{◌≡◌, sym, ap, ◌∙◌}
 use mathlib.Core.List.{List, [], ◌∷◌, ◌++◌, foldl, append_assoc, append-nil}
 use mathlib.Core.Bool.{false}
 use Prim.Native.Nat.{ℕ}
-use Rattle.language.specs.Places.{TextPlace}
 use Rattle.language.specs.Tokens.{Mode, Lexer, Lexed, quiet, ended, lex_step, lex_more, lex_end, tokens_from}
 
 -- what was found before stays in front
@@ -36,7 +35,7 @@ pub data Idle : Mode → Type 0 where
   comment : Idle Mode.comment
 
 -- Before the byte at p.
-abbrev pub idle : Mode → TextPlace → Lexer
+abbrev pub idle : Mode → ℕ → Lexer
 idle m p = record { mode = m; next = p; start = p; bytes = []; negative = false; value = 0 }
 
 -- there it does not matter where what is open began

@@ -1,10 +1,9 @@
--- The answers of the entry points (document 01, "Numbers we answer"): for all inputs the number, place, value, steps, line and column, and
--- every cell of what was lent.
+-- The answers of the entry points (document 01, "Numbers we answer"): for all inputs the number, place, value and steps, and every cell of
+-- what was lent.
 -- Assumes nothing.
 use Rattle.std.specs.Prelude.{Bool, cond, ◌&&◌, List, [], ◌∷◌, ◌++◌, ℕ, ◌+◌, ◌-◌, ◌*◌, eqb, leb, ltb, length, get_or, replicate}
 use Rattle.laws.specs.Lists.{gather}
 use Rattle.language.specs.Programs.{Func, Program, max_text, max_functions, no_function, function_in, is_ssa, has_signature, first_row, row_place}
-use Rattle.language.specs.Places.{TextPlace}
 use Rattle.language.specs.Reading.{Reading, read}
 use Rattle.language.specs.Table.{table_length, function_count, cells, decode}
 use Rattle.language.specs.Checking.{Verdict, check}
@@ -16,44 +15,20 @@ use Rattle.language.specs.MadeNames.{written}
 unfoldable pub zeros : ℕ → List ℕ
 zeros n = replicate n 0
 
--- The numbers of an answer: "Unstated numbers of an answer are 0."
+-- The four numbers of an answer: "Unstated numbers of an answer are 0."
 pub record Answer : Type 0 where
   pub number : ℕ
   pub place : ℕ
   pub value : ℕ
   pub steps : ℕ
-  pub line : ℕ
-  pub column : ℕ
 
--- Of one that is not given by line and column,
 abbrev pub answer_of : (number place value steps : ℕ) → Answer
-answer_of n p v s = record { number = n; place = p; value = v; steps = s; line = 0; column = 0 }
+answer_of n p v s = record { number = n; place = p; value = v; steps = s }
 
--- and of one that is: "line and column, both from 1, instead of a byte place" (document 02, A3).
-abbrev pub answer_at : (number : ℕ) → TextPlace → Answer
-answer_at n p = record { number = n; place = 0; value = 0; steps = 0; line = p.line; column = p.column }
-
--- The numbers of what checking and translating answer: done, or refused with a number and its place.
+-- The numbers of what reading, checking and translating answer: done, or refused with a number and its place.
 unfoldable pub verdict_numbers : Verdict → Answer
 verdict_numbers Verdict.accepted = answer_of 0 0 0 0
 verdict_numbers (Verdict.refused n p) = answer_of n p 0 0
-
--- What is answered of a text: done; refused with a number and a place ("Refusals from 9 on keep their place"); or refused in the text, with
--- a number, line and column.
-pub data TextVerdict : Type 0 where
-  accepted : TextVerdict
-  refused : (number place : ℕ) → TextVerdict
-  refused_at : (number : ℕ) (place : TextPlace) → TextVerdict
-
-unfoldable pub text_numbers : TextVerdict → Answer
-text_numbers TextVerdict.accepted = answer_of 0 0 0 0
-text_numbers (TextVerdict.refused n p) = answer_of n p 0 0
-text_numbers (TextVerdict.refused_at n p) = answer_at n p
-
--- A verdict on what was read of a text, as one on the text.
-abbrev pub on_text : Verdict → TextVerdict
-on_text Verdict.accepted = TextVerdict.accepted
-on_text (Verdict.refused n p) = TextVerdict.refused n p
 
 -- What a run answers: a returned value, a return without one, a stop, or a refusal.
 pub data Ran : Type 0 where
@@ -68,13 +43,9 @@ ran_numbers (Ran.left s) = answer_of 0 0 0 s
 ran_numbers (Ran.stopped n p s) = answer_of n p 0 s
 ran_numbers (Ran.refused n p) = answer_of n p 0 0
 
--- An answer with the lent table as it is afterwards, of a translation and of a text, and one with the lent registers.
+-- An answer with the lent table as it is afterwards, and one with the lent registers.
 pub record Filled : Type 0 where
   pub answer : Verdict
-  pub table : List ℕ
-
-pub record TextFilled : Type 0 where
-  pub answer : TextVerdict
   pub table : List ℕ
 
 pub record Finished : Type 0 where
@@ -106,15 +77,12 @@ fill n p =
     cond (eqb n table_length) (record { answer = Verdict.accepted; table = cells p })
     (refused_table n 22 0)
 
-abbrev pub from_text : Filled → TextFilled
-from_text x = record { answer = on_text x.answer; table = x.table }
-
-abbrev pub filled_from : ℕ → Reading → TextFilled
-filled_from n (Reading.refused k p) = record { answer = TextVerdict.refused_at k p; table = zeros n }
-filled_from n (Reading.program p) = from_text (fill n p)
+abbrev pub filled_from : ℕ → Reading → Filled
+filled_from n (Reading.refused k p) = refused_table n k p
+filled_from n (Reading.program p) = fill n p
 
 -- Reading a text to a lent table of n cells: 1 to 8, and "reading gives 22 last".
-unfoldable pub read_answer : List ℕ → ℕ → TextFilled
+unfoldable pub read_answer : List ℕ → ℕ → Filled
 read_answer text n = filled_from n (read text)
 
 -- ---- check
@@ -165,8 +133,7 @@ if_accepted (Verdict.refused k p) refuses done = refuses k p
 unfoldable pub run_answer : List ℕ → ℕ → List ℕ → ℕ → ℕ → Finished
 run_answer t i args budget n = if_accepted (check_answer t) (refused_run n) (run_function (decode t) i args budget n)
 
--- Many runs at once, each on one argument: the four numbers that a run's answer may state, one after the other, as running on that argument
--- alone answers them.
+-- Many runs at once, each on one argument: the four numbers of each, one after the other, as running on that argument alone answers them.
 unfoldable pub number_cells : Answer → List ℕ
 number_cells a = a.number ∷ a.place ∷ a.value ∷ a.steps ∷ []
 

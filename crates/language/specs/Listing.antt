@@ -1,11 +1,10 @@
 -- The listing: "A program prints a line for each function, tabs between: name, ssa, registers, blocks, instructions; or `refused`,
--- number, place", and of a refusal in the text "`refused`, number, line, column" (document 02, A3). A name is spelled as in a text. Every line is ended by LF. Assumes nothing.
+-- number, place." A name is spelled as in a text. Every line is ended by LF. Assumes nothing.
 use Rattle.std.specs.Prelude.{true, false, List, [], ◌∷◌, ◌++◌, ℕ, zero, suc, ◌+◌, ◌/◌, ◌%◌, ltb, length}
 use Rattle.laws.specs.Lists.{gather}
 use Rattle.language.specs.Bytes.{bytes_of, digit_zero, line_feed}
 use Rattle.language.specs.Programs.{Func, Program, rows_of}
 use Rattle.language.specs.Names.{spelling}
-use Rattle.language.specs.Places.{TextPlace}
 use Rattle.language.specs.Reading.{Reading, read}
 use Rattle.language.specs.Checking.{Verdict, check}
 
@@ -38,16 +37,13 @@ listing_of p = gather function_line p
 unfoldable pub refused_line : (number place : ℕ) → List ℕ
 refused_line n p = line (bytes_of "refused") (n ∷ p ∷ [])
 
-unfoldable pub refused_at_line : (number : ℕ) → TextPlace → List ℕ
-refused_at_line n p = line (bytes_of "refused") (n ∷ p.line ∷ p.column ∷ [])
-
 -- What is printed of a program: its lines, or its refusal by the check.
 abbrev pub judged : Program → Verdict → List ℕ
 judged p Verdict.accepted = listing_of p
 judged p (Verdict.refused n r) = refused_line n r
 
 abbrev pub listed : Reading → List ℕ
-listed (Reading.refused n p) = refused_at_line n p
+listed (Reading.refused n p) = refused_line n p
 listed (Reading.program p) = judged p (check p)
 
 -- What is printed of a text: it is read and checked.

@@ -2,11 +2,9 @@
 -- "Order: 1 first; then the earliest byte, lowest number there." Tokens come in the order of their bytes, so the first answer
 -- given stands; at one token the tests come in the order of their numbers.
 --
--- "Every token and every refusal 2 to 8 carries line and column" (document 02, A3): those of its first byte.
---
 --   No.  Place                                      Given by
---   1    line 1, column 1                           read
---   2    what is no token                           take_token, of a place that has none
+--   1    0                                          read
+--   2    the first byte of what is no token         take_token, of a place that has none
 --   3    the token, the end included                perform_act, of a token that is wrong
 --   4    the number                                 set_number
 --   5    the first token of the item beyond         if_room, in begin_function, begin_register, begin_block,
@@ -24,8 +22,7 @@ use mathlib.Core.List.{List, [], ◌∷◌, ◌++◌, map, foldl}
 use Rattle.laws.specs.Lists.{position, keep, same, gather, sum}
 use Rattle.language.specs.Instructions.{Form, form_of, load_type, width, signed}
 use Rattle.language.specs.Programs.{Row, Register, Block, Func, Program, entries_of, max_text, max_functions, max_registers, max_blocks, max_rows, max_entries}
-use Rattle.language.specs.Places.{TextPlace, first_place, no_place}
-use Rattle.language.specs.Tokens.{Found, Lexer, lexer₀, lex_step, lex_end}
+use Rattle.language.specs.Tokens.{TextPlace, Found, Lexer, lexer₀, lex_step, lex_end}
 use Rattle.language.specs.Grammar.{Stage, Act, next_move}
 
 -- A block's name in a jump, with its place.
@@ -82,7 +79,7 @@ draft_of fs f bs b x = record { functions = fs; function = f; blocks = bs; block
 
 -- What stands where there is none: no mention, no block, no instruction in hand.
 abbrev pub no_mention : Mention
-no_mention = record { name = []; place = no_place }
+no_mention = record { name = []; place = 0 }
 
 abbrev pub no_open_block : OpenBlock
 no_open_block = record { name = []; rows = [] }
@@ -389,6 +386,6 @@ finish (Parse.reading s d) = Reading.program d.functions
 unfoldable pub read_end : Reader → Reading
 read_end r = finish (foldl take_token r.parse (lex_end r.lexer))
 
--- "1 | text too long", and "Refusal 1 gives line 1, column 1" (document 02, A3); else what the bytes give, one after the other.
+-- "1 | text too long | 0", and else what the bytes give, one after the other.
 unfoldable pub read : List ℕ → Reading
-read text = cond (ltb max_text (length text)) (Reading.refused 1 first_place) (read_end (foldl read_byte reader₀ text))
+read text = cond (ltb max_text (length text)) (Reading.refused 1 0) (read_end (foldl read_byte reader₀ text))

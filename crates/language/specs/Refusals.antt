@@ -4,8 +4,7 @@
 use mathlib.Core.List.{List, [], ◌∷◌, ◌++◌, foldl}
 use Rattle.std.specs.Prelude.{◌≡◌, ◌↔◌, ℕ, ◌≤◌, length}
 use Rattle.language.specs.Programs.{max_text, max_functions, max_registers, max_blocks, max_rows, max_entries}
-use Rattle.language.specs.Places.{TextPlace}
-use Rattle.language.specs.Tokens.{Token, Found, tokens_of}
+use Rattle.language.specs.Tokens.{Token, TextPlace, Found, tokens_of}
 use Rattle.language.specs.Grammar.{Stage, Act, next_move}
 use Rattle.language.specs.Reading.{Draft, Parse, Reading, draft_rows, phi_entries, take_token, parse₀, read}
 

@@ -2,7 +2,6 @@
 use Rattle.std.specs.Prelude.{Bool, false, cond, ℕ, ◌+◌, ◌-◌, ◌*◌, eqb, leb, length}
 use mathlib.Core.List.{List, [], ◌∷◌, ◌++◌, foldl}
 use Rattle.language.specs.Bytes.{Class, class_of, name_byte, digit_byte, hex_byte, hex_value, quote_byte, slash_byte, minus, digit_zero, line_feed, backslash, letter_x}
-use Rattle.language.specs.Places.{TextPlace, first_place, past}
 use Rattle.language.specs.Words.{word_of, word_count}
 use Rattle.language.specs.Programs.{max_name}
 
@@ -14,8 +13,12 @@ pub data Token : Type 0 where
   mark : (byte : ℕ) → Token
   end : Token
 
--- What the lexer finds: a token, or a place that has none (answer 2). "Every token .. carries line and column" (document 02, A3): those
--- of its first byte; what would have been a token is placed in the same way.
+-- Where something stands in a text: at a byte, counted from 0.
+abbrev pub TextPlace : Type 0
+TextPlace = ℕ
+
+-- What the lexer finds: a token, or a place that has none (answer 2). "A token's byte is its first", and what would have been
+-- a token is placed in the same way.
 pub data Found : Type 0 where
   token : (place : TextPlace) (token : Token) → Found
   stray : (place : TextPlace) → Found
@@ -29,8 +32,8 @@ pub data Mode : Type 0 where
 -- `negative` and `value` are a number's so far.
 pub record Lexer : Type 0 where
   pub mode : Mode
-  pub next : TextPlace
-  pub start : TextPlace
+  pub next : ℕ
+  pub start : ℕ
   pub bytes : List ℕ
   pub negative : Bool
   pub value : ℕ
@@ -40,27 +43,26 @@ pub record Lexed : Type 0 where
   pub lexer : Lexer
   pub found : List Found
 
--- The byte b at p begins this mode.
-abbrev pub begun : Mode → TextPlace → ℕ → Lexer
-begun m p b = record { mode = m; next = past p b; start = p; bytes = []; negative = false; value = 0 }
+-- The byte at p begins this mode.
+abbrev pub begun : Mode → ℕ → Lexer
+begun m p = record { mode = m; next = p + 1; start = p; bytes = []; negative = false; value = 0 }
 
-abbrev pub begun_name : Mode → TextPlace → ℕ → Lexer
-begun_name m p b = record { mode = m; next = past p b; start = p; bytes = b ∷ []; negative = false; value = 0 }
+abbrev pub begun_name : Mode → ℕ → ℕ → Lexer
+begun_name m p b = record { mode = m; next = p + 1; start = p; bytes = b ∷ []; negative = false; value = 0 }
 
-abbrev pub begun_number : Mode → TextPlace → ℕ → Bool → ℕ → Lexer
-begun_number m p b s v = record { mode = m; next = past p b; start = p; bytes = []; negative = s; value = v }
+abbrev pub begun_number : Mode → ℕ → Bool → ℕ → Lexer
+begun_number m p s v = record { mode = m; next = p + 1; start = p; bytes = []; negative = s; value = v }
 
 -- One byte more of a name, with which its contents have these bytes more.
-abbrev pub longer_name : Mode → Lexer → ℕ → List ℕ → Lexer
-longer_name m l b bs = record { mode = m; next = past l.next b; start = l.start; bytes = l.bytes ++ bs; negative = false; value = 0 }
+abbrev pub longer_name : Mode → Lexer → List ℕ → Lexer
+longer_name m l bs = record { mode = m; next = l.next + 1; start = l.start; bytes = l.bytes ++ bs; negative = false; value = 0 }
 
 -- A backslash more, which waits: the contents are as they were.
 abbrev pub waiting_name : Lexer → Lexer
-waiting_name l = record { mode = Mode.escaping; next = past l.next backslash; start = l.start; bytes = l.bytes; negative = false; value = 0 }
+waiting_name l = record { mode = Mode.escaping; next = l.next + 1; start = l.start; bytes = l.bytes; negative = false; value = 0 }
 
--- One byte more of a number, whose value is now v.
-abbrev pub longer_number : Mode → Lexer → ℕ → ℕ → Lexer
-longer_number m l b v = record { mode = m; next = past l.next b; start = l.start; bytes = []; negative = l.negative; value = v }
+abbrev pub longer_number : Mode → Lexer → ℕ → Lexer
+longer_number m l v = record { mode = m; next = l.next + 1; start = l.start; bytes = []; negative = l.negative; value = v }
 
 abbrev pub quiet : Lexer → Lexed
 quiet l = record { lexer = l; found = [] }
@@ -69,25 +71,25 @@ abbrev pub finds : Found → Lexer → Lexed
 finds f l = record { lexer = l; found = f ∷ [] }
 
 -- A byte makes what is open no token.
-abbrev pub spoils : Lexer → ℕ → Lexed
-spoils l b = finds (stray l.start) (begun Mode.between l.next b)
+abbrev pub spoils : Lexer → Lexed
+spoils l = finds (stray l.start) (begun Mode.between l.next)
 
 -- Zero begins `0x` too.
 abbrev pub digit_mode : ℕ → Mode
 digit_mode b = cond (eqb b digit_zero) Mode.leading_zero Mode.decimal
 
 -- The byte b at p with nothing open, by its class.
-abbrev pub begin_as : Class → TextPlace → ℕ → Lexed
+abbrev pub begin_as : Class → ℕ → ℕ → Lexed
 begin_as Class.letter p b = quiet (begun_name Mode.plain p b)
-begin_as Class.digit p b = quiet (begun_number (digit_mode b) p b false (b - digit_zero))
-begin_as Class.space p b = quiet (begun Mode.between p b)
-begin_as Class.quote p b = quiet (begun Mode.quoted p b)
-begin_as Class.sign p b = quiet (begun_number Mode.sign p b (eqb b minus) 0)
-begin_as Class.slash p b = quiet (begun Mode.slash p b)
-begin_as Class.mark p b = finds (token p (Token.mark b)) (begun Mode.between p b)
-begin_as Class.other p b = finds (stray p) (begun Mode.between p b)
+begin_as Class.digit p b = quiet (begun_number (digit_mode b) p false (b - digit_zero))
+begin_as Class.space p b = quiet (begun Mode.between p)
+begin_as Class.quote p b = quiet (begun Mode.quoted p)
+begin_as Class.sign p b = quiet (begun_number Mode.sign p (eqb b minus) 0)
+begin_as Class.slash p b = quiet (begun Mode.slash p)
+begin_as Class.mark p b = finds (token p (Token.mark b)) (begun Mode.between p)
+begin_as Class.other p b = finds (stray p) (begun Mode.between p)
 
-unfoldable pub begin : TextPlace → ℕ → Lexed
+unfoldable pub begin : ℕ → ℕ → Lexed
 begin p b = begin_as (class_of b) p b
 
 -- "A plain spelling of .. is a word and never a name."
@@ -118,51 +120,51 @@ ends l b =
     let x = begin l.next b in
     record { lexer = x.lexer; found = ended l ++ x.found }
 
--- The byte b, with which the contents have bs more. "The 64 bytes are counted on the contents."
-unfoldable pub extends : Mode → Lexer → ℕ → List ℕ → Lexed
-extends m l b bs = cond (leb (length l.bytes + length bs) max_name) (quiet (longer_name m l b bs)) (spoils l b)
+-- "The 64 bytes are counted on the contents."
+unfoldable pub extends : Mode → Lexer → List ℕ → Lexed
+extends m l bs = cond (leb (length l.bytes + length bs) max_name) (quiet (longer_name m l bs)) (spoils l)
 
 -- The quote that closes: "quote, one or more bytes, quote", of which the contents have "no outer quotes".
 unfoldable pub closes : Lexer → Lexed
 closes l =
-    cond (eqb (length l.bytes) 0) (spoils l quote_byte)
-    (finds (token l.start (Token.name l.bytes)) (begun Mode.between l.next quote_byte))
+    cond (eqb (length l.bytes) 0) (spoils l)
+    (finds (token l.start (Token.name l.bytes)) (begun Mode.between l.next))
 
 -- A byte inside quotes. A backslash waits outside the contents for the byte after it.
 unfoldable pub quotes : Lexer → ℕ → Lexed
 quotes l b =
     cond (eqb b quote_byte) (closes l)
-    (cond (eqb b backslash) (quiet (waiting_name l)) (extends Mode.quoted l b (b ∷ [])))
+    (cond (eqb b backslash) (quiet (waiting_name l)) (extends Mode.quoted l (b ∷ [])))
 
 -- The byte after a backslash: "a backslash directly before a quote makes that quote part of the name" and "is dropped"; before any other
 -- byte it stays, and if that is a backslash, it waits in its turn.
 unfoldable pub escapes : Lexer → ℕ → Lexed
 escapes l b =
-    cond (eqb b quote_byte) (extends Mode.quoted l b (b ∷ []))
-    (cond (eqb b backslash) (extends Mode.escaping l b (b ∷ [])) (extends Mode.quoted l b (backslash ∷ b ∷ [])))
+    cond (eqb b quote_byte) (extends Mode.quoted l (b ∷ []))
+    (cond (eqb b backslash) (extends Mode.escaping l (b ∷ [])) (extends Mode.quoted l (backslash ∷ b ∷ [])))
 
 -- A byte after a number. "A name character directly after makes it no token."
 unfoldable pub ends_number : Lexer → ℕ → Lexed
-ends_number l b = cond (name_byte b) (spoils l b) (ends l b)
+ends_number l b = cond (name_byte b) (spoils l) (ends l b)
 
 unfoldable pub decimal_digit : Mode → Lexer → ℕ → Lexed
-decimal_digit m l b = quiet (longer_number m l b (10 * l.value + (b - digit_zero)))
+decimal_digit m l b = quiet (longer_number m l (10 * l.value + (b - digit_zero)))
 
 unfoldable pub hexadecimal_digit : Lexer → ℕ → Lexed
-hexadecimal_digit l b = quiet (longer_number Mode.hexadecimal l b (16 * l.value + hex_value b))
+hexadecimal_digit l b = quiet (longer_number Mode.hexadecimal l (16 * l.value + hex_value b))
 
 -- "optional sign directly before decimal digits, or before `0x` and hexadecimal digits"; "`//` starts a comment up to LF or the
 -- end".
 abbrev pub step_as : Mode → Lexer → ℕ → Lexed
 step_as Mode.between l b = begin l.next b
-step_as Mode.plain l b = cond (name_byte b) (extends Mode.plain l b (b ∷ [])) (ends l b)
+step_as Mode.plain l b = cond (name_byte b) (extends Mode.plain l (b ∷ [])) (ends l b)
 step_as Mode.quoted l b = quotes l b
 step_as Mode.escaping l b = escapes l b
-step_as Mode.slash l b = cond (eqb b slash_byte) (quiet (begun Mode.comment l.next b)) (ends l b)
-step_as Mode.comment l b = quiet (begun (cond (eqb b line_feed) Mode.between Mode.comment) l.next b)
+step_as Mode.slash l b = cond (eqb b slash_byte) (quiet (begun Mode.comment l.next)) (ends l b)
+step_as Mode.comment l b = quiet (begun (cond (eqb b line_feed) Mode.between Mode.comment) l.next)
 step_as Mode.sign l b = cond (digit_byte b) (decimal_digit (digit_mode b) l b) (ends l b)
 step_as Mode.leading_zero l b =
-    cond (eqb b letter_x) (quiet (longer_number Mode.prefix l b 0))
+    cond (eqb b letter_x) (quiet (longer_number Mode.prefix l 0))
     (cond (digit_byte b) (decimal_digit Mode.decimal l b) (ends_number l b))
 step_as Mode.decimal l b = cond (digit_byte b) (decimal_digit Mode.decimal l b) (ends_number l b)
 step_as Mode.prefix l b = cond (hex_byte b) (hexadecimal_digit l b) (ends l b)
@@ -172,13 +174,13 @@ step_as Mode.hexadecimal l b = cond (hex_byte b) (hexadecimal_digit l b) (ends_n
 unfoldable pub lex_step : Lexer → ℕ → Lexed
 lex_step l b = step_as l.mode l b
 
--- The end of the text, placed behind its last byte: "A token's byte is its first, the end's the text's length."
+-- The end of the text: "A token's byte is its first, the end's the text's length."
 unfoldable pub lex_end : Lexer → List Found
 lex_end l = ended l ++ (token l.next Token.end ∷ [])
 
 -- Before the first byte.
 abbrev pub lexer₀ : Lexer
-lexer₀ = record { mode = Mode.between; next = first_place; start = first_place; bytes = []; negative = false; value = 0 }
+lexer₀ = record { mode = Mode.between; next = 0; start = 0; bytes = []; negative = false; value = 0 }
 
 -- One byte more of a text whose bytes so far gave x.
 unfoldable pub lex_more : Lexed → ℕ → Lexed

@@ -1,6 +1,5 @@
-// Where something stands in a text: line and column, both from 1. A text has at most 65,536 bytes, so 32 bits hold each.
+// Where something stands in a text: a byte, counted from 0. Whoever passes a place on takes it as it is.
 #[derive(Drop)]
 pub struct TextPlace {
-    pub line: u32,
-    pub column: u32,
+    pub byte: usize,
 }

@@ -57,4 +57,3 @@ pub mod RoundTripTranslation
 pub mod TurnWritten
 pub mod Candidates
 pub mod Names
-pub mod Places

@@ -73,8 +73,8 @@ pub lists_in_read : ListsInRead
 unfolding read_answer
 lists_in_read text n h = by (read text) refl
   where
-    by : (r : Reading) → read text ≡ r → ListsRight (filled_from n r).table
-    by (Reading.refused k p) e = zeros_right n
+    by : (r : Reading) → read text ≡ r → Right (filled_from n r)
+    by (Reading.refused k p) e = refused_right n k p
     by (Reading.program p) e = filled_right n p (read_fits text h p e)
 
 translated_right : (p : Program) (i n : ℕ) → check p ≡ Verdict.accepted → Right (translate_function p i n)

@@ -18,8 +18,7 @@ use Rattle.laws.proofs.Positions.{position_le}
 use Rattle.laws.proofs.Sections.{bytes_append, byte_at}
 use Rattle.language.specs.Instructions.{Form, form_of, width, signed, load_type}
 use Rattle.language.specs.Programs.{Row, Register, Func, Program, no_register, no_block, no_function, rows_of, entry_count, entries_of, max_text, max_functions, max_registers, max_blocks, max_rows, max_entries}
-use Rattle.language.specs.Places.{TextPlace}
-use Rattle.language.specs.Tokens.{Token, Found, token, stray, tokens_of}
+use Rattle.language.specs.Tokens.{TextPlace, Token, Found, token, stray, tokens_of}
 use Rattle.language.specs.Grammar.{Stage, Act, next_move}
 use Rattle.language.specs.Reading.{Mention, OpenRow, OpenBlock, Head, Parts, Draft, ActOutcome, Parse, Reading, rows_in, entries_in, open_rows, draft_rows, phi_entries, function_number, register_number, block_number, number_in_range, bits_of, row_as, row_of, resolve_row, resolve_block, resolve, undeclared, if_resolved, fresh, with_function, with_parts, begin_function, mark_ssa, set_result, name_function, begin_register, name_register, begin_block, name_block, end_block, begin_instruction, set_target, set_instruction, add_source, add_entry, add_mention, set_number, end_instruction, end_function, perform_act, after_act, take_token, parse₀, finish, read}
 use Rattle.language.specs.Rooms.{Begun, Room, Roomy}

@@ -16,7 +16,7 @@ use Rattle.language.specs.Checking.{Verdict, check}
 use Rattle.language.specs.Table.{table_length, decode}
 use Rattle.language.specs.Running.{Place, Outcome, Run, run_of, first_unfit}
 use Rattle.language.specs.MadeNames.{named_function, named, written}
-use Rattle.language.specs.Answers.{TextVerdict, TextFilled, Ran, Finished, Wrote, Shown, from_text, zeros, wrote_numbers, fill, filled_from, read_answer, check_answer, place_of, ran_as, left_in, refused_run, run_function, run_answer, if_accepted, refused_text, show, write_answer}
+use Rattle.language.specs.Answers.{Ran, Finished, Wrote, Shown, zeros, wrote_numbers, fill, filled_from, read_answer, check_answer, place_of, ran_as, left_in, refused_run, run_function, run_answer, if_accepted, refused_text, show, write_answer}
 use Rattle.theorems.specs.TableLaw.{Held}
 use Rattle.theorems.specs.RoundTrip.{AlikeButNames, Writes, WrittenExactly, NotWritten, NotWrittenExactly, LongIs33, FullIs32, WrittenIs0, RefusedZeroes, filled_table, RoundTripLaw}
 use Rattle.theorems.proofs.NoRefusal.{refused_numbers}
@@ -222,13 +222,13 @@ module _ (t : List ℕ) (n k : ℕ) (w : Writes t n k) where
       ∙ ap (λ (m : ℕ). drop m (written (decode t) ++ zeros (n - k))) w.count
       ∙ drop-append_seam (written (decode t)) (zeros (n - k))
 
-  reads : (m : ℕ) → read_answer (take k (write_answer t n).buffer) m ≡ from_text (fill m (named (decode t)))
+  reads : (m : ℕ) → read_answer (take k (write_answer t n).buffer) m ≡ fill m (named (decode t))
   unfolding read_answer
   reads m =
       ap (λ (s : List ℕ). filled_from m (read s)) text
       ∙ ap (filled_from m) (reads_back (decode t) accepted (omega (arith, w.count, w.within)))
 
-  gives : read_answer (take k (write_answer t n).buffer) table_length ≡ record { answer = TextVerdict.accepted; table = filled_table t }
+  gives : read_answer (take k (write_answer t n).buffer) table_length ≡ record { answer = Verdict.accepted; table = filled_table t }
   unfolding fill
   gives = reads table_length
 

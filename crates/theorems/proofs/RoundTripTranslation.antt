@@ -13,7 +13,7 @@ use Rattle.language.specs.Checking.{Verdict}
 use Rattle.language.specs.Table.{table_length, decode}
 use Rattle.language.specs.Running.{Outcome, Ends, NotEnded, arguments_fit}
 use Rattle.language.specs.MadeNames.{named_function, named}
-use Rattle.language.specs.Answers.{TextVerdict, TextFilled, Wrote, run_answer, translate_answer, write_answer}
+use Rattle.language.specs.Answers.{Filled, Wrote, run_answer, translate_answer, write_answer}
 use Rattle.theorems.specs.Demand3.{RunsAlike}
 use Rattle.theorems.specs.OverTables.{function_in_table, TranslatableIn, Translated, RunsAgree}
 use Rattle.theorems.specs.RoundTrip.{AlikeButNames, RoundTrip, filled_table, TranslatedAsText, Demand3AsText}
@@ -117,6 +117,6 @@ module _ (t : List ℕ) (i n k : ℕ) (h : TranslatableIn t i) (written : (write
 pub demand3_as_text : Demand3AsText
 demand3_as_text t i n k h e =
     let given = sym (back t i n k h e).gives in (
-      subst (λ (x : TextFilled). x.answer ≡ TextVerdict.accepted) given refl,
-      subst (λ (x : TextFilled). TranslatedAsText t i (translate_answer t i table_length).table x.table) given (as_text t i n k h e),
+      subst (λ (x : Filled). x.answer ≡ Verdict.accepted) given refl,
+      subst (λ (x : Filled). TranslatedAsText t i (translate_answer t i table_length).table x.table) given (as_text t i n k h e),
     )

@@ -10,7 +10,7 @@ use lib.ListN.{length, get_or, length-map, get_or-map}
 use Rattle.laws.specs.Lists.{gather, keep, same}
 use Rattle.language.specs.Instructions.{Form, form_of, load_type}
 use Rattle.language.specs.Programs.{max_functions, max_registers, max_blocks, max_rows, max_entries}
-use Rattle.language.specs.Places.{TextPlace}
+use Rattle.language.specs.Tokens.{TextPlace}
 use Rattle.language.specs.Grammar.{Act}
 use Rattle.language.specs.Reading.{Mention, OpenRow, OpenBlock, Head, Parts, Draft, ActOutcome, refuse, proceed, parts_of, draft_of, no_mention, rows_in, entries_in, mentions_in, open_rows, draft_rows, phi_entries, function_number, register_number, block_number, number_in_range, row_as, row_of, resolve_row, resolve_block, resolve, undeclared, if_resolved, begin_function, mark_ssa, set_result, name_function, begin_register, name_register, begin_block, name_block, end_block, begin_instruction, set_target, set_instruction, add_source, add_entry, add_mention, set_number, end_instruction, end_function, perform_act}
 use Rattle.language.proofs.Rooms.{entry_total}

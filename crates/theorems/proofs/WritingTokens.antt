@@ -18,7 +18,6 @@ use Rattle.language.specs.Words.{words, word_of, word_count, spelling_of}
 use Rattle.language.specs.Names.{plain_bytes, spellable, spelling}
 use Rattle.language.specs.Programs.{max_name}
 use Rattle.language.specs.Listing.{digits}
-use Rattle.language.specs.Places.{TextPlace, past_all}
 use Rattle.language.specs.Tokens.{Token, Found, token, Mode, Lexer, Lexed, lexer₀, quiet, finds, begun, longer_number, begun_number, digit_mode, begin, begin_as, name_or_word, ended, ended_as, ends, ends_number, decimal_digit, step_as, lex_step, lex_end, lex_more, tokens_from, tokens_of}
 use Rattle.language.proofs.Digits.{digits_by, digit_class}
 use Rattle.language.proofs.NamesLexed.{GoesOnAs, after, plain_after}
@@ -64,26 +63,26 @@ module _ (c : ℕ) (space : class_of c ≡ Class.space) where
   no_name_byte : name_byte c ≡ false
   no_name_byte = rw space
 
-  begin_space : (p : TextPlace) → begin p c ≡ quiet (begun Mode.between p c)
+  begin_space : (p : ℕ) → begin p c ≡ quiet (begun Mode.between p)
   unfolding begin
   begin_space p = ap (λ (k : Class). begin_as k p c) space
 
   space_on : {us : List Token} (x : Lexed) → Between us x → Between us (lex_more x c)
   space_on {us} x k =
-      let e : lex_more x c ≡ also x (quiet (begun Mode.between x.lexer.next c)) =
+      let e : lex_more x c ≡ also x (quiet (begun Mode.between x.lexer.next)) =
       more_is x c Mode.between k.mode ∙ ap (also x) (begin_space x.lexer.next) in
       record { mode = ap (λ (y : Lexed). y.lexer.mode) e; found = subst⁻¹ (λ (y : Lexed). FindsTokens us y.found) e (still x.found k.found) }
 
   -- what is open ends
-  ends_is : (l : Lexer) (m : Mode) → l.mode ≡ m → ends l c ≡ record { lexer = begun Mode.between l.next c; found = ended_as m l ++ [] }
+  ends_is : (l : Lexer) (m : Mode) → l.mode ≡ m → ends l c ≡ record { lexer = begun Mode.between l.next; found = ended_as m l ++ [] }
   unfolding ends ended
   ends_is l m e = λ i. record { lexer = (begin_space l.next i).lexer; found = ended_as (e i) l ++ (begin_space l.next i).found }
 
   ended_on :
-      {us : List Token} (t : Token) (x : Lexed) (p : TextPlace)
+      {us : List Token} (t : Token) (x : Lexed) (p : ℕ)
       → FindsTokens us x.found
       → (y : Lexed)
-      → y ≡ also x (record { lexer = begun Mode.between x.lexer.next c; found = token p t ∷ [] ++ [] })
+      → y ≡ also x (record { lexer = begun Mode.between x.lexer.next; found = token p t ∷ [] ++ [] })
       → Between (us ++ (t ∷ [])) y
   ended_on {us} t x p h y e =
       record { mode = ap (λ (z : Lexed). z.lexer.mode) e; found = subst⁻¹ (λ (z : Lexed). FindsTokens (us ++ (t ∷ [])) z.found) e (finds_append h (more p none)) }
@@ -106,22 +105,22 @@ module _ (c : ℕ) (space : class_of c ≡ Class.space) where
       shown = λ i. token l.start (Token.number (k.negative i) (k.value i))
 
       last : ends_number l c ≡ ends l c
-      last = ap (λ (t : Bool). cond t (finds (Found.stray l.start) (begun Mode.between l.next c)) (ends l c)) no_name_byte
+      last = ap (λ (t : Bool). cond t (finds (Found.stray l.start) (begun Mode.between l.next)) (ends l c)) no_name_byte
 
       by : (l.mode ≡ Mode.leading_zero) ⊎ (l.mode ≡ Mode.decimal) → Between (us ++ (Token.number s v ∷ [])) (lex_more x c)
       by (inl e) =
           ended_on (Token.number s v) x l.start k.found (lex_more x c)
           (more_is x c Mode.leading_zero e
-          ∙ ap (λ (t : Bool). also x (cond t (quiet (longer_number Mode.prefix l c 0)) (cond (digit_byte c) (decimal_digit Mode.decimal l c) (ends_number l c)))) x_no
+          ∙ ap (λ (t : Bool). also x (cond t (quiet (longer_number Mode.prefix l 0)) (cond (digit_byte c) (decimal_digit Mode.decimal l c) (ends_number l c)))) x_no
           ∙ ap (λ (t : Bool). also x (cond t (decimal_digit Mode.decimal l c) (ends_number l c))) digit_no
           ∙ ap (also x) (last ∙ ends_is l Mode.leading_zero e)
-          ∙ ap (λ (f : Found). also x (record { lexer = begun Mode.between l.next c; found = f ∷ [] ++ [] })) shown)
+          ∙ ap (λ (f : Found). also x (record { lexer = begun Mode.between l.next; found = f ∷ [] ++ [] })) shown)
       by (inr e) =
           ended_on (Token.number s v) x l.start k.found (lex_more x c)
           (more_is x c Mode.decimal e
           ∙ ap (λ (t : Bool). also x (cond t (decimal_digit Mode.decimal l c) (ends_number l c))) digit_no
           ∙ ap (also x) (last ∙ ends_is l Mode.decimal e)
-          ∙ ap (λ (f : Found). also x (record { lexer = begun Mode.between l.next c; found = f ∷ [] ++ [] })) shown)
+          ∙ ap (λ (f : Found). also x (record { lexer = begun Mode.between l.next; found = f ∷ [] ++ [] })) shown)
 
 -- ---- any token, with a space after it
 
@@ -148,7 +147,7 @@ words_tested = tt
 module _ (c : ℕ) (space : class_of c ≡ Class.space) (us : List Token) (x : Lexed) (k : Between us x) where
   -- bytes after which the lexer goes on as if it had found t
   found_then :
-      (bs : List ℕ) (e : TextPlace) (t : Token) → GoesOnAs (after x.found x.lexer.next e t) (foldl lex_more x bs)
+      (bs : List ℕ) (e : ℕ) (t : Token) → GoesOnAs (after x.found x.lexer.next e t) (foldl lex_more x bs)
       → Between (us ++ (t ∷ [])) (lex_more (foldl lex_more x bs) c)
   found_then bs e t g =
       let y = after x.found x.lexer.next e t in
@@ -165,14 +164,14 @@ module _ (c : ℕ) (space : class_of c ≡ Class.space) (us : List Token) (x : L
       let e : word_of n ≡ w = eqb→eq (word_of n) w p.1 in
       let known : name_or_word n ≡ Token.word w = rw (e, ne_eqb w word_count (λ d. absurd (omega arith))) in
       subst (λ (t : Token). Between (us ++ (t ∷ [])) (lex_more (foldl lex_more x n) c)) known
-      (found_then n (past_all x.lexer.next n) (name_or_word n) (plain_after x k.mode n q.0 (leb→le (length n) max_name q.1)))
+      (found_then n (x.lexer.next + length n) (name_or_word n) (plain_after x k.mode n q.0 (leb→le (length n) max_name q.1)))
 
   name_then : (n : List ℕ) → T (spellable n) → Between (us ++ (Token.name n ∷ [])) (lex_more (foldl lex_more x (spelling n)) c)
-  name_then n h = found_then (spelling n) (past_all x.lexer.next (spelling n)) (Token.name n) (spelling_after x k.mode n h)
+  name_then n h = found_then (spelling n) (x.lexer.next + length (spelling n)) (Token.name n) (spelling_after x k.mode n h)
 
   mark_then : (b : ℕ) → class_of b ≡ Class.mark → Between (us ++ (Token.mark b ∷ [])) (lex_more (lex_more x b) c)
   mark_then b h =
-      let e : lex_more x b ≡ also x (finds (token x.lexer.next (Token.mark b)) (begun Mode.between x.lexer.next b)) =
+      let e : lex_more x b ≡ also x (finds (token x.lexer.next (Token.mark b)) (begun Mode.between x.lexer.next)) =
       begin_is x b k.mode Class.mark h in
       space_on c space (lex_more x b)
       (record {
@@ -195,13 +194,13 @@ module _ (s : Bool) (us : List Token) where
     found : FindsTokens us x.found
 
   counts :
-      (x y : Lexed) (m : Mode) (b v : ℕ)
+      (x y : Lexed) (m : Mode) (v : ℕ)
       → FindsTokens us x.found
       → x.lexer.negative ≡ s
       → (m ≡ Mode.leading_zero) ⊎ (m ≡ Mode.decimal)
-      → y ≡ also x (quiet (longer_number m x.lexer b v))
+      → y ≡ also x (quiet (longer_number m x.lexer v))
       → Counting s v us y
-  counts x y m b v f g h e =
+  counts x y m v f g h e =
       record {
         mode = ⊎_elim (λ d. inl (ap (λ (y : Lexed). y.lexer.mode) e ∙ d)) (λ d. inr (ap (λ (y : Lexed). y.lexer.mode) e ∙ d)) h;
         negative = ap (λ (y : Lexed). y.lexer.negative) e ∙ g;
@@ -228,15 +227,15 @@ module _ (s : Bool) (us : List Token) where
 
       by : (l.mode ≡ Mode.leading_zero) ⊎ (l.mode ≡ Mode.decimal) → Counting s (10 * v + d) us (lex_more x b)
       by (inl e) =
-          counts x (lex_more x b) Mode.decimal b (10 * v + d) k.found k.negative (inr refl)
+          counts x (lex_more x b) Mode.decimal (10 * v + d) k.found k.negative (inr refl)
           (more_is x b Mode.leading_zero e
-          ∙ ap (λ (t : Bool). also x (cond t (quiet (longer_number Mode.prefix l b 0)) (cond (digit_byte b) (decimal_digit Mode.decimal l b) (ends_number l b)))) (ne_eqb b letter_x (λ e. absurd (omega arith)))
+          ∙ ap (λ (t : Bool). also x (cond t (quiet (longer_number Mode.prefix l 0)) (cond (digit_byte b) (decimal_digit Mode.decimal l b) (ends_number l b)))) (ne_eqb b letter_x (λ e. absurd (omega arith)))
           ∙ ap (λ (t : Bool). also x (cond t (decimal_digit Mode.decimal l b) (ends_number l b))) is_digit
-          ∙ ap (λ (v : ℕ). also x (quiet (longer_number Mode.decimal l b v))) worth)
+          ∙ ap (λ (v : ℕ). also x (quiet (longer_number Mode.decimal l v))) worth)
       by (inr e) =
-          counts x (lex_more x b) Mode.decimal b (10 * v + d) k.found k.negative (inr refl)
+          counts x (lex_more x b) Mode.decimal (10 * v + d) k.found k.negative (inr refl)
           (more_is x b Mode.decimal e ∙ ap (λ (t : Bool). also x (cond t (decimal_digit Mode.decimal l b) (ends_number l b))) is_digit
-          ∙ ap (λ (v : ℕ). also x (quiet (longer_number Mode.decimal l b v))) worth)
+          ∙ ap (λ (v : ℕ). also x (quiet (longer_number Mode.decimal l v))) worth)
 
   -- the first digit, after a sign
   first_signed : (d : ℕ) → d < 10 → (x : Lexed) → Signed x → Counting s d us (lex_more x (digit_zero + d))
@@ -246,9 +245,9 @@ module _ (s : Bool) (us : List Token) where
       let l = x.lexer in
       let is_digit : digit_byte b ≡ true = rw (digit_class d h) in
       let worth : 10 * l.value + (b - digit_zero) ≡ d = omega (arith, k.value) in
-      counts x (lex_more x b) (digit_mode b) b d k.found k.negative (digit_modes (eqb b digit_zero))
+      counts x (lex_more x b) (digit_mode b) d k.found k.negative (digit_modes (eqb b digit_zero))
       (more_is x b Mode.sign k.mode ∙ ap (λ (t : Bool). also x (cond t (decimal_digit (digit_mode b) l b) (ends l b))) is_digit
-      ∙ ap (λ (v : ℕ). also x (quiet (longer_number (digit_mode b) l b v))) worth)
+      ∙ ap (λ (v : ℕ). also x (quiet (longer_number (digit_mode b) l v))) worth)
 
   -- all digits, the first one being taken
   digits_on : (x : Lexed) → ((d : ℕ) → d < 10 → Counting s d us (lex_more x (digit_zero + d))) → (n : ℕ) → Counting s n us (foldl lex_more x (digits n))
@@ -265,8 +264,8 @@ first_digit us d h x k =
     let b = digit_zero + d in
     let p = x.lexer.next in
     let worth : b - digit_zero ≡ d = omega arith in
-    let e : lex_more x b ≡ also x (quiet (begun_number (digit_mode b) p b false d)) =
-    begin_is x b k.mode Class.digit (digit_class d h) ∙ ap (λ (v : ℕ). also x (quiet (begun_number (digit_mode b) p b false v))) worth in
+    let e : lex_more x b ≡ also x (quiet (begun_number (digit_mode b) p false d)) =
+    begin_is x b k.mode Class.digit (digit_class d h) ∙ ap (λ (v : ℕ). also x (quiet (begun_number (digit_mode b) p false v))) worth in
     record {
       mode = ⊎_elim (λ d. inl (ap (λ (y : Lexed). y.lexer.mode) e ∙ d)) (λ d. inr (ap (λ (y : Lexed). y.lexer.mode) e ∙ d)) (digit_modes (eqb b digit_zero));
       negative = ap (λ (y : Lexed). y.lexer.negative) e;
@@ -280,7 +279,7 @@ minus_class = refl
 
 minus_on : (us : List Token) (x : Lexed) → Between us x → Signed true us (lex_more x minus)
 minus_on us x k =
-    let e : lex_more x minus ≡ also x (quiet (begun_number Mode.sign x.lexer.next minus true 0)) = begin_is x minus k.mode Class.sign minus_class in
+    let e : lex_more x minus ≡ also x (quiet (begun_number Mode.sign x.lexer.next true 0)) = begin_is x minus k.mode Class.sign minus_class in
     record {
       mode = ap (λ (y : Lexed). y.lexer.mode) e;
       negative = ap (λ (y : Lexed). y.lexer.negative) e;

@@ -11,4 +11,3 @@ pub mod Predecessors
 pub mod RoundTrip
 pub mod Candidates
 pub mod Names
-pub mod Places

@@ -6,7 +6,6 @@ use mathlib.Core.List.{List, [], ◌∷◌, ◌++◌, map, foldl}
 use Rattle.laws.specs.Lists.{any, all}
 use Rattle.language.specs.Bytes.{digit_zero}
 use Rattle.language.specs.Programs.{Func, Program, function_in, is_phi, rows_of, max_text}
-use Rattle.language.specs.Places.{TextPlace}
 use Rattle.language.specs.Tokens.{Token, Found, token, tokens_of}
 use Rattle.language.specs.Reading.{Reading, read}
 use Rattle.language.specs.Checking.{Verdict, check}
@@ -16,7 +15,7 @@ use Rattle.language.specs.Translating.{translation}
 use Rattle.language.specs.Listing.{digits}
 use Rattle.language.specs.Writing.{tokens}
 use Rattle.language.specs.MadeNames.{register_prefix, block_prefix, made_name, named_function, named, written}
-use Rattle.language.specs.Answers.{TextVerdict, Wrote, Shown, zeros, fill, from_text, wrote_numbers, check_answer, read_answer, run_answer, translate_answer, write_answer}
+use Rattle.language.specs.Answers.{Wrote, Shown, zeros, fill, wrote_numbers, check_answer, read_answer, run_answer, translate_answer, write_answer}
 use Rattle.theorems.specs.TableNeeds.{Needed}
 use Rattle.theorems.specs.Demand3.{RunsAlike}
 use Rattle.theorems.specs.OverTables.{function_in_table, TranslatableIn, RunsAgree}
@@ -45,7 +44,7 @@ ShortestNumbers = (n : ℕ) → Shortest n (digits n)
 -- These tokens are found, wherever they stand, and nothing else.
 pub data FindsTokens : List Token → List Found → Type 0 where
   none : FindsTokens [] []
-  more : {t : Token} {ts : List Token} {fs : List Found} (place : TextPlace) → FindsTokens ts fs → FindsTokens (t ∷ ts) (token place t ∷ fs)
+  more : {t : Token} {ts : List Token} {fs : List Found} (place : ℕ) → FindsTokens ts fs → FindsTokens (t ∷ ts) (token place t ∷ fs)
 
 -- The lexer finds the tokens of its lines, and the end.
 abbrev pub TokensFound : Type 0
@@ -210,8 +209,8 @@ pub record RoundTrip (t : List ℕ) (n k : ℕ) : Type 0 where
   pub text : text_in (write_answer t n) k ≡ written (decode t)
   pub rest : drop k (write_answer t n).buffer ≡ zeros (n - k)
   -- "Read back, the text gives the same table", for an output of any length: reading refuses none but with 22.
-  pub reads : (m : ℕ) → read_answer (text_in (write_answer t n) k) m ≡ from_text (fill m (named (decode t)))
-  pub gives : read_answer (text_in (write_answer t n) k) table_length ≡ record { answer = TextVerdict.accepted; table = filled_table t }
+  pub reads : (m : ℕ) → read_answer (text_in (write_answer t n) k) m ≡ fill m (named (decode t))
+  pub gives : read_answer (text_in (write_answer t n) k) table_length ≡ record { answer = Verdict.accepted; table = filled_table t }
   -- That table holds the program with the made names filled in, and "cells not needed 0".
   pub holds : decode (filled_table t) ≡ named (decode t)
   pub unneeded : (c : ℕ) → (get_or (filled_table t) c 0 ≡ 0) ⊎ Needed (filled_table t) c
@@ -251,4 +250,4 @@ Demand3AsText =
     → TranslatableIn t i
     → (let u = (translate_answer t i table_length).table in
     (write_answer u n).answer ≡ Wrote.wrote k
-    → (let back = read_answer (text_in (write_answer u n) k) table_length in (back.answer ≡ TextVerdict.accepted) × TranslatedAsText t i u back.table))
+    → (let back = read_answer (text_in (write_answer u n) k) table_length in (back.answer ≡ Verdict.accepted) × TranslatedAsText t i u back.table))
