@@ -1,4 +1,6 @@
 // The line of a run's answer.
+#![tactic(auto)]
+
 ghost use Rattle.std.specs.Prelude.{[], ◌∷◌, ◌≡◌, ◌+◌, ◌^◌, ◌%◌, ◌≤◌, length};
 ghost use Rattle.language.specs.Bytes.{bytes_of};
 ghost use Rattle.language.specs.Instructions.{width as width_of};

@@ -1,4 +1,6 @@
 // What a call answers: the cases, the four numbers they have at the C boundary, and places. Every crate that answers stands above this one.
+#![tactic(auto)]
+
 mod figures;
 mod places;
 

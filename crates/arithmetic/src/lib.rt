@@ -1,5 +1,7 @@
 // What the instructions compute, on numbers below 2^w, w the width of their type. A type comes as its room, how many of the 64 bits stand
 // above its own, and as whether its sign matters.
+#![tactic(auto)]
+
 mod shifts;
 mod signs;
 mod wrapping;

@@ -1,4 +1,6 @@
 // The words of a call: which function a word means, which budget, and which arguments, by meaning.
+#![tactic(auto)]
+
 mod arguments;
 mod words;
 

@@ -1,5 +1,7 @@
 // What the tool prints: the listing of a text, its functions or a translation as text, and a call in words (a function, a budget and arguments)
 // with the line of its answer.
+#![tactic(auto)]
+
 mod accepting;
 mod listings;
 mod runs;

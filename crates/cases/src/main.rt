@@ -1,5 +1,7 @@
 // Runs the library by scripts, and prints what it answers: on the outside vectors, and on texts and tables made by documents 01 and 02. `expected.py` makes the
 // scripts, and what must be printed, with no code of the library.
+#![tactic(auto)]
+
 mod calls;
 mod files;
 mod records;

@@ -1,4 +1,6 @@
 // The check of a lent table, 9 to 17: functions in order, lowest number first, then earliest row.
+#![tactic(auto)]
+
 ghost use Rattle.std.specs.Prelude.{◌≡◌, [], ◌∷◌, ◌<◌, T, length};
 ghost use Rattle.language.specs.Programs.{is_ssa, max_functions};
 ghost use Rattle.language.specs.Table.{function_at, row_count, decode_function, table_length};

@@ -1,4 +1,6 @@
 // Numbers as decimal words: read and written by meaning, and as a type's numbers below 2^w.
+#![tactic(auto)]
+
 mod digits;
 mod ranges;
 mod words;

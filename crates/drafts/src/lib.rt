@@ -1,5 +1,7 @@
 // What is read so far: the function in hand in numbers, its cells and names in what is lent. One method for each act of the grammar; none
 // knows the text, and a name comes as bytes that may stand anywhere.
+#![tactic(auto)]
+
 mod acts;
 mod ending;
 mod rows;

@@ -1,5 +1,7 @@
 // What is prepared of a function once, so that nothing scans it again: where its registers are first assigned, and its leading phi. The
 // numbers are lent as `&[u16]` of one length; `Layout` says which stands where, and each kind has its accessor.
+#![tactic(auto)]
+
 mod accessors;
 mod assignments;
 mod cells;

@@ -1,5 +1,7 @@
 // The grammar of a text as a machine over tokens, by value and with no table: a move names the stage that comes next and what
 // is to be done about the token, and a token that may not stand there is `Wrong`.
+#![tactic(auto)]
+
 mod kinds;
 
 ghost use Rattle.std.specs.Prelude.{◌≡◌};

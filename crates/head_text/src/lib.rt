@@ -1,4 +1,6 @@
 // Heads of functions and declarations of registers as text. `made` holds the numbers of the registers' made names.
+#![tactic(auto)]
+
 ghost use Rattle.std.specs.Prelude.{map, ◌≡◌, ◌-◌, ◌<◌, ◌≤◌, length, take};
 ghost use Rattle.laws.specs.Lists.{gather, from};
 ghost use Rattle.language.specs.MadeNames.{named_function};

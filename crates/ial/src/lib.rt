@@ -1,4 +1,6 @@
 // The library: its entry points take any input and refuse what is wrong; none asks anything of its caller.
+#![tactic(auto)]
+
 mod c;
 mod many;
 mod running;

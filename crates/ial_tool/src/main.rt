@@ -1,4 +1,6 @@
 // The tool: takes words, opens, calls and writes. Wrong words and files that cannot be read get one line on standard error.
+#![tactic(auto)]
+
 ghost use Rattle.std.specs.Prelude.{◌≡◌, ◌≤◌, length};
 ghost use Rattle.language.specs.Programs.{max_registers};
 

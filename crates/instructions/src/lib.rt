@@ -1,4 +1,6 @@
 // Instructions and types by their numbers: what every crate that reads, checks, runs or translates asks of them.
+#![tactic(auto)]
+
 pub mod forms;
 pub mod operands;
 pub mod ops;

@@ -1,5 +1,7 @@
 // Bytes to lexemes, one at a time, with the state by value. A plain name that ends in the text lent is a part of it; the contents of any other
 // name are gathered in 64 bytes that are lent beside it. A plain name may be a word, which whoever takes it looks up.
+#![tactic(auto)]
+
 mod actions;
 mod contents;
 mod modes;

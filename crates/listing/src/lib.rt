@@ -1,5 +1,7 @@
 // The lines that a program prints: "a line for each function, tabs between: name, ssa, registers, blocks, instructions; or
 // `refused`, number, place." They go into a lent buffer; whoever prints them writes the bytes up to the place that is answered.
+#![tactic(auto)]
+
 ghost use Rattle.std.specs.Prelude.{◌∷◌, ◌≡◌, ◌+◌, ◌<◌, ◌≤◌, length};
 ghost use Rattle.language.specs.Checking.{Verdict, check};
 ghost use Rattle.language.specs.Listing.{tab, digits, function_line, listing_of, refused_line};

@@ -1,4 +1,6 @@
 // The bytes of a file, for programs that hold a file whole.
+#![tactic(auto)]
+
 ghost use Rattle.std.specs.Prelude.{◌≡◌, ◌+◌, ◌≤◌, length, take};
 
 // One read into the room from byte n on: how many bytes there are then, or one more than there is room for where it fails.

@@ -1,4 +1,6 @@
 // The step and the run of a function of a checked table.
+#![tactic(auto)]
+
 mod phis;
 mod places;
 mod runs;

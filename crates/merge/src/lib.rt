@@ -1,5 +1,7 @@
 // The merge: a store holds of each appliance the record that wins, in whatever order records and stores come (document 02, A8). Its entry points take any
 // input; none asks anything of its caller. Of the library below they see the entry points' promises alone.
+#![tactic(auto)]
+
 mod judging;
 mod looking;
 mod many;

@@ -1,4 +1,6 @@
 // The lines of the merge: a test as four numbers, a record as it is shown, and what was merged or refused.
+#![tactic(auto)]
+
 mod shown;
 mod told;
 

@@ -1,5 +1,7 @@
 // The merge of test records, as a program: takes words, opens, calls and writes. Wrong words, files that cannot be read or replaced and bad lines
 // get a line on standard error.
+#![tactic(auto)]
+
 ghost use Rattle.std.specs.Prelude.{◌≡◌, ◌*◌, ◌≤◌, length};
 ghost use Rattle.merge_lines.specs.Lines.{record_most};
 ghost use Rattle.records.specs.Stores.{capacity};

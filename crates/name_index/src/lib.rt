@@ -1,4 +1,6 @@
 // Names of a table found by hash chains: one looked up, one added, all of them put into chains.
+#![tactic(auto)]
+
 mod chains;
 mod hashes;
 

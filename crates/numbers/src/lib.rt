@@ -1,5 +1,7 @@
 // Numbers of one, two, four and eight bytes, low byte first, in lent bytes, and bytes put, moved and zeroed. Nothing of IAL is in them but the
 // definitions that they share with `language`'s Table.
+#![tactic(auto)]
+
 mod moves;
 mod reads;
 mod stores;

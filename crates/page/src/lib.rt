@@ -1,4 +1,6 @@
 // Bytes put down in a lent buffer at a place, one part after the other. No function asks for room: a byte that has none is dropped and counted.
+#![tactic(auto)]
+
 ghost use Rattle.std.specs.Prelude.{◌≡◌};
 ghost use Rattle.page.specs.Page.{page, next, put, puts, closed};
 

@@ -1,5 +1,7 @@
 // A record of a test, and the layout of a store. What a record means, which of two wins and what a store holds is defined in specs/; this crate has no
 // functions.
+#![tactic(auto)]
+
 mod layout;
 
 pub use layout::{

@@ -1,4 +1,6 @@
 // The rules of a row, 9 to 16, over what is prepared of its function once (`flow`).
+#![tactic(auto)]
+
 mod faults;
 mod ranges;
 

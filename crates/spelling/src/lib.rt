@@ -1,4 +1,6 @@
 // Names as a table holds them: whether some text spells one, and whether none of them stands twice.
+#![tactic(auto)]
+
 mod names;
 mod twice;
 

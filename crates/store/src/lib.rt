@@ -1,5 +1,7 @@
 // A store in lent bytes: its records read, put, looked for and inserted. What a store holds is defined in `records`; docs/STORE.md states the
 // layout.
+#![tactic(auto)]
+
 mod cells;
 mod inserting;
 mod search;

@@ -1,4 +1,6 @@
 // Whether bytes are a store's: what a program asks of a file before it believes it.
+#![tactic(auto)]
+
 ghost use Rattle.std.specs.Prelude.{◌+◌};
 ghost use Rattle.records.specs.Records.{SizedRecord};
 ghost use Rattle.stored.specs.Known.{Tells, RecordFollows, AllFollow, IsStore};

@@ -1,5 +1,7 @@
 // Cells of a lent table. Each function equals a definition of `language`'s Table, or says in its words which cells it writes;
 // docs/TABLE.md has the layout. A table is never copied: it is lent as `&[u8]` or `&mut [u8]`, and `a` is the cell where a function begins.
+#![tactic(auto)]
+
 mod accessors;
 mod cells;
 mod layout;

@@ -1,4 +1,6 @@
 // A whole table as text: function by function, each with its head, its registers, its blocks and its closing brace.
+#![tactic(auto)]
+
 ghost use Rattle.std.specs.Prelude.{◌≡◌, length};
 ghost use Rattle.laws.specs.Lists.{gather};
 ghost use Rattle.language.specs.Checking.{Verdict, check};

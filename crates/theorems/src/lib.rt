@@ -1,1 +1,2 @@
 // Theorems about the definitions alone. It has no code: the statements are in specs/, the proofs in proofs/.
+#![tactic(auto)]

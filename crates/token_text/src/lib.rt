@@ -1,4 +1,6 @@
 // Tokens as text: each put down on a page with the space behind it.
+#![tactic(auto)]
+
 mod digits;
 mod names;
 mod spellings;

@@ -1,4 +1,6 @@
 // What the bytes of a text are: the class of each, plain names, and the words, from their letters to their numbers and back.
+#![tactic(auto)]
+
 mod candidates;
 mod class_table;
 pub mod kinds;

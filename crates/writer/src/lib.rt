@@ -1,5 +1,7 @@
 // "a thin writer that keeps the buffer and its place together": it is made of a lent buffer, takes the text of a table and gives up its place. What it
 // puts down is `table_text`'s and `page`'s, on slice and place.
+#![tactic(auto)]
+
 ghost use Rattle.std.specs.Prelude.{◌≡◌};
 ghost use Rattle.language.specs.Table.{decode};
 ghost use Rattle.language.specs.MadeNames.{written};
