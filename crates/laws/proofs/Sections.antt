@@ -44,8 +44,8 @@ module _ {A : Type 0} {t : List A} where
       → At t k (gather f xs) → At t (k + sum (map (λ x. length (f x)) (take i xs))) (f (get_or xs i d))
   at_gather f d [] i b h = absurd (not-suc-le-zero b)
   at_gather f d (x ∷ xs) zero b h = at_move (omega arith) (at_left (f x) (gather f xs) h)
-  at_gather f d (x ∷ xs) (suc i) b h =
-      at_move (omega arith) (at_gather f d xs i (le_of_suc-le-suc b) (at_right (f x) (gather f xs) h))
+  at_gather {k = k} f d (x ∷ xs) (suc i) b h =
+      at_move (omega arith) (at_gather {k = k + length (f x)} f d xs i (le_of_suc-le-suc b) (at_right (f x) (gather f xs) h))
 
   -- lists of one length w: element i's is w * i cells on
   pub at_stride : {B : Type 0} {k : ℕ} (size : B → ℕ) (f : ℕ → B → List A) (w : ℕ) (d : B) (n : ℕ) (xs : List B)
@@ -53,12 +53,12 @@ module _ {A : Type 0} {t : List A} where
       → At t k (gather_from size f n xs) → At t (k + w * i) (f (n + sum (map size (take i xs))) (get_or xs i d))
   at_stride size f w d n [] l i b h = absurd (not-suc-le-zero b)
   at_stride size f w d n (x ∷ xs) l zero b h = rw (add-zero n) (at_move (omega arith) (at_left (f n x) (gather_from size f (n + size x) xs) h))
-  at_stride size f w d n (x ∷ xs) l (suc i) b h =
+  at_stride {k = k} size f w d n (x ∷ xs) l (suc i) b h =
       let one : length (f n x) ≡ w = l n zero (zero-lt-suc (length xs)) in
       let next : (m j : ℕ) → j < length xs → length (f m (get_or xs j d)) ≡ w = λ m j c. l m (suc j) (suc-le-suc c) in
       rw (← add_assoc n (size x))
       (at_move (omega arith)
-      (at_stride size f w d (n + size x) xs next i (le_of_suc-le-suc b) (at_right (f n x) (gather_from size f (n + size x) xs) h)))
+      (at_stride {k = k + length (f n x)} size f w d (n + size x) xs next i (le_of_suc-le-suc b) (at_right (f n x) (gather_from size f (n + size x) xs) h)))
 
 -- two lists of one length that agree on n cells from k on have that part in common
 pub part_same : {A : Type 0} (d : A) (t u : List A) → length t ≡ length u → (n k : ℕ) → ((j : ℕ) → j < n → get_or t (k + j) d ≡ get_or u (k + j) d)

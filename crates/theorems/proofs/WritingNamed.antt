@@ -324,9 +324,9 @@ module _ (f : Func) (s : Sound f) where
   entry_unnamed : (block_at g f.entry).name ≡ []
   entry_unnamed =
       let e = f.entry in
-      sym (ListN.get_d_map (λ b. b.name) g.blocks e no_block)
+      sym (ListN.get_or-map (λ b. b.name) g.blocks e no_block)
       ∙ (blocks_named f).stays e (rw length-map s.entry) (λ u. u.1 refl)
-      ∙ ListN.get_d_map (λ b. b.name) f.blocks e no_block
+      ∙ ListN.get_or-map (λ b. b.name) f.blocks e no_block
       ∙ no_bytes_none (block_at f e).name s.unnamed
 
   types_known : T (all (λ r. ltb r.type type_count) g.registers)
