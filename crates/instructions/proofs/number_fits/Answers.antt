@@ -11,8 +11,7 @@ use borrow.Author.Rules.{rules}
 use borrow.Author.Tests.{lt-ltb, le-ltb, eq-eqb, ne_eqb}
 use Rattle.language.specs.Instructions.{width}
 use Rattle.language.proofs.Widths.{powers}
-use Rattle.instructions.proofs.number_fits.Statement.{statement}
-use Rattle.instructions.proofs.number_fits.Tie as tie
+use Rattle.instructions.proofs.number_fits.Goals as goal
 
 module _ (kind v w : ℕ) (e : w ≡ width kind) where
   all_fit : w ≡ 64 → v < 2 ^ 64 → true ≡ ltb v (2 ^ width kind)
@@ -34,12 +33,11 @@ module _ (kind v w : ℕ) (e : w ≡ width kind) where
                 ne_eqb (v / d) 0 (λ e. omega arith) ∙ sym (le-ltb v d (omega arith)))
           ]
 
-pub number_fits_spec : {M : Type 1} → statement M
-number_fits_spec =
-    tie.close
-    (tie.spec
-    (λ c. search rules)
-    (λ c. all_fit c.before.before.args.t _ _ c.before.width.ensures c.if1.true (search rules))
-    (λ c. search rules)
-    (λ c. narrower c.before.before.args.t c.before.before.args.n _ c.before.width.ensures c.if1.false)
-    (λ c. left_over c.before.before.args.t c.before.before.args.n _ c.before.width.ensures))
+pub returns-then-w-eq64 : goal.returns-then-w-eq64
+returns-then-w-eq64 c = all_fit c.args.t _ _ c.width-w.ensures c.if-w-eq64.true (search rules)
+
+pub overflow_shr-result : goal.overflow_shr-result
+overflow_shr-result c = narrower c.args.t c.args.n _ c.width-w.ensures c.if-w-eq64.false
+
+pub returns : goal.returns
+returns c = left_over c.args.t c.args.n _ c.width-w.ensures
