@@ -2,9 +2,8 @@
 use mathlib.Core.Path.{refl}
 use Rattle.language.specs.Bytes.{class_of}
 use Rattle.vocabulary.specs.Classes.{class_table}
-use Rattle.vocabulary.proofs.class_table.classes.Statement.{statement}
-use Rattle.vocabulary.proofs.class_table.classes.Tie as tie
+use Rattle.vocabulary.proofs.class_table.classes.Goals as goal
 
-pub classes_spec : {M : Type 1} → statement M
+pub returns : goal.returns
 unfolding class_table class_of
-classes_spec = tie.close (tie.spec (λ c. refl))
+returns c = refl

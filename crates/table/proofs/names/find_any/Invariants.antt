@@ -1,0 +1,12 @@
+-- The loop's invariant: no name passed is the one looked for.
+use Prim.Native.Nat.{ℕ, ◌-◌, ◌≤◌, ◌<◌}
+use mathlib.Core.Path.{◌≡◌}
+use mathlib.Core.Bool.{false}
+use Rattle.table.specs.Named.{is_named}
+use Rattle.table.proofs.names.find_any.Given as goal
+
+abbrev pub invariant-loop-i : goal.invariant-loop-i
+invariant-loop-i l = (l.i ≤ l.count) × ((j : ℕ) → j < l.i → is_named l.t l.at l.stride l.name j ≡ false)
+
+abbrev pub decreases-loop-i : goal.decreases-loop-i
+decreases-loop-i l = l.count - l.i
