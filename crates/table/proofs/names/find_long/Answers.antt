@@ -10,16 +10,16 @@ use Rattle.table.proofs.NamesLaws.{room, step_on, named_at}
 use Rattle.table.proofs.names.find_long.Goals as goal
 
 pub overflow_sub-name : goal.overflow_sub-name
-overflow_sub-name c = omega (arith, c.requires.1)
+overflow_sub-name c = omega (arith, c.requires.in_bounds)
 
 pub eight_at-tail-requires : goal.eight_at-tail-requires
-eight_at-tail-requires c = omega (arith, c.requires.1)
+eight_at-tail-requires c = omega (arith, c.requires.in_bounds)
 
 pub loop-i-init : goal.loop-i-init
 loop-i-init c = (omega arith, below_none _, omega (arith, mul-zero c.args.stride))
 
 pub is_long-requires : goal.is_long-requires
-is_long-requires c = ((omega (arith, room c.args.stride c.loop-i-test.true, c.loop-i.invariant.2), c.requires.1.0, c.requires.1.1), c.eight_at-tail.ensures)
+is_long-requires c = record { name_within = (omega (arith, room c.args.stride c.loop-i-test.true, c.loop-i.invariant.2), c.requires.in_bounds.0, c.requires.in_bounds.1); tail_value = c.eight_at-tail.ensures }
 
 pub returns-then-is_long : goal.returns-then-is_long
 unfolding first_named
@@ -35,7 +35,7 @@ pub overflow_add-i : goal.overflow_add-i
 overflow_add-i c = omega arith
 
 pub overflow_add-k : goal.overflow_add-k
-overflow_add-k c = omega (arith, room c.args.stride c.loop-i-test.true, c.loop-i.invariant.2, c.requires.0, c.requires.1.2)
+overflow_add-k c = omega (arith, room c.args.stride c.loop-i-test.true, c.loop-i.invariant.2, c.requires.names_within, c.requires.in_bounds.2)
 
 pub loop-i-smaller : goal.loop-i-smaller
 loop-i-smaller c = omega arith

@@ -21,7 +21,7 @@ pub returns-then-stride-gt65535 : goal.returns-then-stride-gt65535
 returns-then-stride-gt65535 c = c.find_any-then-stride-gt65535.ensures
 
 pub find_long-requires : goal.find_long-requires
-find_long-requires c = (c.requires, (omega (arith, c.if-n-lt8.false), omega (arith, c.if-n-gt255.false), omega (arith, c.if-stride-gt65535.false)))
+find_long-requires c = record { names_within = c.requires; in_bounds = (omega (arith, c.if-n-lt8.false), omega (arith, c.if-n-gt255.false), omega (arith, c.if-stride-gt65535.false)) }
 
 pub returns : goal.returns
 returns c = c.find_long.ensures
