@@ -9,7 +9,7 @@ use crate::{Ran, Verdict, Wrote};
 
 // "Unstated numbers of an answer are 0."
 #[repr(C)]
-#[derive(Drop)]
+#[derive(Clone, Copy)]
 pub struct Answer {
     pub number: u64,
     pub place: u64,

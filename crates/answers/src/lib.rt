@@ -8,14 +8,14 @@ pub use figures::{Answer, put_numbers, run_numbers, verdict_numbers, write_numbe
 pub use places::row_place;
 
 // What is answered where a table is filled or judged: done, or refused with a number of document 01 and its place.
-#[derive(Drop)]
+#[derive(Clone, Copy)]
 pub enum Verdict {
     Accepted,
     Refused(u8, usize),
 }
 
 // What a run answers: a returned value, a return without one, a stop with its number and place, each with the steps taken, or a refusal.
-#[derive(Drop)]
+#[derive(Clone, Copy)]
 pub enum Ran {
     Returned(u64, u64),
     Left(u64),
@@ -24,7 +24,7 @@ pub enum Ran {
 }
 
 // What writing answers: the text's length, or a refusal with its number and place.
-#[derive(Drop)]
+#[derive(Clone, Copy)]
 pub enum Wrote {
     Wrote(usize),
     Refused(u8, usize),

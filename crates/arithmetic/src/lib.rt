@@ -18,7 +18,7 @@ use signs::{conv, div, less, rem};
 use wrapping::{add, flip, mul, neg, sub};
 
 // A value, or a stop with its number: 40, 41 or 42.
-#[derive(Drop)]
+#[derive(Clone, Copy)]
 pub enum Computed {
     Value(u64),
     Stop(u8),

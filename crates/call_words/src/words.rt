@@ -12,7 +12,7 @@ use table::{FUNCTION_LENGTH, FUNCTION_NAMES_OFFSET, find_name, function_count};
 const MOST: u64 = 18446744073709551615;
 
 // The steps that a run may take, or a word that says no budget.
-#[derive(Drop)]
+#[derive(Clone, Copy)]
 pub enum Budget {
     Steps(u64),
     Wrong,

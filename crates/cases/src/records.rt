@@ -6,7 +6,7 @@ ghost use Rattle.std.specs.Prelude.{◌<◌, ◌≤◌, length};
 // translates; 4 lists a text, 5 checks, 6 runs the source, 7 runs the translation, 8 writes the source as text, 9 writes the translation. With it a
 // label to print before, the cells lent of the source table, the function, the budget, the cells lent as output, what goes in (a text, arguments,
 // cells) and what must come out (cells, registers, a text).
-#[derive(Drop)]
+#[derive(Clone, Copy)]
 pub struct Record {
     pub kind: u64,
     pub label_at: usize,

@@ -23,7 +23,7 @@ pub fn prepare_ssa(t: &[u8], a: usize, m: &mut [u16])
 }
 
 // The lowest number noted so far and its earliest row; 17 while none of 10 to 16 is.
-#[derive(Drop)]
+#[derive(Clone, Copy)]
 pub struct Lowest {
     pub number: u8,
     pub row: usize,

@@ -7,14 +7,14 @@ ghost use Rattle.decimal.specs.Meanings.{bits_in, meant_by};
 use instructions::{bits_of, largest, number_in_range, signed};
 
 // What a register of a type would hold of a number, if it lies in the type's range.
-#[derive(Drop)]
+#[derive(Clone, Copy)]
 pub enum Bits {
     Fits(u64),
     Outside,
 }
 
 // A number by its sign and its magnitude.
-#[derive(Drop)]
+#[derive(Clone, Copy)]
 pub struct Meant {
     pub negative: bool,
     pub magnitude: u64,

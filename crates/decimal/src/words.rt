@@ -3,7 +3,7 @@ ghost use Rattle.std.specs.Prelude.{◌≡◌, ℕ, ◌+◌, ◌-◌, ◌*◌, �
 ghost use Rattle.decimal.specs.Numbers.{is_digit, amount_kept, unsigned, number_of, decimal_from};
 
 // What a word says: nothing, a number below 2^64 with its sign, or one beyond.
-#[derive(Drop)]
+#[derive(Clone, Copy)]
 pub enum Decimal {
     Malformed,
     Value(bool, u64),
@@ -11,7 +11,7 @@ pub enum Decimal {
 }
 
 // A magnitude of any size: no type's range reaches 2^64.
-#[derive(Drop)]
+#[derive(Clone, Copy)]
 pub enum Amount {
     Exact(u64),
     Large,

@@ -19,7 +19,7 @@ pub const NAMES_LENGTH: usize = MAX_FUNCTIONS * NAME_LENGTH + 256;
 pub const PENDING_LENGTH: usize = MAX_NAMES * MENTION_LENGTH + 256;
 
 // Of the function in hand what stands before its blocks: its mark, its return type, how many parameters and registers.
-#[derive(Drop)]
+#[derive(Clone, Copy)]
 pub struct Head {
     pub ssa: u64,
     pub result: u64,
@@ -28,7 +28,7 @@ pub struct Head {
 }
 
 // Its blocks: how many are closed; the rows of all, and the first of the block in hand; the phi entries; the names of blocks mentioned.
-#[derive(Drop)]
+#[derive(Clone, Copy)]
 pub struct Blocks {
     pub closed: usize,
     pub rows: usize,
@@ -39,7 +39,7 @@ pub struct Blocks {
 
 // The instruction in hand: its number, target, up to two sources and how many there are, a load's number, how many phi entries, the
 // numbers of up to two names of blocks that it mentions, and how many there are.
-#[derive(Drop)]
+#[derive(Clone, Copy)]
 pub struct Parts {
     pub op: u64,
     pub target: usize,
@@ -54,7 +54,7 @@ pub struct Parts {
 }
 
 // The functions closed, and the function in hand.
-#[derive(Drop)]
+#[derive(Clone, Copy)]
 pub struct Draft {
     pub functions: usize,
     pub head: Head,
@@ -63,7 +63,7 @@ pub struct Draft {
 }
 
 // What an act comes to: an answer with its place, the draft after it, or the draft between functions, one more being closed.
-#[derive(Drop)]
+#[derive(Clone, Copy)]
 pub enum Outcome {
     Refuse(u8, TextPlace),
     Proceed(Draft),

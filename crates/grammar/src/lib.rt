@@ -14,7 +14,7 @@ use instructions::{shape_of, types, words};
 use kinds::*;
 
 // What comes next: a kind, how many sources or blocks come after the next one, and a type or an operand's number.
-#[derive(Drop)]
+#[derive(Clone, Copy)]
 pub struct Stage {
     pub kind: u64,
     pub more: u64,
@@ -23,7 +23,7 @@ pub struct Stage {
 
 // A token without the bytes of a name, which come beside it. A number: whether it is negative, its value, and whether it is
 // 2^64 or more, so that the value is not all of it.
-#[derive(Drop)]
+#[derive(Clone, Copy)]
 pub enum Token {
     Name,
     Word(u8),
@@ -34,7 +34,7 @@ pub enum Token {
 
 // What is to be done about a token. What is named gets the bytes beside the token; where a block is named, no bytes stand for the
 // word `entry`. Of a register: whether it is a parameter, and its type. A number is given as in the token.
-#[derive(Drop)]
+#[derive(Clone, Copy)]
 pub enum Act {
     Wrong,
     Pass,
@@ -58,7 +58,7 @@ pub enum Act {
     EndFunction,
 }
 
-#[derive(Drop)]
+#[derive(Clone, Copy)]
 pub struct Move {
     pub stage: Stage,
     pub act: Act,

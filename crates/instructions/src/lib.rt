@@ -16,7 +16,7 @@ pub use ranges::{bits_of, largest, number_in_range};
 
 // What an instruction looks like: its form's number, whether it has a target, how many source registers, and the kind of its
 // operand in parentheses.
-#[derive(Drop)]
+#[derive(Clone, Copy)]
 pub struct Shape {
     pub form: u8,
     pub target: bool,

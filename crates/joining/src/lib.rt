@@ -15,7 +15,7 @@ use records::{CAPACITY, Record, STORE_LENGTH};
 use store::{appliance_at, beats, count, put_count, put_record, record_at};
 
 // How many records of the one store and of the other are taken, and how many are written.
-#[derive(Drop)]
+#[derive(Clone, Copy)]
 pub struct Joint {
     pub i: usize,
     pub j: usize,

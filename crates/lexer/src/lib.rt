@@ -23,7 +23,7 @@ use vocabulary::kinds;
 // value; `over` says that the value is 2^64 or more, and then `value` is 0. Of a name, `value` is how many bytes of its contents are
 // gathered: a lexer is copied at every token, and a field more is felt. The fields stand so that no odd number of bytes lies between or
 // behind them: such a gap is copied apart.
-#[derive(Drop)]
+#[derive(Clone, Copy)]
 pub struct Lexer {
     pub next: usize,
     pub start: usize,
@@ -35,7 +35,7 @@ pub struct Lexer {
 
 // What stands at a place: a plain spelling, a name or a word, and a quoted name, each by the place of its contents' first byte in the text lent,
 // or GATHERED, and the count of their bytes; a number by its sign, its value and whether that is 2^64 or more; a mark by its byte; the end.
-#[derive(Drop)]
+#[derive(Clone, Copy)]
 pub enum Lexeme {
     Plain(usize, usize),
     Quoted(usize, usize),
@@ -45,7 +45,7 @@ pub enum Lexeme {
 }
 
 // What some bytes ended: a lexeme with its place, or a place that has no token.
-#[derive(Drop)]
+#[derive(Clone, Copy)]
 pub enum Found {
     Nothing,
     Lexeme(TextPlace, Lexeme),
@@ -53,7 +53,7 @@ pub enum Found {
 }
 
 // The lexer after some bytes, and what they ended.
-#[derive(Drop)]
+#[derive(Clone, Copy)]
 pub struct Lexed {
     pub lexer: Lexer,
     pub found: Found,

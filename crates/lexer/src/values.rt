@@ -4,7 +4,7 @@ ghost use Rattle.language.specs.Bytes.{hex_value};
 ghost use Rattle.lexer.specs.Numbers.{grown_at};
 
 // A number of any size: `over` says that it is 2^64 or more, and then `value` is 0.
-#[derive(Drop)]
+#[derive(Clone, Copy)]
 pub struct Amount {
     pub value: u64,
     pub over: bool,

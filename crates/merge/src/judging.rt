@@ -10,7 +10,7 @@ use ial::{Ran, has_signature, ial_check, run, types};
 pub(crate) const REGISTERS: usize = 256;
 
 // A verdict, 1 for a fail and 0 for a pass, or a refusal of the limit function.
-#[derive(Drop)]
+#[derive(Clone, Copy)]
 pub enum Ruling {
     Fail(u64),
     Refused(u64, u64),

@@ -2,7 +2,7 @@
 
 // What a merge answers: 0 0 where it is done, or a refusal's number and its place.
 #[repr(C)]
-#[derive(Drop)]
+#[derive(Clone, Copy)]
 pub struct Merged {
     pub number: u64,
     pub place: u64,
@@ -10,7 +10,7 @@ pub struct Merged {
 
 // What a look-up answers: 22 for a store of another length; else whether there is a record (1 or 0), and its numbers. All others are 0.
 #[repr(C)]
-#[derive(Drop)]
+#[derive(Clone, Copy)]
 pub struct Look {
     pub number: u64,
     pub found: u64,

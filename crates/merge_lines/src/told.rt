@@ -6,7 +6,7 @@ ghost use Rattle.merge_lines.specs.Lines.{number_in, line_words, with_reading, w
 use decimal::{Bits, Decimal, TAB, read_decimal, to_bits, types};
 
 // The numbers of a line (appliance, time, tablet, reading), or that it does not say four.
-#[derive(Drop)]
+#[derive(Clone, Copy)]
 pub enum Line {
     Numbers(u64, u64, u64, u64),
     Bad,

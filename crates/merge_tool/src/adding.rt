@@ -25,7 +25,7 @@ const UNREAD: u8 = 2;
 
 // Where a file's reading stands: how many lines were taken, and how many of them were records; how many bytes of the next one are kept (one
 // more than fit, where it is too long); how many numbers wait for their merge; the refusal of a merge, or 0.
-#[derive(Drop)]
+#[derive(Clone, Copy)]
 pub(crate) struct Progress {
     pub(crate) state: u8,
     pub(crate) lines: u64,
@@ -36,7 +36,7 @@ pub(crate) struct Progress {
 }
 
 // What every record is judged by.
-#[derive(Drop)]
+#[derive(Clone, Copy)]
 pub(crate) struct Limit {
     pub(crate) function: u64,
     pub(crate) budget: u64,

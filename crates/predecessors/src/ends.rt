@@ -11,7 +11,7 @@ use table::{block_first, block_rows, jump_first, jump_second, row_op};
 const NOWHERE: usize = 255;
 
 // The blocks that a block's last row names, each once.
-#[derive(Drop)]
+#[derive(Clone, Copy)]
 pub struct Targets {
     pub first: usize,
     pub second: usize,

@@ -17,14 +17,14 @@ use text_place::TextPlace;
 use vocabulary::classes;
 
 // Where reading stands between two bytes.
-#[derive(Drop)]
+#[derive(Clone, Copy)]
 pub struct Progress {
     pub lexer: Lexer,
     pub reader: Reader,
 }
 
 // What bytes come to: an answer with its place, one function more closed, all bytes read, or the end of the text.
-#[derive(Drop)]
+#[derive(Clone, Copy)]
 pub enum Step {
     Refused(u8, TextPlace),
     Closed(Progress),

@@ -10,14 +10,14 @@ use numbers::if_so;
 use text_place::TextPlace;
 
 // The stage of the grammar, and what is read so far.
-#[derive(Drop)]
+#[derive(Clone, Copy)]
 pub struct Reader {
     pub stage: Stage,
     pub draft: Draft,
 }
 
 // What a token comes to: an answer with its place, the state after it, the state between functions with one more closed, or the end.
-#[derive(Drop)]
+#[derive(Clone, Copy)]
 pub enum Taken {
     Refused(u8, TextPlace),
     Reading(Reader),

@@ -13,7 +13,7 @@ use table::{FUNCTION_LENGTH, MAX_FUNCTIONS, MAX_NAME, function_at};
 use text_place::TextPlace;
 
 // What a text comes to: an answer with its place, or a program.
-#[derive(Drop)]
+#[derive(Clone, Copy)]
 pub enum Told {
     Refused(u8, TextPlace),
     Accepted,

@@ -9,7 +9,7 @@ use lexer::{Lexeme, contents_of};
 use vocabulary::word;
 
 // A token, and where the contents of its name are: from where on, and how many bytes; none for another token.
-#[derive(Drop)]
+#[derive(Clone, Copy)]
 pub struct Spelled {
     pub token: Token,
     pub from: usize,

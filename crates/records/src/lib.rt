@@ -11,7 +11,7 @@ pub use layout::{
 
 // "A record has appliance number, test time and tablet number (each below 2^64), reading and verdict": `fail` is 1 for a fail and 0 for a pass,
 // the reading is two's complement.
-#[derive(Drop)]
+#[derive(Clone, Copy)]
 pub struct Record {
     pub appliance: u64,
     pub time: u64,

@@ -14,7 +14,7 @@ use flow::phis;
 use table::{MAX_BLOCKS, MAX_REGISTERS, MAX_ROWS, block_count, block_rows, register_count};
 
 // The registers, blocks and rows of a translation.
-#[derive(Drop)]
+#[derive(Clone, Copy)]
 pub struct Sizes {
     pub registers: usize,
     pub blocks: usize,

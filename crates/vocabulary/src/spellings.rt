@@ -15,7 +15,7 @@ pub const SHORTEST: usize = 3;
 pub const LONGEST: usize = 9;
 
 // A word: how many bytes it has, the first of them, and the others as one number, low byte first.
-#[derive(Drop)]
+#[derive(Clone, Copy)]
 pub struct Spelling {
     pub count: usize,
     pub first: u8,
