@@ -3,14 +3,12 @@ use mathlib.Core.Path.{◌≡◌, ◌∙◌}
 use mathlib.Core.List.{List}
 use Prim.Native.Nat.{ℕ, ◌+◌, ◌*◌, ◌≤◌, ◌<◌}
 use native.Mathlib.Omega.{arith}
-use borrow.Author.Rules.{rules}
 use borrow.Author.Tests.{le-leb, lt-leb}
 use lib.ListN.{set, length-set}
 use Rattle.language.specs.Programs.{max_blocks}
 use Rattle.language.specs.Table.{predecessor_count, predecessors_offset, block_length}
 use Rattle.predecessors.specs.Listing.{next_listed}
-use Rattle.predecessors.proofs.lists.list.Statement.{statement}
-use Rattle.predecessors.proofs.lists.list.Tie as tie
+use Rattle.predecessors.proofs.lists.list.Goals as goal
 
 none : (t : List ℕ) (a n y x : ℕ) → n ≤ y → t ≡ next_listed t a n y x
 unfolding next_listed
@@ -25,23 +23,14 @@ more : (t : List ℕ) (a n y x c : ℕ) (u : List ℕ) → y < n → c ≡ prede
 unfolding next_listed
 more t a n y x c u h e l q = q ∙ rw (lt-leb n y h, e, lt-leb max_blocks (predecessor_count t a y) (omega arith))
 
-pub list_spec : {M : Type 1} → statement M
-list_spec =
-    tie.close
-    (tie.spec
-    (λ c. search none)
-    (λ c κs. search rules)
-    (λ c. search rules)
-    (λ c. search full)
-    (λ c. search rules)
-    (λ c. search rules)
-    (λ c. search rules)
-    (λ c. search rules)
-    (λ c. search rules)
-    (λ c. search rules)
-    (λ c. search rules)
-    (λ c. search rules)
-    (λ c. search rules)
-    (λ c. simp length-set (omega arith))
-    (λ c. search rules)
-    (λ c. search more))
+pub returns-then-n-y : goal.returns-then-n-y
+returns-then-n-y c = search none
+
+pub returns-then-c-ge-MAX_BLOCKS : goal.returns-then-c-ge-MAX_BLOCKS
+returns-then-c-ge-MAX_BLOCKS c = search full
+
+pub bounds-t-k-2 : goal.bounds-t-k-2
+bounds-t-k-2 c = simp length-set (omega arith)
+
+pub returns : goal.returns
+returns c = search more
