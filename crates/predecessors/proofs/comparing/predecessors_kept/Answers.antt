@@ -35,7 +35,7 @@ pub agrees-requires-in-loop-x : goal.agrees-requires-in-loop-x
 agrees-requires-in-loop-x c = (
   c.requires.in_table.0,
   c.requires.in_table.2,
-  sym (after_size_is c),
+  sym (slice_bounds-agrees-end-in-loop-x c),
   second_small _ _ _ c.requires.in_table c.shared_slice_known-1.given c.loop-x.invariant.1 c.loop-x-test.true c.ends-e.ensures c.agrees.ensures.1,
 )
 
