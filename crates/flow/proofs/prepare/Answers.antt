@@ -1,7 +1,6 @@
 -- All rows are noted, then the leading phi of all blocks.
 use mathlib.Core.List.{List}
 use Prim.Native.Nat.{ℕ}
-use borrow.Author.Rules.{rules}
 use Rattle.language.specs.Table.{block_count, row_count, decode_function}
 use Rattle.language.proofs.TableView.{block_count_law, row_count_law}
 use Rattle.flow.specs.Sized.{Preparable}
@@ -9,17 +8,10 @@ use Rattle.flow.specs.Assignments.{Noted}
 use Rattle.flow.specs.Leading.{Led}
 use Rattle.flow.specs.Prepared.{Prepared}
 use Rattle.flow.proofs.PreparedLaws.{all_prepared}
-use Rattle.flow.proofs.prepare.Statement.{statement}
-use Rattle.flow.proofs.prepare.Tie as tie
+use Rattle.flow.proofs.prepare.Goals as goal
 
 done : (t : List ℕ) (a : ℕ) (m m' : List ℕ) → Preparable t a → Noted (decode_function t a) m (row_count t a) → Led (decode_function t a) m m' (block_count t a) → Prepared (decode_function t a) m'
 done t a m m' fit n l = all_prepared (decode_function t a) m m' (rw (row_count_law t a fit.sized.placed) n) (rw (block_count_law t a) l)
 
-pub prepare_spec : {M : Type 1} → statement M
-prepare_spec =
-    tie.close
-    (tie.spec
-    (λ c κs. search rules)
-    (λ c κs. search rules)
-    (λ c. search rules)
-    (λ c. search done))
+pub returns : goal.returns
+returns c = search done

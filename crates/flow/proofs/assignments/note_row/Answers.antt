@@ -2,13 +2,11 @@
 use mathlib.Core.Path.{◌≡◌}
 use mathlib.Core.List.{List, [], ◌∷◌}
 use Prim.Native.Nat.{ℕ}
-use borrow.Author.Rules.{rules}
 use Rattle.language.specs.Programs.{targets_of}
 use Rattle.language.specs.Table.{decode_row, row_target}
 use Rattle.flow.specs.Assignments.{with_note, with_notes}
 use Rattle.flow.proofs.AssignmentLaws.{nop_targets, end_targets, own_target}
-use Rattle.flow.proofs.assignments.note_row.Statement.{statement}
-use Rattle.flow.proofs.assignments.note_row.Tie as tie
+use Rattle.flow.proofs.assignments.note_row.Goals as goal
 
 no_target : (t : List ℕ) (a k : ℕ) (m : List ℕ) (b : ℕ) → targets_of (decode_row t a k) ≡ [] → m ≡ with_notes m b k (targets_of (decode_row t a k))
 no_target t a k m b e = rw e
@@ -17,15 +15,11 @@ one_target : (t : List ℕ) (a k : ℕ) (m m' : List ℕ) (b u : ℕ) → target
     → m' ≡ with_notes m b k (targets_of (decode_row t a k))
 one_target t a k m m' b u e p q = rw (e, ← p) q
 
-pub note_row_spec : {M : Type 1} → statement M
-note_row_spec =
-    tie.close
-    (tie.spec
-    (λ c κs. search rules)
-    (λ c. search (no_target, nop_targets))
-    (λ c κs. search rules)
-    (λ c. search (no_target, end_targets))
-    (λ c κs. search rules)
-    (λ c κs. search rules)
-    (λ c. search rules)
-    (λ c. search (one_target, own_target)))
+pub returns-then-op-eq-NOP : goal.returns-then-op-eq-NOP
+returns-then-op-eq-NOP c = search (no_target, nop_targets)
+
+pub returns-then-is_terminator : goal.returns-then-is_terminator
+returns-then-is_terminator c = search (no_target, end_targets)
+
+pub returns : goal.returns
+returns c = search (one_target, own_target)
