@@ -1,0 +1,33 @@
+-- `shifts::ror`: the bits shifted out at the bottom come in at the top; the two parts do not overlap, so the sum is below 2^w.
+use Rattle.std.proofs.Common.{◌-◌, lt_of_lt_of_le, arith}
+use Rattle.language.proofs.Fitting.{ror_below}
+use Rattle.arithmetic.proofs.Words.{all_bits, turned_right, runs, stops}
+use Rattle.arithmetic.proofs.shifts.ror.Goals as goal
+
+pub overflow_sub-w : goal.overflow_sub-w
+overflow_sub-w c = omega arith
+
+pub returns-then-w-k : goal.returns-then-w-k
+returns-then-w-k c = stops (64 - c.args.s) c.args.k _ c.if-w-k.true
+
+pub overflow_shr-result : goal.overflow_shr-result
+overflow_shr-result c = omega arith
+
+pub overflow_sub-w-2 : goal.overflow_sub-w-2
+overflow_sub-w-2 c = omega arith
+
+pub overflow_sub-w-3 : goal.overflow_sub-w-3
+overflow_sub-w-3 c = omega arith
+
+pub overflow_shl-a : goal.overflow_shl-a
+overflow_shl-a c = omega arith
+
+pub overflow_add-result : goal.overflow_add-result
+overflow_add-result c =
+    let v = c.args in
+    record { fits = rw (turned_right v.s v.a v.k c.requires.0 c.if-w-k.false c.keep.ensures) (lt_of_lt_of_le (ror_below (64 - v.s) v.a v.k c.requires.1 (omega arith)) (all_bits v.s c.requires.0)) }
+
+pub returns : goal.returns
+returns c =
+    let v = c.args in
+    runs (64 - v.s) v.k _ c.if-w-k.false (turned_right v.s v.a v.k c.requires.0 c.if-w-k.false c.keep.ensures)

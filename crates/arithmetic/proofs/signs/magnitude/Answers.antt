@@ -1,0 +1,12 @@
+-- `signs::magnitude`: a negative number of w bits is 2^w less than it is written.
+use Rattle.std.proofs.Common.{nat_abs, sym, ap, ◌∙◌}
+use Rattle.arithmetic.proofs.Meanings.{reading_positive, magnitude_negative}
+use Rattle.arithmetic.proofs.signs.magnitude.Goals as goal
+
+pub returns-then-negative : goal.returns-then-negative
+returns-then-negative c =
+    c.neg.ensures ∙ magnitude_negative c.args.s c.args.sign c.args.x c.requires.0 c.requires.1 (sym c.negative.ensures ∙ c.if-negative.true)
+
+pub returns : goal.returns
+returns c =
+    sym (ap nat_abs (reading_positive c.args.s c.args.sign c.args.x (sym c.negative.ensures ∙ c.if-negative.false)))
