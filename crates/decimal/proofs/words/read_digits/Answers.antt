@@ -1,12 +1,10 @@
-use Prim.Native.Nat.{ℕ, ◌+◌, ◌-◌, ◌*◌}
-use mathlib.Core.Bool.{true}
+use Prim.Native.Nat.{ℕ, ◌+◌, ◌*◌}
 use mathlib.Core.Path.{refl, sym, ap, ◌∙◌}
 use native.Mathlib.Omega.{arith}
 use borrow.Author.Tests.{not-true, not-false}
 use lib.ListN.{take}
-use Rattle.laws.specs.Lists.{all}
 use Rattle.laws.proofs.Tests.{of_true}
-use Rattle.decimal.specs.Numbers.{is_digit, value_of, amount_kept}
+use Rattle.decimal.specs.Numbers.{value_of, amount_kept}
 use Rattle.decimal.proofs.WordsLaws.{kept_exact, value_more, digits_on, digits_off, says_none, says_all}
 use Rattle.decimal.proofs.words.read_digits.Goals as goal
 
