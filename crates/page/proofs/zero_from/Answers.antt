@@ -1,4 +1,3 @@
--- `page::zero_from` meets its contract: below the place every byte is as it was, from there to i it is 0.
 use mathlib.Core.Path.{◌≡◌, refl, ap, sym, ◌∙◌}
 use mathlib.Core.Logic.{⊎_elim, ◌⊎◌, inl, inr}
 use mathlib.Core.Bool.{Bool, true, false}
@@ -12,8 +11,7 @@ use borrow.Author.Rules.{rules}
 use lib.ListN.{length, take, get_or, set, length-set, length-append, length-take, length-replicate, replicate, get_or-append, get_or-replicate}
 use lib.Seq.{ext_get_or, get_or-set_same, get_or-set_other, get_or-take, get_or-append-add, length-take-le}
 use Rattle.page.specs.Page.{closed}
-use Rattle.page.proofs.zero_from.Statement.{statement}
-use Rattle.page.proofs.zero_from.Tie as tie
+use Rattle.page.proofs.zero_from.Goals as goal
 
 either : (a b : ℕ) → (a < b) ⊎ (b ≤ a)
 either a b = go (ltb a b) refl
@@ -40,36 +38,29 @@ size : (l : List ℕ) (n : ℕ) → length (closed l n) ≡ length l
 unfolding closed
 size l n = simp (length-append, length-take, length-replicate) (omega arith)
 
-abbrev invariant_loop : tie.invariant_loop
-invariant_loop out₀ at i₀ out i =
-    (at ≤ i) × (length out ≡ length out₀) × ((k : ℕ) → k < at → get_or out k 0 ≡ get_or out₀ k 0) × ((k : ℕ) → at ≤ k → k < i → get_or out k 0 ≡ 0)
+pub loop-i-init : goal.loop-i-init
+loop-i-init c = (search rules, refl, (λ k h. refl), (λ k h m. absurd (omega arith)))
 
-abbrev decreases_loop : tie.decreases_loop
-decreases_loop out₀ at i₀ out i = length out₀ - i
-
-loop_holds : tie.Need-loop-init invariant_loop decreases_loop
-loop_holds c = (search rules, refl, (λ k h. refl), (λ k h m. absurd (omega arith)))
-
-loop_again : tie.Need-loop-preserved invariant_loop decreases_loop
-loop_again c =
-    let i = c.before.loop.i in
-    let out = c.before.loop.out in
-    let inv = c.before.loop.invariant in (
+pub loop-i-preserved : goal.loop-i-preserved
+loop-i-preserved c =
+    let i = c.loop-i.i in
+    let out = c.loop-i.out in
+    let inv = c.loop-i.invariant in (
       omega arith,
       simp length-set inv.1,
       (λ k h. get_or-set_other out i k 0 0 (ne_of_lt (omega arith)) ∙ inv.2 k h),
       (λ k h m. let n : k ≤ i = omega arith in ⊎_elim
-          (λ e. ap (λ (j : ℕ). get_or (set out i 0) j 0) e ∙ get_or-set_same out i 0 0 c.loop-test.true)
+          (λ e. ap (λ (j : ℕ). get_or (set out i 0) j 0) e ∙ get_or-set_same out i 0 0 c.loop-i-test.true)
           (λ l. get_or-set_other out i k 0 0 (ne_of_lt l) ∙ inv.3 k h l)
           (eq-or-lt_of_le n)),
     )
 
-returns : tie.Need-returns invariant_loop decreases_loop
+pub returns : goal.returns
 returns c =
-    let out = c.before.loop.out in
-    let old = c.before.before.args.out.now in
-    let at = c.before.before.args.at in
-    let inv = c.before.loop.invariant in (
+    let out = c.loop-i.out in
+    let old = c.args.out.now in
+    let at = c.args.at in
+    let inv = c.loop-i.invariant in (
       refl,
       ext_get_or 0 out (closed old at) (inv.1 ∙ sym (size old at))
           (λ k h. ⊎_elim
@@ -77,17 +68,3 @@ returns c =
           (λ g. inv.3 k g (omega arith) ∙ sym (past old at k g (omega arith)))
           (either k at)),
     )
-
-pub zero_from_spec : {M : Type 1} → statement M
-zero_from_spec =
-    tie.close
-    (tie.spec
-    invariant_loop
-    decreases_loop
-    loop_holds
-    (λ c. search rules)
-    (λ c. search rules)
-    (λ c. search rules)
-    loop_again
-    (λ c. search rules)
-    returns)

@@ -1,0 +1,29 @@
+use mathlib.Core.Path.{◌≡◌, refl, ap, sym, ◌∙◌}
+use mathlib.Core.List.{List, foldl-append}
+use Prim.Native.Nat.{ℕ, ◌<◌, ◌+◌}
+use native.Mathlib.Numerals.{add-one}
+use borrow.Author.Rules.{rules}
+use lib.ListN.{length, take, get_or, length-set}
+use lib.Seq.{take-suc, take_all}
+use Rattle.page.specs.Page.{Page, put, puts}
+use Rattle.page.proofs.put_each.Goals as goal
+
+one_more : (p : Page) (s : List ℕ) (i : ℕ) → i < length s → puts p (take (i + 1) s) ≡ put (puts p (take i s)) (get_or s i 0)
+unfolding puts
+one_more p s i h = rw (add-one, take-suc s i 0, foldl-append)
+
+pub loop-i-init : goal.loop-i-init
+unfolding puts
+loop-i-init c = (search rules, refl, refl)
+
+pub loop-i-preserved : goal.loop-i-preserved
+loop-i-preserved c =
+    let done = c.put_byte-p.ensures in
+    let s = c.args.s.now in (
+      search rules,
+      ap (λ (q : Page). length q.bytes) done ∙ simp length-set c.loop-i.invariant.1,
+      done ∙ ap (λ (q : Page). put q (get_or s c.loop-i.i 0)) c.loop-i.invariant.2 ∙ sym (one_more _ s c.loop-i.i c.loop-i-test.true),
+    )
+
+pub returns : goal.returns
+returns c = c.loop-i.invariant.2 ∙ ap (puts _) (take_all _ _ c.loop-i-test.false)
