@@ -1,52 +1,59 @@
-// The bytes of a file, for programs that hold a file whole.
+// What a program is given: the words of its call, and the bytes of a file, for programs that hold a file whole; and why a file or a stream fails.
 #![tactic(auto)]
 
-ghost use Rattle.std.specs.Prelude.{◌≡◌, ◌+◌, ◌≤◌, length, take};
+ghost use Rattle.std.specs.Prelude.{◌≡◌, ◌≤◌, IfOk, length, take};
 
-// One read into the room from byte n on: how many bytes there are then, or one more than there is room for where it fails.
-fn read_more(fd: i32, room: &mut [u8], n: usize) -> usize
+mod why;
+mod words;
+
+use std::io::{ErrorKind, Read};
+use std::rt::Files;
+use std::{fs, io};
+pub use why::say_why;
+pub use words::{word, word_count};
+
+// One read into the room from byte n on: how many bytes there are then.
+fn read_more<R: Read>(file: &mut R, room: &mut [u8], n: usize) -> io::Result<usize>
     requires { (n ≤ length room.old) × (length room.old ≤ 65537) }
-    ensures { (n ≤ result) × (result ≤ length room.old + 1) }
+    ensures { IfOk result (λ m. (n ≤ m) × (m ≤ length room.old)) }
 {
-    let got = libc::read(fd, &mut room[n..]);
-    if got < 0 {
-        return room.len() + 1;
-    }
-    n + io::count(got, &room[n..])
+    let got = file.read(&mut room[n..])?;
+    Ok(n + got)
 }
 
 // Reads until the room is full or the file ends, with the same answer.
-fn read_all(fd: i32, room: &mut [u8]) -> usize
+fn read_all<R: Read>(file: &mut R, room: &mut [u8]) -> io::Result<usize>
     requires { length room.old ≤ 65537 }
-    ensures { result ≤ length room.old + 1 }
+    ensures { IfOk result (λ n. n ≤ length room.old) }
 {
     let mut n = 0;
     while n < room.len() {
-        let more = read_more(fd, room, n);
+        let more = read_more(file, room, n)?;
         if more == n {
-            return n;
+            return Ok(n);
         }
         n = more;
     }
-    n
+    Ok(n)
 }
 
-// The bytes of a file, as many as there is room for, and how many they are; one more than there is room for where it cannot be read to
-// its end or to that of the room. Then errno says why, so a file whose reading failed is left open.
-pub fn load(path: &[u8], room: &mut [u8]) -> usize
-    requires { length room.old ≤ 65537 }
-    ensures { result ≤ length room.old + 1 }
+// A file's name as text, as std opens files by.
+pub fn file_name(path: &[u8]) -> io::Result<&str>
+    ensures { IfOk result (λ name. name.now ≡ path.now) }
 {
-    let fd = os::open_read(path);
-    if fd < 0 {
-        return room.len() + 1;
+    match str::from_utf8(path) {
+        Ok(name) => Ok(name),
+        Err(_) => Err(io::Error::new(ErrorKind::InvalidInput, "The name is not UTF-8")),
     }
-    let n = read_all(fd, room);
-    if room.len() < n {
-        return n;
-    }
-    libc::close(fd);
-    n
+}
+
+// The bytes of a file, as many as there is room for, and how many they are; or why it cannot be read to its end or to that of the room.
+pub fn load<R: Files>(files: &R, path: &[u8], room: &mut [u8]) -> io::Result<usize>
+    requires { length room.old ≤ 65537 }
+    ensures { IfOk result (λ n. n ≤ length room.old) }
+{
+    let mut file = fs::open(files, file_name(path)?)?;
+    read_all(&mut file, room)
 }
 
 // The first n bytes, or all where there are fewer.
