@@ -56,7 +56,9 @@ module _ (t : List ℕ) (a k : ℕ) where
   phi_range :
       in_range f (decode_as Form.phi t a k) ≡ (ltb (row_target t a k) R && all (λ u. ltb u R) (map (phi_entry t a) (from (phi_first t a k) (phi_count t a k))))
   unfolding in_range decode_as shaped form_of
-  phi_range = simp (register_count_law t a, and-true)
+  phi_range =
+      simp (register_count_law t a, and-true)
+      (ap (λ (n : ℕ). ltb (row_target t a k) R && all (λ u. ltb u n) (map (phi_entry t a) (from (phi_first t a k) (phi_count t a k)))) (register_count_law t a))
 
   jump_range : in_range f (decode_as Form.jump t a k) ≡ ltb (jump_first t a k) B
   unfolding in_range decode_as shaped form_of
