@@ -15,7 +15,6 @@ use Rattle.language.specs.Tokens as meaning
 use Rattle.language.specs.Tokens.{Mode, begin, ends, ended, ended_as, name_or_word, decimal_digit, hexadecimal_digit, longer_name, waiting_name, longer_number, lex_step, tokens_from}
 use Rattle.instructions.specs.Ranges.{beyond}
 use Rattle.lexer.specs.declared.Lexer.{Lexer}
-use Rattle.lexer.specs.declared.Lexed.{Lexed}
 use Rattle.lexer.specs.declared.Lexeme.TheVariants as lexemes
 use Rattle.lexer.specs.declared.Found.{Found}
 use Rattle.lexer.specs.declared.Found.TheVariants as founds
