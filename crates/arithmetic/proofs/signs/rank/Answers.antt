@@ -7,4 +7,4 @@ pub overflow_shl-x : goal.overflow_shl-x
 overflow_shl-x c = omega arith
 
 pub returns : goal.returns
-returns c = c.wrapping_add_u64.ensures ∙ ranked c.args.s c.requires.0 c.requires.1
+returns c = c.wrapping_add_u64.ensures.value ∙ ranked c.args.s c.requires.0 c.requires.1

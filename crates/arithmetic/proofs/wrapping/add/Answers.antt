@@ -4,4 +4,4 @@ use Rattle.arithmetic.proofs.Words.{reduced}
 use Rattle.arithmetic.proofs.wrapping.add.Goals as goal
 
 pub returns : goal.returns
-returns c = reduced c.args.s c.requires (c.args.a + c.args.b) c.wrapping_add_u64.ensures c.keep.ensures
+returns c = reduced c.args.s c.requires (c.args.a + c.args.b) c.wrapping_add_u64.ensures.value c.keep.ensures

@@ -4,4 +4,4 @@ use Rattle.arithmetic.proofs.wrapping.neg.Goals as goal
 
 pub returns : goal.returns
 returns c =
-    negated c.args.s c.requires.0 c.wrapping_sub_u64.result c.requires.1 c.wrapping_sub_u64.ensures c.keep.ensures
+    negated c.args.s c.requires.0 c.wrapping_sub_u64.result c.requires.1 c.wrapping_sub_u64.ensures.value c.keep.ensures

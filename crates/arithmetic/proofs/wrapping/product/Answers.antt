@@ -16,6 +16,6 @@ pub returns : goal.returns
 returns c =
     let a = c.args.a in
     let b = c.args.b in
-    c.wrapping_add_u64.ensures
-    ∙ ap (λ (m : ℕ). (m * 2 ^ 32 % 2 ^ 64 + a % 2 ^ 32 * (b % 2 ^ 32)) % 2 ^ 64) c.wrapping_add_u64-middle.ensures
+    c.wrapping_add_u64.ensures.value
+    ∙ ap (λ (m : ℕ). (m * 2 ^ 32 % 2 ^ 64 + a % 2 ^ 32 * (b % 2 ^ 32)) % 2 ^ 64) c.wrapping_add_u64-middle.ensures.value
     ∙ halves_product 32 a b

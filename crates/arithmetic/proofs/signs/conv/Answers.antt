@@ -1,0 +1,15 @@
+-- `signs::conv`: a negative meaning is counted down from -1, so its flipped number is cut to the width and flipped back.
+use Rattle.std.proofs.Common.{◌-◌, sym, ◌∙◌, mod-lt, pow_pos}
+use Rattle.arithmetic.proofs.Meanings.{converted_negative, converted_positive}
+use Rattle.arithmetic.proofs.signs.conv.Goals as goal
+
+pub flip-requires-then-negative : goal.flip-requires-then-negative
+flip-requires-then-negative c = (c.requires.1, rw c.keep.ensures (mod-lt c.flip.result (pow_pos (64 - c.args.r))))
+
+pub returns-then-negative : goal.returns-then-negative
+returns-then-negative c t k =
+    converted_negative k c.args.x c.requires.2 (64 - c.args.r) (sym c.negative.ensures ∙ c.if-negative.true) c.flip.ensures c.keep.ensures c.flip-then-negative.ensures
+
+pub returns : goal.returns
+returns c t k =
+    converted_positive k c.args.x c.requires.2 (64 - c.args.r) (sym c.negative.ensures ∙ c.if-negative.false) c.keep-2.ensures
