@@ -1,0 +1,14 @@
+-- The loop's invariant: x is what is noted of the first j rows of the block.
+use Prim.Native.Nat.{◌-◌, ◌≤◌}
+use mathlib.Core.Path.{◌≡◌}
+use Rattle.language.specs.Table.{decode_function}
+use Rattle.checker.specs.Notes.{noted}
+use Rattle.checker.proofs.FormsLaws.{noted_upto}
+use Rattle.language.specs.Programs.{max_rows}
+use Rattle.checker.proofs.forms.note_block.Given as goal
+
+abbrev pub invariant-loop-j : goal.invariant-loop-j
+invariant-loop-j l = (l.j ≤ l.rows) × (l.x ≡ noted_upto (decode_function l.t l.a) l.b l.initial.x l.j) × (l.x.row ≤ max_rows)
+
+abbrev pub decreases-loop-j : goal.decreases-loop-j
+decreases-loop-j l = l.rows - l.j
