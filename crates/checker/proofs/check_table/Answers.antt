@@ -36,7 +36,7 @@ pub loop-i-preserved : goal.loop-i-preserved
 loop-i-preserved c =
     let t = c.args.t.now in (
       omega arith,
-      c.check_function.auto.1.1.0 ∙ c.loop-i.invariant.1,
+      c.check_function.auto.m ∙ c.loop-i.invariant.1,
       c.loop-i.invariant.2 ∙ goes_on t c.loop-i.i (omega arith) (sym c.check_function.ensures ∙ ap verdict_of c.in_default.is)
           ∙ ap (judged_from t) (sym (add-one c.loop-i.i)),
     )
@@ -44,8 +44,9 @@ loop-i-preserved c =
 pub returns-in-loop-i : goal.returns-in-loop-i
 returns-in-loop-i c =
     let t = c.args.t.now in
-    let found = c.k-1.given in
-    sym (c.loop-i.invariant.2 ∙ ends t c.loop-i.i (omega arith) found.0.0 found.0.1.0 (sym c.check_function.ensures ∙ ap verdict_of found.1))
+    sym
+    (c.loop-i.invariant.2
+    ∙ ends t c.loop-i.i (omega arith) c.in-Refused.k c.in-Refused.p (sym c.check_function.ensures ∙ ap verdict_of c.in-Refused.is))
 
 pub returns : goal.returns
 returns c = sym (c.loop-i.invariant.2 ∙ all_judged c.args.t.now c.loop-i.i (omega arith))

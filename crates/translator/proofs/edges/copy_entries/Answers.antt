@@ -76,7 +76,7 @@ loop-i-preserved c =
       v.0,
       v.1,
       omega arith,
-      c.put_row.auto.0 ∙ v.3,
+      c.put_row.auto.t ∙ v.3,
       v.4,
       v.5,
       entry_put t a c.requires.translatable_at args.m.now c.requires.prepared args.y args.j args.n args.k c.requires.edge c.loop-i.i few c.phi_entry-e.result c.loop-i.out _ v.6

@@ -76,7 +76,7 @@ loop-y-preserved c =
       registers_next t a c.requires.translatable_at m c.requires.prepared y known c.loop-y.n c.phis-n.result v.2 c.phis-n.ensures.0,
       edges_next t a c.requires.translatable_at m c.requires.prepared y known c.loop-y.b c.pairs-b.result v.3 e,
       c.put_edges-r.ensures.0 ∙ ap (λ i. first_row (translated t a) (c.loop-y.b + i)) (sym e),
-      c.put_edges-r.auto.1.1.1.1.1.1.0 ∙ v.5,
+      c.put_edges-r.auto.out ∙ v.5,
       c.put_edges-r.ensures.1 ∙ ap (λ i. built t a (c.loop-y.b + i) c.put_edges-r.result) (sym e),
     )
 

@@ -55,7 +55,7 @@ loop-j-preserved c =
       omega arith,
       v.2,
       c.put_edge-r.ensures.0 ∙ ap (first_row (translated t a)) more,
-      c.put_edge-r.auto.1.1.1.1.1.1.1.0 ∙ v.4,
+      c.put_edge-r.auto.out ∙ v.4,
       c.put_edge-r.ensures.1 ∙ ap (λ b. built t a b c.put_edge-r.result) more,
     )
 

@@ -24,7 +24,7 @@ put_name-requires c =
     let b = c.requires.x_bound in
     let short : length c.block_name.result.now ≤ 64 = rw c.block_name.ensures (name_short args.t.now args.a c.requires.translatable_at args.x b.0) in
     let long = block_length_law args.t.now args.a c.requires.translatable_at args.x args.k args.out.now b.0 b.1 b.2 in
-    (omega arith, omega (arith, c.put_place.auto.0, b.0, c.requires.translatable_at.sized.blocks))
+    (omega arith, omega (arith, c.put_place.auto.out, b.0, c.requires.translatable_at.sized.blocks))
 
 pub keep_rows-requires : goal.keep_rows-requires
 keep_rows-requires c =
@@ -39,7 +39,7 @@ keep_rows-requires c =
       planned = c.requires.planned;
       kept_rows = record { block = b.0; first = ap₂ (λ i j. i + j) c.block_first.ensures.0 c.phis-p.ensures.0; count = left; place = b.1 };
       out_value = keeps_block t a c.requires.translatable_at args.m.now args.plan.now c.requires.prepared c.requires.planned args.x (c.block_rows.result - c.phis-p.result) args.k b.0 b.1 left
-          args.out.now c.put_place.new.0 c.put_name.new.0 c.block_name.result.now b.2 c.put_place.ensures c.block_name.ensures
+          args.out.now c.put_place.new.out c.put_name.new.t c.block_name.result.now b.2 c.put_place.ensures c.block_name.ensures
           c.put_name.ensures;
     }
 

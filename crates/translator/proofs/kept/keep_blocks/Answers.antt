@@ -28,7 +28,7 @@ loop-x-smaller c = omega arith
 pub loop-x-preserved : goal.loop-x-preserved
 loop-x-preserved c =
     let v = c.loop-x.invariant in
-    (v.0, omega arith, c.keep_block-k.ensures.0, c.keep_block-k.auto.1.1.1.1.1.0 ∙ v.3, c.keep_block-k.ensures.1)
+    (v.0, omega arith, c.keep_block-k.ensures.0, c.keep_block-k.auto.out ∙ v.3, c.keep_block-k.ensures.1)
 
 pub shape_of-out : goal.shape_of-out
 shape_of-out c = c.loop-x.invariant.3

@@ -16,6 +16,6 @@ put_row-requires c =
 pub returns : goal.returns
 returns c =
     let args = c.args in
-    row_kept args.t.now args.a args.m.now args.plan.now args.x args.r args.out.now c.put_row.new.0 (function_at 0 + rows_offset + row_length * args.k)
+    row_kept args.t.now args.a args.m.now args.plan.now args.x args.r args.out.now c.put_row.new.t (function_at 0 + rows_offset + row_length * args.k)
     c.row_op-op.ensures c.shape_of-shape.ensures c.row_target.ensures.0 c.if_so-target.ensures.0 c.row_left.ensures.0 c.if_so-left.ensures.0
     c.row_right.ensures.0 c.if_so-right.ensures.0 c.operand-last.ensures c.put_row.ensures

@@ -48,7 +48,7 @@ loop-i-preserved c =
     let args = c.args in
     let v = c.loop-i.invariant in (
       omega arith,
-      c.keep_row.auto.1.1.1.1.1.1.0 ∙ v.1,
+      c.keep_row.auto.out ∙ v.1,
       v.2,
       keeps_one args.t.now args.a c.requires.translatable_at args.m.now args.plan.now c.requires.prepared c.requires.planned args.x args.r args.n args.k c.loop-i.i c.requires.kept_rows
           c.loop-i-test.true c.loop-i.out _ v.3 c.keep_row.ensures,

@@ -36,14 +36,14 @@ loop-r-smaller c = omega arith
 pub loop-r-preserved : goal.loop-r-preserved
 loop-r-preserved c =
     let known : c.loop-r.r < register_count c.args.t.now c.args.a = omega arith in
-    let same = c.put_register.auto.0 in (
+    let same = c.put_register.auto.t in (
       c.loop-r.invariant.0,
       omega arith,
       omega arith,
       c.loop-r.invariant.3,
       rw (add-one c.loop-r.r)
           (one_kept c.args.t.now c.args.a c.requires.translatable_at c.loop-r.r c.register_type.result c.loop-r.out c.register_name.result.now
-          c.put_register.new.0 known c.loop-r.invariant.4 c.register_type.ensures c.register_name.ensures c.put_register.ensures),
+          c.put_register.new.t known c.loop-r.invariant.4 c.register_type.ensures c.register_name.ensures c.put_register.ensures),
     )
 
 pub shape_of-out : goal.shape_of-out

@@ -64,7 +64,7 @@ loop-y-preserved c =
       v.0,
       omega arith,
       rw (add-one y) (omega (arith, new_next t a c.requires.translatable_at y known, v.2)),
-      c.put_new.auto.1.1.1.1.1.0 ∙ v.3,
+      c.put_new.auto.out ∙ v.3,
       c.put_new.ensures ∙ ap (λ k. declared t a (c.loop-y.n + k)) (sym p),
     )
 

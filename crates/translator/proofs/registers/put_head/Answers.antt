@@ -34,6 +34,6 @@ shape_of-out c = c.put_name.auto.0 ∙ simp length-set (stored c)
 pub returns : goal.returns
 returns c =
     let args = c.args in
-    head_stores args.t.now args.a args.registers args.blocks c.function_result.result c.function_entry.result args.out.now c.put_two.new.0
-    c.put_two-2.new.0 c.put_name.new.0 c.function_name.result.now c.function_result.ensures c.function_params.result
+    head_stores args.t.now args.a args.registers args.blocks c.function_result.result c.function_entry.result args.out.now c.put_two.new.t
+    c.put_two-2.new.t c.put_name.new.t c.function_name.result.now c.function_result.ensures c.function_params.result
     c.function_params.ensures.0 c.put_two.ensures c.put_two-2.ensures c.function_entry.ensures.0 c.function_name.ensures c.put_name.ensures

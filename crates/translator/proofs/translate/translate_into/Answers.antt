@@ -23,7 +23,7 @@ keep_registers-requires c =
     let args = c.args in
     let f = decode_function args.t.now args.a in record {
       translatable_at = c.requires.translatable_at;
-      out_value = head_declared args.t.now args.a c.requires.translatable_at c.measure-s.result.registers c.measure-s.result.blocks args.out.now c.put_head.new.1.1.1.1.0
+      out_value = head_declared args.t.now args.a c.requires.translatable_at c.measure-s.result.registers c.measure-s.result.blocks args.out.now c.put_head.new.out
           (registers_are f c.measure-s.result c.measure-s.ensures) (blocks_are f c.measure-s.result c.measure-s.ensures) c.requires.out_value c.put_head.ensures;
     }
 
