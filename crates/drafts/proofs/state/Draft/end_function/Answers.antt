@@ -1,0 +1,40 @@
+-- The entry block is looked for, then the names mentioned, and then the function is closed: each return is one of the three ends.
+use native.Mathlib.Omega.{arith}
+use mathlib.Core.Path.{◌≡◌, ◌∙◌}
+use lib.ListN.{length}
+use Rattle.language.specs.Table.{function_length}
+use Rattle.drafts.proofs.FunctionEnds.{head_count, ends_without_entry, ends_undeclared, ends_closed}
+use Rattle.drafts.proofs.state.Draft.end_function.Goals as goal
+
+pub returns-then-n-entry : goal.returns-then-n-entry
+returns-then-n-entry c n l b =
+    let args = c.args in
+    ends_without_entry args.self args.f.now args.pend.now args.p c.find_name-entry.ensures.0 n l b c.if-n-entry.true
+
+pub returns-then-resolved-names : goal.returns-then-resolved-names
+returns-then-resolved-names c n l b =
+    let args = c.args in
+    ends_undeclared args.self args.f.now args.pend.now args.p c.find_name-entry.ensures.0 n l b c.if-n-entry.false c.resolve-resolved.ensures
+    (record { byte = c.four_at-byte.result }) c.if-resolved-names.true c.four_at-byte.ensures.0
+
+pub put_head-requires : goal.put_head-requires
+put_head-requires c =
+    record { bounded = c.requires.bounded; f_len = (omega (arith, c.requires.functions_lt_max_functions, c.patch.auto.f), omega (arith, c.requires.bounded.blocks, c.if-n-entry.false)) }
+
+pub put_predecessors-requires : goal.put_predecessors-requires
+put_predecessors-requires c =
+    let whole : length c.patch.new.f ≡ function_length = c.patch.auto.f ∙ c.requires.functions_lt_max_functions.1 in (
+      omega (arith, whole, c.put_head.auto.f),
+      omega (arith, head_count c.args.self c.find_name-entry.result c.patch.new.f c.put_head.new.f whole c.put_head.ensures, c.requires.bounded.blocks),
+    )
+
+pub overflow_add-self : goal.overflow_add-self
+overflow_add-self c =
+    omega (arith, c.requires.functions_lt_max_functions.0)
+
+pub returns : goal.returns
+returns c n l b =
+    let args = c.args in
+    ends_closed args.self args.f.now args.pend.now args.p c.find_name-entry.ensures.0 n l b c.if-n-entry.false c.resolve-resolved.ensures
+    c.requires.functions_lt_max_functions.0 c.fresh.ensures c.if-resolved-names.false c.patch.ensures c.put_head.ensures c.put_predecessors.ensures
+    (c.put_predecessors.auto.t ∙ c.put_head.auto.f ∙ c.patch.auto.f)
