@@ -43,7 +43,7 @@ loop-i-smaller-then-not-unnamed c = omega arith
 pub loop-i-preserved-then-not-unnamed : goal.loop-i-preserved-then-not-unnamed
 loop-i-preserved-then-not-unnamed c =
     let args = c.args in (
-      going_given (prefix_of args.first) args.t.now args.at args.stride args.count args.kept c.loop-i.invariant.0 c.loop-i-test.true (sym c.unnamed.ensures ∙ not-true _ c.if-not-unnamed.true-raw) (c.plain_flag.ensures ∙ ap plain_flag c.name_at.ensures) (omega (arith, c.loop-i.invariant.1)),
+      going_given (prefix_of args.first) args.t.now args.at args.stride args.count args.kept c.loop-i.invariant.0 c.loop-i-test.true (sym c.unnamed.ensures ∙ c.if-not-unnamed.true) (c.plain_flag.ensures ∙ ap plain_flag c.name_at.ensures) (omega (arith, c.loop-i.invariant.1)),
       length-set c.loop-i.made c.loop-i.i c.plain_flag.result ∙ c.loop-i.invariant.1,
     )
 
@@ -71,7 +71,7 @@ loop-i-smaller c = omega arith
 pub loop-i-preserved : goal.loop-i-preserved
 loop-i-preserved c =
     let args = c.args in (
-      going_made (prefix_of args.first) args.t.now args.at args.stride args.count args.kept c.loop-i.invariant.0 c.loop-i-test.true c.mark.ensures (sym c.unnamed.ensures ∙ not-false _ c.if-not-unnamed.false-raw) c.free-j.ensures (omega (arith, c.loop-i.invariant.1)),
+      going_made (prefix_of args.first) args.t.now args.at args.stride args.count args.kept c.loop-i.invariant.0 c.loop-i-test.true c.mark.ensures (sym c.unnamed.ensures ∙ c.if-not-unnamed.false) c.free-j.ensures (omega (arith, c.loop-i.invariant.1)),
       length-set c.loop-i.made c.loop-i.i c.free-j.result ∙ c.loop-i.invariant.1,
     )
 
