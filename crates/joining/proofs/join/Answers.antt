@@ -2,7 +2,6 @@
 use mathlib.Core.Path.{◌∙◌, sym}
 use Prim.Native.Nat.{ℕ}
 use lib.ListN.{length-replicate}
-use borrow.Author.Tests.{not-true, not-false}
 use Rattle.laws.proofs.Cells.{sets_all}
 use Rattle.language.proofs.TableLaws.{zeros_made}
 use Rattle.joining.proofs.Ends.{kept_not, kept_all}

@@ -1,4 +1,3 @@
-use Prim.Native.Nat.{◌-◌}
 use native.Mathlib.Omega.{arith}
 use Rattle.joining.proofs.Steps.{joining_none, joining_length, joining_kept, joining_more, stepped_counts}
 use Rattle.joining.proofs.walk.Goals as goal
