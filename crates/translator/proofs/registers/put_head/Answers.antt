@@ -6,30 +6,37 @@ use mathlib.Core.Path.{◌≡◌, ◌∙◌}
 use Rattle.translator.proofs.RegistersLaws.{head_stores}
 use Rattle.translator.proofs.registers.put_head.Goals as goal
 
--- the table keeps its length over the first five stores
-stored : (c : tie.After-slice-known3) → length c.before.before.put-two2.new.0 ≡ length c.before.before.before.before.before.before.before.before.before.before.before.before.args.out.now
-stored c = c.before.before.put-two2.auto.0 ∙ c.before.before.before.before.before.before.put_two.auto.0 ∙ simp length-set
-
 pub put_two-requires : goal.put_two-requires
 put_two-requires c = simp length-set (omega arith)
 
 pub put_two-requires-2 : goal.put_two-requires-2
-put_two-requires-2 c = omega (arith, simp length-set at c.put_two.auto.0)
+put_two-requires-2 c = omega (arith, simp length-set at c.put_two.auto.t)
 
 pub bounds-out-7 : goal.bounds-out-7
-bounds-out-7 c = omega (arith, stored c)
+bounds-out-7 c =
+    -- the table keeps its length over the first five stores
+    let stored : length c.put_two-2.new.t ≡ length c.args.out.now = c.put_two-2.auto.t ∙ c.put_two.auto.t ∙ simp length-set in
+    omega (arith, stored)
 
 pub bounds-out-8 : goal.bounds-out-8
-bounds-out-8 c = simp length-set (omega (arith, stored c))
+bounds-out-8 c =
+    -- the table keeps its length over the first five stores
+    let stored : length c.put_two-2.new.t ≡ length c.args.out.now = c.put_two-2.auto.t ∙ c.put_two.auto.t ∙ simp length-set in
+    simp length-set (omega (arith, stored))
 
 pub put_name-requires : goal.put_name-requires
 put_name-requires c =
     let few = c.requires.1 in
     let short : length c.function_name.result.now ≤ 64 = rw c.function_name.ensures few in
-    (omega arith, simp length-set (omega (arith, stored c)))
+    -- the table keeps its length over the first five stores
+    let stored : length c.put_two-2.new.t ≡ length c.args.out.now = c.put_two-2.auto.t ∙ c.put_two.auto.t ∙ simp length-set in
+    (omega arith, simp length-set (omega (arith, stored)))
 
 pub shape_of-out : goal.shape_of-out
-shape_of-out c = c.put_name.auto.0 ∙ simp length-set (stored c)
+shape_of-out c =
+    -- the table keeps its length over the first five stores
+    let stored : length c.put_two-2.new.t ≡ length c.args.out.now = c.put_two-2.auto.t ∙ c.put_two.auto.t ∙ simp length-set in
+    c.put_name.auto.t ∙ simp length-set stored
 
 pub returns : goal.returns
 returns c =
