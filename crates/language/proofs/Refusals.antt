@@ -2,7 +2,6 @@
 -- Assumes nothing.
 use mathlib.Core.List.{List, ◌∷◌}
 use mathlib.Core.Path.{◌≡◌}
-use Prim.Native.Nat.{ℕ}
 use lib.Dec.{lit≤}
 use Rattle.language.specs.Tokens.{TextPlace, Token}
 use Rattle.language.specs.Grammar.{Stage, Act, next_move}

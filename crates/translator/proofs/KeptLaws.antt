@@ -14,7 +14,7 @@ use Rattle.laws.proofs.Cells.{sets_then}
 use Rattle.laws.proofs.Every.{every_at}
 use Rattle.language.specs.Instructions.{Form, form_of}
 use Rattle.language.specs.Programs.{Row, Block, Func, block_at, rows_at, rows_of, first_row, is_phi, entries_of, max_rows}
-use Rattle.language.specs.Table.{two_bytes, block_count, block_rows, block_first, block_name, row_op, row_count, row_cells, decode_as, decode_row, decode_function}
+use Rattle.language.specs.Table.{two_bytes, block_count, block_rows, block_first, block_name, row_op, row_cells, decode_as, decode_row, decode_function}
 use Rattle.language.specs.Table.{block_length, block_names_offset, blocks_offset, function_at, predecessors_length, row_length, rows_offset, table_length}
 use Rattle.instructions.specs.Shapes.{shape_of}
 use Rattle.language.proofs.TableView.{op_decoded, block_count_law, block_rows_count, block_row_is}

@@ -1,8 +1,8 @@
-use Prim.Native.Nat.{ℕ, ◌-◌}
+use Prim.Native.Nat.{ℕ}
 use mathlib.Core.Path.{sym, ap, ◌∙◌}
 use native.Mathlib.Numerals.{add-one}
 use native.Mathlib.Omega.{arith}
-use lib.ListN.{length, length-replicate}
+use lib.ListN.{length-replicate}
 use Rattle.flow.specs.Layout.{flow_length}
 use Rattle.answers.specs.Cases.{verdict_of}
 use Rattle.checker.proofs.Order.{judged_from, other_length, too_many, start, goes_on, ends, all_judged}

@@ -1,9 +1,8 @@
-use Prim.Native.Nat.{◌+◌, ◌-◌, ◌≤◌}
+use Prim.Native.Nat.{◌+◌, ◌≤◌}
 use mathlib.Core.Path.{sym, ap, subst, ◌∙◌}
 use native.Mathlib.Omega.{arith}
 use Rattle.language.specs.Table.{decode_function}
 use Rattle.checker.specs.declared.forms.Lowest.{Lowest}
-use Rattle.checker.specs.Notes.{noted}
 use Rattle.checker.proofs.FormsLaws.{upto_none, upto_quiet, upto_noted, in_none, in_all, noted_row_law, here}
 use Rattle.language.specs.Programs.{max_rows}
 use Rattle.checker.proofs.forms.note_block.Goals as goal

@@ -2,7 +2,6 @@
 use Prim.Native.Nat.{◌-◌, ◌≤◌}
 use mathlib.Core.Path.{◌≡◌}
 use Rattle.language.specs.Table.{decode_function}
-use Rattle.checker.specs.Notes.{noted}
 use Rattle.checker.proofs.FormsLaws.{noted_upto}
 use Rattle.language.specs.Programs.{max_rows}
 use Rattle.checker.proofs.forms.note_block.Given as goal

@@ -1,4 +1,3 @@
-use Prim.Native.Nat.{◌-◌}
 use native.Mathlib.Omega.{arith}
 use Rattle.language.specs.Table.{decode_function}
 use Rattle.language.proofs.TableView.{block_count_law}

@@ -1,4 +1,4 @@
-use Prim.Native.Nat.{◌+◌, ◌-◌}
+use Prim.Native.Nat.{◌+◌}
 use mathlib.Core.Path.{sym, ◌∙◌, subst}
 use native.Mathlib.Omega.{arith}
 use Rattle.checker.proofs.RowsLaws.{Blocks, no_blocks, block_misplaced, rows_too_many, block_more, blocks_placed_law}

@@ -1,12 +1,9 @@
-use Prim.Native.Nat.{◌-◌}
 use mathlib.Core.Path.{sym, ap, ◌∙◌}
-use mathlib.Core.Bool.{true}
 use native.Mathlib.Omega.{arith}
 use lib.Dec.{eqb}
 use borrow.Author.Count.{below_none, below_more}
 use borrow.Author.Tests.{eq-eqb}
 use Rattle.language.specs.Instructions.{phi_op}
-use Rattle.language.specs.Table.{row_op}
 use Rattle.flow.proofs.LeadingLaws.{phis_to, phis_all}
 use Rattle.flow.proofs.leading.leading_phis.Goals as goal
 

@@ -1,5 +1,5 @@
 -- The loop's invariant: a name of these bytes is in the chain that is left.
-use Prim.Native.Nat.{ℕ, ◌-◌, ◌≤◌, ◌<◌}
+use Prim.Native.Nat.{ℕ, ◌≤◌, ◌<◌}
 use mathlib.Core.Bool.{true}
 use mathlib.Core.Path.{◌≡◌}
 use Rattle.table.specs.Named.{is_named}

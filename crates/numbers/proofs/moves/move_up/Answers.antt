@@ -1,7 +1,7 @@
 use mathlib.Core.Path.{◌≡◌, refl, ap, ◌∙◌}
-use Prim.Native.Nat.{ℕ, ◌-◌}
+use Prim.Native.Nat.{ℕ}
 use native.Mathlib.Omega.{arith}
-use lib.ListN.{length, length-set}
+use lib.ListN.{length-set}
 use Rattle.numbers.specs.Moving.{moved}
 use Rattle.numbers.proofs.MovesLaws.{moved_none, moved_step}
 use Rattle.numbers.proofs.moves.move_up.Goals as goal

@@ -1,12 +1,9 @@
 use mathlib.Core.Path.{◌≡◌, ◌∙◌, sym}
-use Prim.Native.Nat.{◌-◌}
 use native.Mathlib.Nat.{not-suc-le-zero}
 use native.Mathlib.Omega.{arith}
-use lib.Dec.{eqb}
 use borrow.Author.Count.{below_more}
 use borrow.Author.Tests.{eq-eqb, ne_eqb}
 use Rattle.laws.proofs.Ranges.{all_below, all_below_not}
-use Rattle.language.specs.Table.{predecessor_count}
 use Rattle.predecessors.proofs.comparing.counted.Goals as goal
 
 pub loop-b-init : goal.loop-b-init

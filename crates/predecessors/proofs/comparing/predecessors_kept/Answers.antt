@@ -1,5 +1,4 @@
 use mathlib.Core.Path.{◌≡◌, refl, sym, ◌∙◌}
-use Prim.Native.Nat.{◌-◌}
 use native.Mathlib.Omega.{arith}
 use lib.ListN.{get_or-replicate}
 use Rattle.predecessors.proofs.ComparingLaws.{none_agreed, lists_are, first_small, second_small, first_wrong, second_wrong, after_size, agreed_more}

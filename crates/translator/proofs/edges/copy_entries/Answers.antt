@@ -1,8 +1,7 @@
-use Prim.Native.Nat.{◌-◌, ◌+◌, ◌<◌}
+use Prim.Native.Nat.{◌+◌, ◌<◌}
 use mathlib.Core.Path.{◌≡◌, refl, sym, ap, ◌∙◌}
 use native.Mathlib.Nat.{add-zero}
 use native.Mathlib.Omega.{arith}
-use lib.ListN.{length}
 use Rattle.language.specs.Table.{block_first, phi_first, phi_entry}
 use Rattle.flow.specs.Layout.{phis_in}
 use Rattle.translator.specs.Source.{built, edge_number}

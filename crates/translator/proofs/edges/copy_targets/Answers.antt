@@ -1,9 +1,8 @@
-use Prim.Native.Nat.{◌-◌, ◌+◌, ◌*◌, ◌<◌}
+use Prim.Native.Nat.{◌+◌, ◌*◌, ◌<◌}
 use mathlib.Core.Path.{◌≡◌, refl, sym, ap, ◌∙◌}
 use native.Mathlib.Nat.{add-zero}
 use native.Mathlib.Omega.{arith}
-use lib.ListN.{length}
-use Rattle.language.specs.Table.{block_first, row_target}
+use Rattle.language.specs.Table.{row_target}
 use Rattle.flow.specs.Layout.{phis_in}
 use Rattle.translator.specs.Source.{built, edge_number}
 use Rattle.translator.proofs.EdgesLaws.{bounds, built_length, target_put}

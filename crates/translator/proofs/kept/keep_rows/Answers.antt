@@ -1,8 +1,7 @@
-use Prim.Native.Nat.{◌-◌, ◌+◌}
+use Prim.Native.Nat.{◌+◌}
 use mathlib.Core.Path.{◌≡◌, refl, sym, ap, ◌∙◌}
 use native.Mathlib.Nat.{add-zero}
 use native.Mathlib.Omega.{arith}
-use lib.ListN.{length}
 use Rattle.translator.specs.Source.{built}
 use Rattle.translator.proofs.KeptLaws.{kept_length, keeps_row, keeps_place, keeps_naming, keeps_one}
 use Rattle.translator.proofs.kept.keep_rows.Goals as goal

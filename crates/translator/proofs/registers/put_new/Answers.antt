@@ -1,9 +1,9 @@
-use Prim.Native.Nat.{◌-◌, ◌+◌, ◌<◌}
+use Prim.Native.Nat.{◌+◌, ◌<◌}
 use mathlib.Core.Path.{◌≡◌, refl, sym, ap, ◌∙◌}
 use native.Mathlib.Nat.{add-zero}
 use native.Mathlib.Omega.{arith}
 use lib.ListN.{length, length-set}
-use Rattle.language.specs.Table.{register_type, block_first, row_target, decode_function}
+use Rattle.language.specs.Table.{register_type, row_target, decode_function}
 use Rattle.theorems.proofs.SimulationRows.{phis_at}
 use Rattle.flow.specs.Layout.{phis_in}
 use Rattle.translator.specs.Source.{declared}

@@ -1,6 +1,4 @@
-use Prim.Native.Nat.{◌-◌}
 use native.Mathlib.Omega.{arith}
-use Rattle.language.specs.Table.{block_count}
 use Rattle.translator.proofs.SizesLaws.{measured_none, measured_next, measured_all, product_small, fewer_phis}
 use Rattle.translator.proofs.sizes.measure.Goals as goal
 

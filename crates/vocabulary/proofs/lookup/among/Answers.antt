@@ -1,5 +1,4 @@
 use mathlib.Core.Path.{◌≡◌, refl, sym, ap, ◌∙◌}
-use Prim.Native.Nat.{◌-◌}
 use native.Mathlib.Omega.{arith}
 use Rattle.language.specs.Words.{word_count}
 use Rattle.vocabulary.specs.Chains.{from_on, rest_among}

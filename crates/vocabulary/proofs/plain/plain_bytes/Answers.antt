@@ -1,6 +1,4 @@
-use Prim.Native.Nat.{◌-◌}
 use native.Mathlib.Omega.{arith}
-use Rattle.laws.specs.Lists.{all}
 use Rattle.vocabulary.proofs.PlainNames.{letter_yes, letter_no, name_yes, name_no, no_bytes, first_no, first_on, byte_no, byte_on, bytes_end}
 use Rattle.vocabulary.proofs.plain.plain_bytes.Goals as goal
 
