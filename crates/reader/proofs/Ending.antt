@@ -1,14 +1,11 @@
 -- The end of the text among the tokens. Assumes nothing.
 use mathlib.Core.Bool.{false}
-use mathlib.Core.List.{List, [], ◌∷◌}
+use mathlib.Core.List.{List}
 use mathlib.Core.Path.{◌≡◌, refl}
 use Prim.Native.Nat.{ℕ}
-use types.Run.{OneOf, miss}
-use denote.Enum.Declared.{tag_of}
 use Rattle.language.specs.Tokens.{Token as Tokenᴸ}
 use Rattle.grammar.specs.declared.Token.{Token}
 use Rattle.grammar.specs.declared.Token.TheVariants as tokens
-use Rattle.grammar.specs.contracts.Token as declared
 use Rattle.drafts.specs.State.{Lent}
 use Rattle.text_place.specs.declared.TextPlace.{TextPlace}
 use Rattle.reader.specs.Parse.{Means, Takes, EndTaken, is_end}
@@ -25,9 +22,9 @@ pub end_token : (bytes : List ℕ) (p : TextPlace) (t : Token) (c : Reader) (x :
 end_token bytes p t c x r e h fs parse reads m means = rw (end_means e means) (h fs parse reads)
 
 -- a token of any other variant
-pub not_end : (t : Token) → OneOf (0 ∷ 1 ∷ 2 ∷ 3 ∷ []) (tag_of declared.the_type t) → is_end t ≡ false
+pub not_end : (t : Token) → (t ≡ tokens.End → ⊥) → is_end t ≡ false
 not_end tokens.Name h = refl
 not_end (tokens.Word w) h = refl
 not_end (tokens.Number g v o) h = refl
 not_end (tokens.Mark b) h = refl
-not_end tokens.End h = absurd (miss (0 ∷ 1 ∷ 2 ∷ 3 ∷ []) 4 tt h)
+not_end tokens.End h = absurd (h refl)

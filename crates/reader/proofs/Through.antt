@@ -11,7 +11,7 @@ use borrow.Author.Tests.{lt-ltb, le-ltb}
 use borrow.Rule.Slice.PartMut.{mid_of, put_mid}
 use Rattle.language.specs.Answers.{zeros}
 use Rattle.language.specs.Programs.{Func, max_functions, max_text, max_name}
-use Rattle.language.specs.Table.{function_at, function_length, table_length, cells}
+use Rattle.language.specs.Table.{function_at, function_length, table_length}
 use Rattle.language.specs.Tokens.{Lexer as Lexerᴸ, lexer₀, tokens_from, tokens_of}
 use Rattle.language.specs.Grammar.{Stage}
 use Rattle.language.specs.Reading.{Parse, Reading, fresh, take_token, parse₀, finish, read}
