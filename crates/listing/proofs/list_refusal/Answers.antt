@@ -1,0 +1,23 @@
+-- `listing::list_refusal`: the word, the number, the place.
+use mathlib.Core.Path.{refl, ap, ◌∙◌}
+use native.Mathlib.Omega.{arith}
+use lib.ListN.{length, length-set}
+use lib.Seq.{length-sets}
+use Rattle.language.specs.Bytes.{bytes_of, line_feed}
+use Rattle.decimal.proofs.Writings.{written_then, written_one, written_bytes, written_length}
+use Rattle.listing.proofs.Lines.{refusal_parts}
+use Rattle.listing.proofs.list_refusal.Goals as goal
+
+pub shape_of-out : goal.shape_of-out
+shape_of-out c =
+    simp length-set
+    (written_length c.put_field-f.ensures.0 ∙ written_length c.put_field-e.ensures.0 ∙ ap length c.put_bytes.ensures ∙ simp length-sets)
+
+pub returns : goal.returns
+returns c =
+    let args = c.args in (
+      rw (refusal_parts args.number args.place)
+          (written_then (written_then (written_then (written_bytes 0 (bytes_of "refused") c.put_bytes.ensures) c.put_field-e.ensures.0) c.put_field-f.ensures.0)
+          (written_one _ _ {c = line_feed} refl)),
+      omega (arith, c.put_field-e.ensures.1, c.put_field-f.ensures.1),
+    )
