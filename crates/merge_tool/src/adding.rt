@@ -3,10 +3,12 @@
 use crate::files::say_unread;
 use crate::says::{say_empty, say_line};
 use decimal::LINE_FEED;
-use loading::upto;
+use loading::{file_name, upto};
 use merge::merge_records;
 use merge_lines::{Line, line_numbers};
-use std::num::wrapping_add_u64;
+use std::io::{Error, Print, Read};
+use std::rt::Files;
+use std::{fs, io};
 
 // The most bytes of a line, and the bytes of one read.
 const LINE: usize = 256;
@@ -93,16 +95,22 @@ fn numbers_of(line: &[u8], kept: usize) -> Line {
 }
 
 // A line has ended: its numbers wait, or it is told.
-fn take_line(p: Progress, line: &[u8], numbers: &mut [u64], path: &[u8]) -> Progress {
+fn take_line(
+    err: &impl Print,
+    p: Progress,
+    line: &[u8],
+    numbers: &mut [u64],
+    path: &[u8],
+) -> Progress {
     let mut q = p;
-    q.lines = wrapping_add_u64(p.lines, 1);
+    q.lines = p.lines.wrapping_add(1);
     q.kept = 0;
     let Line::Numbers(appliance, time, tablet, reading) = numbers_of(line, p.kept) else {
-        say_line(path, q.lines);
+        say_line(err, path, q.lines);
         return q;
     };
     q.waiting = keep_numbers(numbers, p.waiting, appliance, time, tablet, reading);
-    q.records = wrapping_add_u64(p.records, 1);
+    q.records = p.records.wrapping_add(1);
     q
 }
 
@@ -116,9 +124,16 @@ fn keep_byte(b: u8, kept: usize, line: &mut [u8]) -> usize {
 }
 
 // One byte of the file.
-fn take_byte(b: u8, p: Progress, line: &mut [u8], numbers: &mut [u64], path: &[u8]) -> Progress {
+fn take_byte(
+    err: &impl Print,
+    b: u8,
+    p: Progress,
+    line: &mut [u8],
+    numbers: &mut [u64],
+    path: &[u8],
+) -> Progress {
     if b == LINE_FEED {
-        return take_line(p, line, numbers, path);
+        return take_line(err, p, line, numbers, path);
     }
     let mut q = p;
     q.kept = keep_byte(b, p.kept, line);
@@ -127,6 +142,7 @@ fn take_byte(b: u8, p: Progress, line: &mut [u8], numbers: &mut [u64], path: &[u
 
 // Some bytes of the file.
 fn take_bytes(
+    err: &impl Print,
     s: &[u8],
     p: Progress,
     line: &mut [u8],
@@ -136,34 +152,43 @@ fn take_bytes(
     let mut q = p;
     let mut i = 0;
     while i < s.len() {
-        q = take_byte(s[i], q, line, numbers, path);
+        q = take_byte(err, s[i], q, line, numbers, path);
         i += 1;
     }
     q
 }
 
 // The end of the file: a last LF ends the last line and begins none.
-fn take_end(p: Progress, line: &[u8], numbers: &mut [u64], path: &[u8]) -> Progress {
+fn take_end(
+    err: &impl Print,
+    p: Progress,
+    line: &[u8],
+    numbers: &mut [u64],
+    path: &[u8],
+) -> Progress {
     let mut q = p;
     q.state = ENDED;
     if p.kept == 0 {
         return q;
     }
-    take_line(q, line, numbers, path)
+    take_line(err, q, line, numbers, path)
 }
 
 // One read of the file.
-fn read_some(fd: i32, p: Progress, line: &mut [u8], numbers: &mut [u64], path: &[u8]) -> Progress {
+fn read_some<R: Read>(
+    file: &mut R,
+    err: &impl Print,
+    p: Progress,
+    line: &mut [u8],
+    numbers: &mut [u64],
+    path: &[u8],
+) -> io::Result<Progress> {
     let mut s = [0u8; CHUNK];
-    let got = libc::read(fd, &mut s);
-    if got < 0 {
-        return begun(UNREAD);
+    let n = file.read(&mut s)?;
+    if n == 0 {
+        return Ok(take_end(err, p, line, numbers, path));
     }
-    if got == 0 {
-        return take_end(p, line, numbers, path);
-    }
-    let n = io::count(got, &s);
-    take_bytes(&s[..n], p, line, numbers, path)
+    Ok(take_bytes(err, &s[..n], p, line, numbers, path))
 }
 
 // Merges the numbers that wait. After a refusal nothing more is merged: the first one stays.
@@ -189,51 +214,71 @@ fn merge_waiting(
 }
 
 // The whole file. A proved loop has to end, and nothing says that a file does: the turns are as many as no run uses up.
-fn read_all(
-    fd: i32,
+fn read_all<R: Read>(
+    file: &mut R,
+    err: &impl Print,
     line: &mut [u8],
     numbers: &mut [u64],
     store: &mut [u8],
     t: &[u8],
     limit: Limit,
     path: &[u8],
-) -> Progress {
+) -> io::Result<Progress> {
     let mut p = begun(MORE);
     let mut turns = u64::MAX;
     while turns > 0 {
-        let q = read_some(fd, p, line, numbers, path);
+        let q = read_some(file, err, p, line, numbers, path)?;
         p = merge_waiting(q, numbers, store, t, limit);
         if p.state != MORE {
-            return p;
+            return Ok(p);
         }
         turns -= 1;
     }
-    p
+    Err(Error::other("The file does not end"))
 }
 
-// The same with room for a line and for numbers.
-fn merge_open(fd: i32, store: &mut [u8], t: &[u8], limit: Limit, path: &[u8]) -> Progress {
+// The same from a name on, with room for a line and for numbers.
+fn merge_open(
+    rt: &impl Files,
+    err: &impl Print,
+    store: &mut [u8],
+    t: &[u8],
+    limit: Limit,
+    path: &[u8],
+) -> io::Result<Progress> {
+    let mut file = fs::open(rt, file_name(path)?)?;
     let mut line = [0u8; LINE];
     let mut numbers = [0u64; NUMBERS];
-    read_all(fd, &mut line, &mut numbers, store, t, limit, path)
+    read_all(
+        &mut file,
+        err,
+        &mut line,
+        &mut numbers,
+        store,
+        t,
+        limit,
+        path,
+    )
 }
 
 // Merges the records of a file.
-pub(crate) fn merge_file(path: &[u8], store: &mut [u8], t: &[u8], limit: Limit) -> Progress {
+pub(crate) fn merge_file(
+    rt: &impl Files,
+    err: &impl Print,
+    path: &[u8],
+    store: &mut [u8],
+    t: &[u8],
+    limit: Limit,
+) -> Progress {
     if path.len() == 0 {
-        say_empty();
+        say_empty(err);
         return begun(UNREAD);
     }
-    let fd = os::open_read(path);
-    if fd < 0 {
-        say_unread(path);
-        return begun(UNREAD);
+    match merge_open(rt, err, store, t, limit, path) {
+        Ok(p) => p,
+        Err(why) => {
+            say_unread(err, path, why);
+            begun(UNREAD)
+        }
     }
-    let p = merge_open(fd, store, t, limit, path);
-    if p.state != ENDED {
-        say_unread(path);
-        return p;
-    }
-    libc::close(fd);
-    p
 }

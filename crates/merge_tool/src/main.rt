@@ -17,11 +17,16 @@ use check::same;
 use decimal::Bits;
 use files::{load_file, load_store, replace};
 use ial::{MAX_TEXT, TABLE_LENGTH, ial_read, types};
-use loading::upto;
+use loading::{file_name, upto, word, word_count};
 use merge::{Look, merge_empty, merge_look, merge_nth, merge_records, merge_store};
 use merge_lines::{RECORD_MOST, number, put_record};
 use records::{CAPACITY, Record, STORE_LENGTH};
 use says::{answer, answer_merged, refuse, say_appliance, say_budget, say_of, say_wrong};
+use std::env::Env;
+use std::fs;
+use std::io::Print;
+use std::random::RandomSource;
+use std::rt::Files;
 
 // One byte more than a text may have.
 const TEXT: usize = MAX_TEXT + 1;
@@ -32,11 +37,19 @@ const LINES: usize = CAPACITY * RECORD_MOST;
 // The longest word that Linux hands to a program, its end included: no word is cut.
 const WORD: usize = 131072;
 
+// Whether a file can be opened.
+fn is_there(rt: &impl Files, path: &[u8]) -> bool {
+    match file_name(path) {
+        Ok(name) => fs::open(rt, name).is_ok(),
+        Err(_) => false,
+    }
+}
+
 // `new STORE`: an empty store, where no file has that name.
-fn new(path: &[u8]) {
-    let fd = os::open_read(path);
-    if fd >= 0 {
+fn new(rt: &(impl Files + RandomSource), err: &impl Print, path: &[u8]) {
+    if is_there(rt, path) {
         say_of(
+            err,
             b"merge: ",
             path,
             b" is there already; name another file, or remove that one first\n",
@@ -45,102 +58,127 @@ fn new(path: &[u8]) {
     }
     let mut store = [0u8; STORE_LENGTH];
     merge_empty(&mut store);
-    replace(path, &store);
+    replace(rt, err, path, &store);
 }
 
 // Reads the text of a file into a table, or prints its refusal.
-fn load_table(path: &[u8], t: &mut [u8]) -> bool {
+fn load_table(rt: &(impl Files + Print), err: &impl Print, path: &[u8], t: &mut [u8]) -> bool {
     let mut text = [0u8; TEXT];
-    let n = load_file(path, &mut text);
+    let n = load_file(rt, err, path, &mut text);
     if TEXT < n {
         return false;
     }
     let a = ial_read(upto(&text, n), t);
     if a.number != 0 {
-        refuse(a.number, a.place);
+        refuse(rt, err, a.number, a.place);
         return false;
     }
     true
 }
 
 // Merges the records of a file into a store and replaces its file, or prints the refusal. That of the function comes before the file is looked at.
-fn add_records(path: &[u8], store: &mut [u8], t: &[u8], limit: Limit, records: &[u8]) {
+fn add_records(
+    rt: &(impl Files + Print + RandomSource),
+    err: &impl Print,
+    path: &[u8],
+    store: &mut [u8],
+    t: &[u8],
+    limit: Limit,
+    records: &[u8],
+) {
     let m = merge_records(store, t, limit.function, limit.budget, &[]);
     if m.number != 0 {
-        refuse(m.number, m.place);
+        refuse(rt, err, m.number, m.place);
         return;
     }
-    let p = merge_file(records, store, t, limit);
+    let p = merge_file(rt, err, records, store, t, limit);
     if !all_good(p) {
         return;
     }
     if p.number != 0 {
-        refuse(p.number, 0);
+        refuse(rt, err, p.number, 0);
         return;
     }
-    if replace(path, store) {
-        answer_merged(p.records);
+    if replace(rt, err, path, store) {
+        answer_merged(rt, err, p.records);
     }
 }
 
 // The same with the last words.
-fn add_by(path: &[u8], store: &mut [u8], t: &[u8], budget: u64) {
-    let mut word = [0u8; WORD];
-    let n = os::arg(4, &mut word);
+fn add_by(
+    rt: &(impl Files + Print + Env + RandomSource),
+    err: &impl Print,
+    path: &[u8],
+    store: &mut [u8],
+    t: &[u8],
+    budget: u64,
+) {
+    let mut name = [0u8; WORD];
+    let n = word(rt, 4, &mut name);
     let limit = Limit {
-        function: function_in(t, &word[..n]),
+        function: function_in(t, &name[..n]),
         budget,
     };
     let mut records = [0u8; WORD];
-    let k = os::arg(6, &mut records);
-    add_records(path, store, t, limit, &records[..k]);
+    let k = word(rt, 6, &mut records);
+    add_records(rt, err, path, store, t, limit, &records[..k]);
 }
 
 // `add STORE FILE FUNCTION BUDGET RECORDS`, once the budget is read.
-fn add_within(path: &[u8], budget: u64) {
+fn add_within(
+    rt: &(impl Files + Print + Env + RandomSource),
+    err: &impl Print,
+    path: &[u8],
+    budget: u64,
+) {
     let mut store = [0u8; STORE_LENGTH];
-    if !load_store(path, &mut store) {
+    if !load_store(rt, err, path, &mut store) {
         return;
     }
     let mut file = [0u8; WORD];
-    let n = os::arg(3, &mut file);
+    let n = word(rt, 3, &mut file);
     let mut t = [0u8; TABLE_LENGTH];
-    if !load_table(&file[..n], &mut t) {
+    if !load_table(rt, err, &file[..n], &mut t) {
         return;
     }
-    add_by(path, &mut store, &t, budget);
+    add_by(rt, err, path, &mut store, &t, budget);
 }
 
-fn add(path: &[u8]) {
-    let mut word = [0u8; WORD];
-    let n = os::arg(5, &mut word);
-    match read_budget(&word[..n]) {
-        Budget::Wrong => say_budget(),
-        Budget::Steps(most) => add_within(path, most),
+fn add(rt: &(impl Files + Print + Env + RandomSource), err: &impl Print, path: &[u8]) {
+    let mut budget = [0u8; WORD];
+    let n = word(rt, 5, &mut budget);
+    match read_budget(&budget[..n]) {
+        Budget::Wrong => say_budget(err),
+        Budget::Steps(most) => add_within(rt, err, path, most),
     }
 }
 
 // Merges the store that word i names into a store, or says why not.
-fn join_one(i: usize, store: &mut [u8]) -> bool {
-    let mut word = [0u8; WORD];
-    let n = os::arg(i, &mut word);
+fn join_one(rt: &(impl Files + Print + Env), err: &impl Print, i: usize, store: &mut [u8]) -> bool {
+    let mut path = [0u8; WORD];
+    let n = word(rt, i, &mut path);
     let mut other = [0u8; STORE_LENGTH];
-    if !load_store(&word[..n], &mut other) {
+    if !load_store(rt, err, &path[..n], &mut other) {
         return false;
     }
     let m = merge_store(store, &other);
     if m.number != 0 {
-        refuse(m.number, m.place);
+        refuse(rt, err, m.number, m.place);
         return false;
     }
     true
 }
 
 // The same for all of them.
-fn join_all(words: usize, store: &mut [u8]) -> bool {
+fn join_all(
+    rt: &(impl Files + Print + Env),
+    err: &impl Print,
+    words: usize,
+    store: &mut [u8],
+) -> bool {
     let mut i = 3;
     while i < words {
-        if !join_one(i, store) {
+        if !join_one(rt, err, i, store) {
             return false;
         }
         i += 1;
@@ -149,19 +187,19 @@ fn join_all(words: usize, store: &mut [u8]) -> bool {
 }
 
 // `join STORE OTHER..`
-fn join(path: &[u8], words: usize)
+fn join(rt: &(impl Files + Print + Env + RandomSource), err: &impl Print, path: &[u8], words: usize)
     requires { 4 ≤ words }
 {
     let others = words - 3;
     let mut store = [0u8; STORE_LENGTH];
-    if !load_store(path, &mut store) {
+    if !load_store(rt, err, path, &mut store) {
         return;
     }
-    if !join_all(words, &mut store) {
+    if !join_all(rt, err, words, &mut store) {
         return;
     }
-    if replace(path, &store) {
-        answer_merged(others as u64);
+    if replace(rt, err, path, &store) {
+        answer_merged(rt, err, others as u64);
     }
 }
 
@@ -195,71 +233,78 @@ fn put_records(store: &[u8], out: &mut [u8]) -> usize
 }
 
 // `show STORE`
-fn show(path: &[u8]) {
+fn show(rt: &(impl Files + Print), err: &impl Print, path: &[u8]) {
     let mut store = [0u8; STORE_LENGTH];
-    if !load_store(path, &mut store) {
+    if !load_store(rt, err, path, &mut store) {
         return;
     }
     let mut out = [0u8; LINES];
     let n = put_records(&store, &mut out);
-    answer(upto(&out, n));
+    answer(rt, err, upto(&out, n));
 }
 
 // The line of one appliance, or `none`.
-fn show_one(path: &[u8], appliance: u64) {
+fn show_one(rt: &(impl Files + Print), err: &impl Print, path: &[u8], appliance: u64) {
     let mut store = [0u8; STORE_LENGTH];
-    if !load_store(path, &mut store) {
+    if !load_store(rt, err, path, &mut store) {
         return;
     }
     let l = merge_look(&store, appliance);
     if l.found == 0 {
-        answer(b"none\n");
+        answer(rt, err, b"none\n");
         return;
     }
     let mut out = [0u8; RECORD_MOST];
     let n = put_record(record_of(l), &mut out, 0);
-    answer(upto(&out, n));
+    answer(rt, err, upto(&out, n));
 }
 
 // `show STORE APPLIANCE`
-fn show_word(path: &[u8]) {
-    let mut word = [0u8; WORD];
-    let n = os::arg(3, &mut word);
-    match number(types::UINT64, &word[..n]) {
-        Bits::Outside => say_appliance(),
-        Bits::Fits(appliance) => show_one(path, appliance),
+fn show_word(rt: &(impl Files + Print + Env), err: &impl Print, path: &[u8]) {
+    let mut appliance = [0u8; WORD];
+    let n = word(rt, 3, &mut appliance);
+    match number(types::UINT64, &appliance[..n]) {
+        Bits::Outside => say_appliance(err),
+        Bits::Fits(appliance) => show_one(rt, err, path, appliance),
     }
 }
 
 // A command on a store, by how many words there are.
-fn call(command: &[u8], path: &[u8], words: usize) {
+fn call(
+    rt: &(impl Files + Print + Env + RandomSource),
+    err: &impl Print,
+    command: &[u8],
+    path: &[u8],
+    words: usize,
+) {
     if words == 3 && same(command, b"new") {
-        new(path);
+        new(rt, err, path);
         return;
     }
     if words == 3 && same(command, b"show") {
-        show(path);
+        show(rt, err, path);
         return;
     }
     if words == 4 && same(command, b"show") {
-        show_word(path);
+        show_word(rt, err, path);
         return;
     }
     if words == 7 && same(command, b"add") {
-        add(path);
+        add(rt, err, path);
         return;
     }
     if 4 <= words && same(command, b"join") {
-        join(path, words);
+        join(rt, err, path, words);
         return;
     }
-    say_wrong();
+    say_wrong(err);
 }
 
-fn main() {
+fn main(rt: HostRuntime) {
+    let err = rt.stderr();
     let mut command = [0u8; 16];
-    let n = os::arg(1, &mut command);
+    let n = word(&rt, 1, &mut command);
     let mut path = [0u8; WORD];
-    let k = os::arg(2, &mut path);
-    call(&command[..n], &path[..k], os::arg_count());
+    let k = word(&rt, 2, &mut path);
+    call(&rt, &err, &command[..n], &path[..k], word_count(&rt));
 }
