@@ -10,6 +10,8 @@ mod scripts;
 mod tables;
 
 use scripts::script;
+use std::io::Print;
+use std::rt::Files;
 
 // The script of vector i.
 fn path(i: usize) -> [u8; 9] {
@@ -19,28 +21,28 @@ fn path(i: usize) -> [u8; 9] {
     [48, d, e, f, 46, 99, 97, 115, 101]
 }
 
-fn vectors() {
+fn vectors(rt: &(impl Files + Print)) {
     let mut i = 0;
     while i < 320 {
-        script(&path(i));
+        script(rt, &path(i));
         i += 1;
     }
 }
 
-fn main() {
-    vectors();
-    script(b"papers.case");
-    script(b"runs.case");
-    script(b"translations.case");
-    script(b"translated_sizes.case");
-    script(b"sizes.case");
-    script(b"texts.case");
-    script(b"faults.case");
-    script(b"names.case");
-    script(b"texts_written.case");
-    script(b"limits_written.case");
-    script(b"vectors_named_0.case");
-    script(b"vectors_named_1.case");
-    script(b"vectors_written_0.case");
-    script(b"vectors_written_1.case");
+fn main(rt: HostRuntime) {
+    vectors(&rt);
+    script(&rt, b"papers.case");
+    script(&rt, b"runs.case");
+    script(&rt, b"translations.case");
+    script(&rt, b"translated_sizes.case");
+    script(&rt, b"sizes.case");
+    script(&rt, b"texts.case");
+    script(&rt, b"faults.case");
+    script(&rt, b"names.case");
+    script(&rt, b"texts_written.case");
+    script(&rt, b"limits_written.case");
+    script(&rt, b"vectors_named_0.case");
+    script(&rt, b"vectors_named_1.case");
+    script(&rt, b"vectors_written_0.case");
+    script(&rt, b"vectors_written_1.case");
 }

@@ -2,6 +2,7 @@
 ghost use Rattle.std.specs.Prelude.{◌<◌};
 
 use crate::files::{say, say_number};
+use std::io::Print;
 
 // A cell more than a table has.
 pub const ROOM: usize = table::TABLE_LENGTH + 1;
@@ -51,15 +52,15 @@ fn differing(out: &[u8], want: &[u8]) -> usize {
 }
 
 // Whether the output has these cells, and 0 in all others.
-pub(crate) fn compare(out: &[u8], cells: &[u8]) {
+pub(crate) fn compare(rt: &impl Print, out: &[u8], cells: &[u8]) {
     let mut want = [0u8; ROOM];
     put_cells(&mut want, cells);
     let k = differing(out, &want);
     if k == out.len() {
-        say(b", cells right\n");
+        say(rt, b", cells right\n");
     } else {
-        say_number(b", cells differ at ", k as u64);
-        say(b"\n");
+        say_number(rt, b", cells differ at ", k as u64);
+        say(rt, b"\n");
     }
 }
 
@@ -83,13 +84,13 @@ fn byte_or_zero(s: &[u8], k: usize) -> u8 {
 }
 
 // Whether the bytes lent hold this text, and 0 past it.
-pub(crate) fn compare_text(page: &[u8], want: &[u8]) {
+pub(crate) fn compare_text(rt: &impl Print, page: &[u8], want: &[u8]) {
     let k = differing_text(page, want);
     if k == page.len() {
-        say(b", text right\n");
+        say(rt, b", text right\n");
     } else {
-        say_number(b", text differs at ", k as u64);
-        say(b"\n");
+        say_number(rt, b", text differs at ", k as u64);
+        say(rt, b"\n");
     }
 }
 
