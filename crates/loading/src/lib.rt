@@ -1,7 +1,9 @@
 // What a program is given: the words of its call, and the bytes of a file, for programs that hold a file whole; and why a file or a stream fails.
 #![tactic(auto)]
 
-ghost use Rattle.std.specs.Prelude.{◌≡◌, ◌≤◌, IfOk, length, take};
+ghost use Rattle.std.specs.Prelude.{◌≡◌, ◌↔◌, ◌≤◌, IfOk, IfErr, IsOk, OnErr, length, take};
+ghost use Rattle.std.specs.Str.{IsUtf8};
+ghost use Rattle.std.specs.IoError.{error_kind};
 
 mod why;
 mod words;
@@ -39,7 +41,9 @@ fn read_all<R: Read>(file: &mut R, room: &mut [u8]) -> io::Result<usize>
 
 // A file's name as text, as std opens files by.
 pub fn file_name(path: &[u8]) -> io::Result<&str>
-    ensures { IfOk result (λ name. name.now ≡ path.now) }
+    ensures ok { IfOk result (λ name. name.now ≡ path.now) }
+    ensures utf8 { IsOk result ↔ IsUtf8 path.now }
+    ensures err { IfErr result (λ e. error_kind e ≡ ErrorKind.InvalidInput) }
 {
     match str::from_utf8(path) {
         Ok(name) => Ok(name),
@@ -47,10 +51,12 @@ pub fn file_name(path: &[u8]) -> io::Result<&str>
     }
 }
 
-// The bytes of a file, as many as there is room for, and how many they are; or why it cannot be read to its end or to that of the room.
+// The bytes of a file, as many as there is room for, and how many they are; or why it cannot be read to its end or to that of the room: then
+// the room is as long as before, and may hold any bytes.
 pub fn load<R: Files>(files: &R, path: &[u8], room: &mut [u8]) -> io::Result<usize>
     requires { length room.old ≤ 65537 }
-    ensures { IfOk result (λ n. n ≤ length room.old) }
+    ensures ok { IfOk result (λ n. n ≤ length room.old) }
+    ensures err { OnErr result (length room.new ≡ length room.old) }
 {
     let mut file = fs::open(files, file_name(path)?)?;
     read_all(&mut file, room)
