@@ -1,0 +1,9 @@
+-- `ial::c::ial_translate` passes on what `translate` answers.
+use mathlib.Core.Path.{◌∙◌, ap}
+use Rattle.language.specs.Answers.{Filled, verdict_numbers}
+use Rattle.ial.proofs.c.ial_translate.Goals as goal
+
+pub returns : goal.returns
+returns c =
+    let e = c.translate.ensures in
+    (c.verdict_numbers.ensures ∙ ap (λ (x : Filled). verdict_numbers x.answer) e, ap (λ (x : Filled). x.table) e)

@@ -1,0 +1,12 @@
+-- The loop's invariant: the types passed are as asked for.
+use mathlib.Core.Path.{◌≡◌}
+use Prim.Native.Nat.{ℕ, ◌-◌, ◌≤◌, ◌<◌}
+use lib.ListN.{length, get_or}
+use Rattle.language.specs.Table.{register_type}
+use Rattle.ial.proofs.signature.has_types.Given as goal
+
+abbrev pub invariant-loop-i : goal.invariant-loop-i
+invariant-loop-i l = (l.i ≤ length l.types) × ((k : ℕ) → k < l.i → register_type l.t l.a k ≡ get_or l.types k 0)
+
+abbrev pub decreases-loop-i : goal.decreases-loop-i
+decreases-loop-i l = length l.types - l.i
