@@ -1,0 +1,37 @@
+-- `list_text`: the refusal of the text, or the lines of its program.
+use mathlib.Core.Path.{sym, ◌∙◌}
+use Prim.Native.Nat.{ℕ}
+use native.Mathlib.Omega.{arith}
+use lib.ListN.{length-replicate}
+use Rattle.language.specs.Table.{table_length}
+use Rattle.language.specs.Listing.{listing_of}
+use Rattle.theorems.proofs.AcceptanceCheck.{accepted_program}
+use Rattle.calling.proofs.AcceptingLaws.{printed_refused, printed_accepted, listing_line}
+use Rattle.calling.proofs.listings.list_text.Goals as goal
+
+pub accept-requires : goal.accept-requires
+accept-requires c = length-replicate {A = ℕ} table_length 0
+
+pub list_refusal-requires : goal.list_refusal-requires
+list_refusal-requires c = omega arith
+
+pub slice_bounds-list_program-end : goal.slice_bounds-list_program-end
+slice_bounds-list_program-end c = sym c.t-2-1.given
+
+pub list_program-requires : goal.list_program-requires
+list_program-requires c =
+    (c.t-2-1.given, accepted_program _ (c.accept.ensures.passes c.in-Accepted.is), c.requires)
+
+pub shape_of-out-in-Refused : goal.shape_of-out-in-Refused
+shape_of-out-in-Refused c = c.list_refusal.auto.out
+
+pub returns-in-Refused : goal.returns-in-Refused
+returns-in-Refused c =
+    (rw (listing_line c.args.text.now ∙ printed_refused listing_of c.accept.ensures c.in-Refused.is) c.list_refusal.ensures.0, omega (arith, c.list_refusal.ensures.1))
+
+pub shape_of-out-in-Accepted : goal.shape_of-out-in-Accepted
+shape_of-out-in-Accepted c = c.list_program.auto.out
+
+pub returns-in-Accepted : goal.returns-in-Accepted
+returns-in-Accepted c =
+    (rw (listing_line c.args.text.now ∙ printed_accepted listing_of c.accept.ensures c.in-Accepted.is) c.list_program.ensures.0, c.list_program.ensures.1)

@@ -1,0 +1,45 @@
+-- `run_text`: the refusal of the text, or the line of the run.
+use mathlib.Core.Path.{sym}
+use mathlib.Core.List.{List}
+use Prim.Native.Nat.{ℕ}
+use native.Mathlib.Omega.{arith}
+use lib.ListN.{length-replicate}
+use Rattle.language.specs.Programs.{Program}
+use Rattle.language.specs.Table.{table_length}
+use Rattle.call_words.specs.Arguments.{given_of}
+use Rattle.calling.specs.Calls.{run_line, run_printed}
+use Rattle.calling.proofs.AcceptingLaws.{printed_refused, printed_accepted}
+use Rattle.calling.proofs.runs.run_text.Goals as goal
+
+pub accept-requires : goal.accept-requires
+accept-requires c = length-replicate {A = ℕ} table_length 0
+
+pub list_refusal-requires : goal.list_refusal-requires
+list_refusal-requires c = omega arith
+
+pub slice_bounds-run_checked-end : goal.slice_bounds-run_checked-end
+slice_bounds-run_checked-end c = sym c.t-2-1.given
+
+pub run_checked-requires : goal.run_checked-requires
+run_checked-requires c =
+    record { t_value = c.accept.ensures.passes c.in-Accepted.is; signs_len = c.requires }
+
+pub shape_of-out-in-Refused : goal.shape_of-out-in-Refused
+shape_of-out-in-Refused c = c.list_refusal.auto.out
+
+pub returns-in-Refused : goal.returns-in-Refused
+unfolding run_printed
+returns-in-Refused c =
+    let x = c.args in
+    let line : Program → List ℕ = λ p. run_line p x.word.now (given_of x.count x.signs.now x.magnitudes.now) x.budget in
+    (rw (printed_refused line c.accept.ensures c.in-Refused.is) c.list_refusal.ensures.0, omega (arith, c.list_refusal.ensures.1))
+
+pub shape_of-out-in-Accepted : goal.shape_of-out-in-Accepted
+shape_of-out-in-Accepted c = c.run_checked.auto.out
+
+pub returns-in-Accepted : goal.returns-in-Accepted
+unfolding run_printed
+returns-in-Accepted c =
+    let x = c.args in
+    let line : Program → List ℕ = λ p. run_line p x.word.now (given_of x.count x.signs.now x.magnitudes.now) x.budget in
+    (rw (printed_accepted line c.accept.ensures c.in-Accepted.is) c.run_checked.ensures.0, c.run_checked.ensures.1)

@@ -1,0 +1,29 @@
+-- `translate_function`: the refusal, or the text of what the translation's table holds.
+use mathlib.Core.Path.{sym, ◌∙◌}
+use native.Mathlib.Omega.{arith}
+use Prim.Native.Nat.{ℕ}
+use lib.ListN.{length-replicate}
+use Rattle.language.specs.Table.{table_length}
+use Rattle.calling.proofs.TranslationLaws.{line_refused, line_translated, translated_accepted}
+use Rattle.calling.proofs.WrittenLaws.{prints_line}
+use Rattle.calling.proofs.translations.translate_function.Goals as goal
+
+pub list_refusal-requires : goal.list_refusal-requires
+list_refusal-requires c = omega arith
+
+pub slice_bounds-write_lines-end : goal.slice_bounds-write_lines-end
+slice_bounds-write_lines-end c = sym c.x-2-1.given
+
+pub write_lines-requires : goal.write_lines-requires
+write_lines-requires c =
+    record { t_value = translated_accepted c.args.t.now c.args.function c.requires.t_value c.translate.new.out c.translate.result (length-replicate {A = ℕ} table_length 0) c.translate.ensures c.in-Accepted.is; out_len = c.requires.out_len }
+
+pub returns-in-Refused : goal.returns-in-Refused
+returns-in-Refused c =
+    prints_line c.list_refusal.ensures.0 (omega (arith, c.list_refusal.ensures.1, c.requires.out_len))
+    ∙ sym (line_refused c.args.t.now c.args.function c.requires.t_value c.translate.new.out c.translate.result (length-replicate {A = ℕ} table_length 0) c.translate.ensures c.in-Refused.is)
+
+pub returns-in-Accepted : goal.returns-in-Accepted
+returns-in-Accepted c =
+    c.write_lines.ensures
+    ∙ sym (line_translated c.args.t.now c.args.function c.requires.t_value c.translate.new.out c.translate.result (length-replicate {A = ℕ} table_length 0) c.translate.ensures c.in-Accepted.is)

@@ -1,0 +1,46 @@
+-- `translate_text`: the refusal of the text, or the translation of the function that the word means.
+use mathlib.Core.Path.{sym, ◌∙◌}
+use Prim.Native.Nat.{ℕ}
+use native.Mathlib.Omega.{arith}
+use lib.ListN.{length-replicate}
+use Rattle.language.specs.Table.{table_length}
+use Rattle.calling.specs.Calls.{translate_line, translate_printed}
+use Rattle.calling.proofs.AcceptingLaws.{printed_refused, printed_accepted}
+use Rattle.calling.proofs.WrittenLaws.{prints_line}
+use Rattle.calling.proofs.translations.translate_text.Goals as goal
+
+pub accept-requires : goal.accept-requires
+accept-requires c = length-replicate {A = ℕ} table_length 0
+
+pub list_refusal-requires : goal.list_refusal-requires
+list_refusal-requires c = omega arith
+
+pub slice_bounds-translate_function-end : goal.slice_bounds-translate_function-end
+slice_bounds-translate_function-end c = sym c.t-2-1.given
+
+pub slice_bounds-function_number-end : goal.slice_bounds-function_number-end
+slice_bounds-function_number-end c = sym c.t-2-1.given
+
+pub function_number-requires : goal.function_number-requires
+function_number-requires c = c.accept.ensures.passes c.in-Accepted.is
+
+pub translate_function-requires : goal.translate_function-requires
+translate_function-requires c =
+    record { t_value = c.accept.ensures.passes c.in-Accepted.is; out_len = c.requires }
+
+pub shape_of-out-in-Refused : goal.shape_of-out-in-Refused
+shape_of-out-in-Refused c = c.list_refusal.auto.out
+
+pub returns-in-Refused : goal.returns-in-Refused
+unfolding translate_printed
+returns-in-Refused c =
+    prints_line c.list_refusal.ensures.0 (omega (arith, c.list_refusal.ensures.1, c.requires))
+    ∙ sym (printed_refused (λ p. translate_line p c.args.word.now) c.accept.ensures c.in-Refused.is)
+
+pub shape_of-out-in-Accepted : goal.shape_of-out-in-Accepted
+shape_of-out-in-Accepted c = c.translate_function.auto.out
+
+pub returns-in-Accepted : goal.returns-in-Accepted
+unfolding translate_printed translate_line
+returns-in-Accepted c =
+    rw (printed_accepted (λ p. translate_line p c.args.word.now) c.accept.ensures c.in-Accepted.is, sym c.function_number.ensures) c.translate_function.ensures
