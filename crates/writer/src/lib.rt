@@ -52,6 +52,6 @@ pub fn write_table(out: &mut [u8], t: &[u8]) -> usize
     requires { Checked t.now }
     ensures { page out.new result ≡ finished (puts (page out.old 0) (written (decode t.now))) }
 {
-    let at = put_table(out, 0, t);
-    zero_from(out, at)
+    let w = table(new(out), t);
+    finish(w)
 }
