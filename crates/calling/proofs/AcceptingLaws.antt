@@ -1,12 +1,12 @@
 -- A text that is read and checked, and what is printed of it: the refusal's line, or what is printed of its program. Assumes nothing.
 use mathlib.Core.Path.{◌≡◌, refl, sym, ap, ◌∙◌}
 use mathlib.Core.List.{List, [], ◌∷◌}
-use Prim.Native.Nat.{ℕ, zero, suc, ◌<◌}
+use Prim.Native.Nat.{ℕ, zero, suc, ◌+◌, ◌*◌, ◌≤◌, ◌<◌}
 use native.Mathlib.Omega.{arith}
 use lib.ListN.{length, get_or}
 use borrow.Author.Tests.{eq-eqb}
 use Rattle.laws.specs.Sections.{Bytes}
-use Rattle.language.specs.Programs.{Program}
+use Rattle.language.specs.Programs.{Program, max_text}
 use Rattle.language.specs.Table.{table_length, cells, decode}
 use Rattle.language.specs.Reading.{Reading, read}
 use Rattle.language.specs.Checking.{Verdict, check}
@@ -20,8 +20,20 @@ use Rattle.answers.specs.declared.Verdict.{Verdict as Verdictᶜ}
 use Rattle.answers.specs.declared.Verdict.TheVariants as verdicts
 use Rattle.answers.specs.Cases.{verdict_of}
 use Rattle.answers.specs.Lent.{filled_of}
+use Rattle.listing.specs.Lines.{listing_most}
+use Rattle.answer_lines.specs.Lines.{ran_most}
 use Rattle.calling.specs.Accepting.{acceptance, Accepts}
 use Rattle.calling.specs.Calls.{read_line}
+
+-- A refusal's line fits where a text does, a listing, or the line of a run.
+pub refusal_fits : {n : ℕ} → n ≡ max_text → 7 + 2 * 21 + 1 ≤ n
+refusal_fits e = omega arith
+
+pub refusal_listed : {n : ℕ} → listing_most ≤ n → 7 + 2 * 21 + 1 ≤ n
+refusal_listed h = omega arith
+
+pub refusal_ran : {n : ℕ} → ran_most ≤ n → 7 + 2 * 21 + 1 ≤ n
+refusal_ran h = omega arith
 
 -- The check of a table of the right length is its program's.
 pub table_check : (t : List ℕ) → length t ≡ table_length → check_answer t ≡ check (decode t)
@@ -85,6 +97,7 @@ module _ (text t : List ℕ) {n : ℕ} (count : n ≡ table_length) (v : Verdict
         by (Reading.program p) s (ReadInto.program _ h) =
             let held : Held p = table p (read_fits text b p s) in
             record { program = s ∙ ap Reading.program (sym (ap decode h ∙ held.back)); count = ap length h ∙ held.count }
+        by (Reading.refused number place) s x3 = elim x3 [ ]
 
     pub accepts_read : {w : Verdictᶜ} → verdict_of w ≡ check_answer t → Accepts text w t
     accepts_read c =

@@ -6,14 +6,17 @@ use lib.ListN.{length-replicate}
 use Rattle.language.specs.Table.{table_length}
 use Rattle.language.specs.Listing.{listing_of}
 use Rattle.theorems.proofs.AcceptanceCheck.{accepted_program}
-use Rattle.calling.proofs.AcceptingLaws.{printed_refused, printed_accepted, listing_line}
+use Rattle.calling.proofs.AcceptingLaws.{printed_refused, printed_accepted, listing_line, refusal_listed}
 use Rattle.calling.proofs.listings.list_text.Goals as goal
 
 pub accept-requires : goal.accept-requires
 accept-requires c = length-replicate {A = ℕ} table_length 0
 
+pub slice_bounds-accept-end : goal.slice_bounds-accept-end
+slice_bounds-accept-end c = sym (length-replicate {A = ℕ} table_length 0)
+
 pub list_refusal-requires : goal.list_refusal-requires
-list_refusal-requires c = omega arith
+list_refusal-requires c = refusal_listed c.requires
 
 pub slice_bounds-list_program-end : goal.slice_bounds-list_program-end
 slice_bounds-list_program-end c = sym c.t-2-1.given

@@ -8,14 +8,17 @@ use Rattle.language.specs.Programs.{Program}
 use Rattle.language.specs.Table.{table_length}
 use Rattle.call_words.specs.Arguments.{given_of}
 use Rattle.calling.specs.Calls.{run_line, run_printed}
-use Rattle.calling.proofs.AcceptingLaws.{printed_refused, printed_accepted}
+use Rattle.calling.proofs.AcceptingLaws.{printed_refused, printed_accepted, refusal_ran}
 use Rattle.calling.proofs.runs.run_text.Goals as goal
 
 pub accept-requires : goal.accept-requires
 accept-requires c = length-replicate {A = ℕ} table_length 0
 
+pub slice_bounds-accept-end : goal.slice_bounds-accept-end
+slice_bounds-accept-end c = sym (length-replicate {A = ℕ} table_length 0)
+
 pub list_refusal-requires : goal.list_refusal-requires
-list_refusal-requires c = omega arith
+list_refusal-requires c = refusal_ran c.requires.2
 
 pub slice_bounds-run_checked-end : goal.slice_bounds-run_checked-end
 slice_bounds-run_checked-end c = sym c.t-2-1.given

@@ -5,15 +5,18 @@ use native.Mathlib.Omega.{arith}
 use lib.ListN.{length-replicate}
 use Rattle.language.specs.Table.{table_length}
 use Rattle.calling.specs.Calls.{text_line, write_printed}
-use Rattle.calling.proofs.AcceptingLaws.{printed_refused, printed_accepted}
+use Rattle.calling.proofs.AcceptingLaws.{printed_refused, printed_accepted, refusal_fits}
 use Rattle.calling.proofs.WrittenLaws.{prints_line}
 use Rattle.calling.proofs.texts.write_text.Goals as goal
 
 pub accept-requires : goal.accept-requires
 accept-requires c = length-replicate {A = ℕ} table_length 0
 
+pub slice_bounds-accept-end : goal.slice_bounds-accept-end
+slice_bounds-accept-end c = sym (length-replicate {A = ℕ} table_length 0)
+
 pub list_refusal-requires : goal.list_refusal-requires
-list_refusal-requires c = omega arith
+list_refusal-requires c = refusal_fits c.requires
 
 pub slice_bounds-write_lines-end : goal.slice_bounds-write_lines-end
 slice_bounds-write_lines-end c = sym c.t-2-1.given

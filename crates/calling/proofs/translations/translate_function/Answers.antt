@@ -1,6 +1,7 @@
 -- `translate_function`: the refusal, or the text of what the translation's table holds.
 use mathlib.Core.Path.{sym, ◌∙◌}
 use native.Mathlib.Omega.{arith}
+use Rattle.calling.proofs.AcceptingLaws.{refusal_fits}
 use Prim.Native.Nat.{ℕ}
 use lib.ListN.{length-replicate}
 use Rattle.language.specs.Table.{table_length}
@@ -9,7 +10,7 @@ use Rattle.calling.proofs.WrittenLaws.{prints_line}
 use Rattle.calling.proofs.translations.translate_function.Goals as goal
 
 pub list_refusal-requires : goal.list_refusal-requires
-list_refusal-requires c = omega arith
+list_refusal-requires c = refusal_fits c.requires.out_len
 
 pub slice_bounds-write_lines-end : goal.slice_bounds-write_lines-end
 slice_bounds-write_lines-end c = sym c.x-2-1.given
@@ -27,3 +28,6 @@ pub returns-in-Accepted : goal.returns-in-Accepted
 returns-in-Accepted c =
     c.write_lines.ensures
     ∙ sym (line_translated c.args.t.now c.args.function c.requires.t_value c.translate.new.out c.translate.result (length-replicate {A = ℕ} table_length 0) c.translate.ensures c.in-Accepted.is)
+
+pub slice_bounds-translate-end : goal.slice_bounds-translate-end
+slice_bounds-translate-end c = sym (length-replicate {A = ℕ} table_length 0)

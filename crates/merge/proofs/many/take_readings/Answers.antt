@@ -1,7 +1,6 @@
 use native.Mathlib.Omega.{arith}
-use Prim.Native.Nat.{◌-◌}
 use mathlib.Core.Path.{refl}
-use lib.ListN.{length, length-set}
+use lib.ListN.{length-set}
 use Rattle.merge.proofs.Fours.{taken_more, taken_all}
 use Rattle.merge.proofs.many.take_readings.Goals as goal
 
