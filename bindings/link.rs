@@ -1,4 +1,4 @@
-//! The build script of both crates: links the verified library that a crate is over, which `rt staticlib NAME` writes to target/staticlib. IAL_LIB and
+//! The build script of both crates: links the verified library that a crate is over, which `tools/libraries` writes to target/staticlib. IAL_LIB and
 //! MERGE_LIB name another folder that holds libial.a or libmerge.a. A crate comes before those it uses, so libmerge.a before libial.a.
 use std::path::Path;
 

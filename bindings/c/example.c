@@ -1,5 +1,5 @@
 /* Reads a text, checks it, runs function 0 with a phi and, translated, without, and shows the translation as text.
- * From the project's root, after `rt staticlib ial`:
+ * From the project's root, after `tools/libraries ial`:
  *     cc -o example bindings/c/example.c target/staticlib/libial.a && ./example examples/turn.ial 7 9 2
  * Exit status: 0 both runs returned, 1 something was refused, 2 wrong words or a file that cannot be read, 3 a run stopped. */
 #include "ial.h"

@@ -1,4 +1,4 @@
-/* The verified IAL library for C. Link with libial.a, which `rt staticlib ial` writes to target/staticlib/.
+/* The verified IAL library for C. Link with libial.a, which `tools/libraries ial` writes to target/staticlib/.
  *
  * Every function takes any input: a text, a table, arguments, a budget and a buffer of any content and any length get an
  * answer. The only thing asked is C's own: each pointer leads to as many elements as the length beside it says, and lent

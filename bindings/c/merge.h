@@ -1,4 +1,4 @@
-/* The verified merge of test records for C. Link with libmerge.a, which `rt staticlib merge` writes to target/staticlib/; a program that also
+/* The verified merge of test records for C. Link with libmerge.a, which `tools/libraries merge` writes to target/staticlib/; a program that also
  * reads texts (ial.h) names libial.a after it.
  *
  * A record is an appliance's number, the test's time, the tablet's number, each below 2^64, and a reading, an int64 in two's

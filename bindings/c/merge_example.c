@@ -1,5 +1,5 @@
 /* The inspector's kettle: it passed at 09:30 and failed at 14:10, on two tablets. Whichever tablet is synced first, the fail counts.
- * From the project's root, after `rt staticlib ial` and `rt staticlib merge`:
+ * From the project's root, after `tools/libraries`:
  *     cc -o merge_example bindings/c/merge_example.c target/staticlib/libmerge.a target/staticlib/libial.a
  *     ./merge_example examples/limit.ial
  * Exit status: 0 all was merged, 1 something was refused, 2 wrong words or a file that cannot be read. */

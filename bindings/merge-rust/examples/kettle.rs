@@ -1,5 +1,5 @@
 //! The inspector's kettle: it passed at 09:30 and failed at 14:10, on two tablets. Whichever tablet is synced first, the fail counts.
-//! `cargo run -p merge --example kettle`, after `rt staticlib ial` and `rt staticlib merge` at the project's root.
+//! `cargo run -p merge --example kettle`, after `tools/libraries` at the project's root.
 
 use ial::Table;
 use merge::{Limit, Store, Test};

@@ -1,5 +1,5 @@
 //! The paper's `turn`, run with its phi and, translated, without; then the translation as text.
-//! `cargo run -p ial --example turn`, after `rt staticlib ial` at the project's root.
+//! `cargo run -p ial --example turn`, after `tools/libraries ial` at the project's root.
 
 use ial::{End, Refused, Table};
 
