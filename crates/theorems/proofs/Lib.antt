@@ -57,3 +57,4 @@ pub mod RoundTripTranslation
 pub mod TurnWritten
 pub mod Candidates
 pub mod Names
+pub mod Places

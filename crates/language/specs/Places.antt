@@ -1,0 +1,32 @@
+-- Line and column: where something stands in a text (document 02, A3). Assumes nothing.
+use Rattle.std.specs.Prelude.{cond, ℕ, ◌+◌, eqb, take}
+use mathlib.Core.List.{List, foldl}
+use Rattle.language.specs.Bytes.{line_feed}
+
+-- "line and column, both from 1"
+pub record TextPlace : Type 0 where
+  pub line : ℕ
+  pub column : ℕ
+
+abbrev pub at_line : (line column : ℕ) → TextPlace
+at_line l c = record { line = l; column = c }
+
+-- The first byte's, and the end's of a text of no bytes.
+abbrev pub first_place : TextPlace
+first_place = at_line 1 1
+
+-- Stands where there is none.
+abbrev pub no_place : TextPlace
+no_place = at_line 0 0
+
+-- "LF ends a line, every other byte is one column": the place after the byte b at p.
+unfoldable pub past : TextPlace → ℕ → TextPlace
+past p b = cond (eqb b line_feed) (at_line (p.line + 1) 1) (at_line p.line (p.column + 1))
+
+-- The place after bytes the first of which is at p.
+abbrev pub past_all : TextPlace → List ℕ → TextPlace
+past_all p bytes = foldl past p bytes
+
+-- The line and column of byte k of a text, counted from 0, or of its end, if k is its length.
+unfoldable pub place_in : List ℕ → ℕ → TextPlace
+place_in text k = past_all first_place (take k text)
