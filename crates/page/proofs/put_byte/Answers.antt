@@ -2,8 +2,5 @@
 use lib.Seq.{set_out}
 use Rattle.page.proofs.put_byte.Goals as goal
 
-pub returns-then-at-out : goal.returns-then-at-out
-returns-then-at-out c = rw c.after.ensures
-
 pub returns : goal.returns
 returns c = rw (c.after-2.ensures, set_out _ _ _ c.if-at-out.false)
