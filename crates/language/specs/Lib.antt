@@ -1,6 +1,6 @@
 -- The modules in document 01's order; then those of document 02's requests.
 pub mod Bytes
-pub mod Places
+pub mod LinePlaces
 pub mod Words
 pub mod Tokens
 pub mod Names

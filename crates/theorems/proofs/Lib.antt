@@ -57,4 +57,4 @@ pub mod RoundTripTranslation
 pub mod TurnWritten
 pub mod Candidates
 pub mod Names
-pub mod Places
+pub mod LinePlaces

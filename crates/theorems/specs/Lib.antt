@@ -11,4 +11,4 @@ pub mod Predecessors
 pub mod RoundTrip
 pub mod Candidates
 pub mod Names
-pub mod Places
+pub mod LinePlaces

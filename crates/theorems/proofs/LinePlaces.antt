@@ -12,8 +12,8 @@ use mir.Facts.{and_yes}
 use Rattle.laws.specs.Lists.{all, keep}
 use Rattle.laws.proofs.Gather.{keep_append}
 use Rattle.language.specs.Bytes.{line_feed}
-use Rattle.language.specs.Places.{TextPlace, at_line, first_place, past, past_all, place_in}
-use Rattle.theorems.specs.Places.{WholeLines, line_feeds, LineAndColumn}
+use Rattle.language.specs.LinePlaces.{LinePlace, at_line, first_place, past, past_all, line_place_in}
+use Rattle.theorems.specs.LinePlaces.{WholeLines, line_feeds, LineAndColumn}
 
 -- ---- the line and column of a byte
 
@@ -21,7 +21,7 @@ abbrev feed : ℕ → Bool
 feed b = eqb b line_feed
 
 -- the line counts LF
-line_past : (p : TextPlace) (b : ℕ) → (past p b).line ≡ p.line + line_feeds (b ∷ [])
+line_past : (p : LinePlace) (b : ℕ) → (past p b).line ≡ p.line + line_feeds (b ∷ [])
 unfolding past
 line_past p b = by (feed b)
   where
@@ -29,7 +29,7 @@ line_past p b = by (feed b)
     by true = refl
     by false = omega arith
 
-lines_counted : (bs : List ℕ) (p : TextPlace) → (past_all p bs).line ≡ p.line + line_feeds bs
+lines_counted : (bs : List ℕ) (p : LinePlace) → (past_all p bs).line ≡ p.line + line_feeds bs
 lines_counted [] p = omega arith
 lines_counted (b ∷ bs) p =
     let on = lines_counted bs (past p b) in
@@ -38,7 +38,7 @@ lines_counted (b ∷ bs) p =
     omega (arith, on, one, both)
 
 -- without LF only the column moves
-columns_counted : (bs : List ℕ) (p : TextPlace) → T (all (λ b. not (feed b)) bs) → past_all p bs ≡ at_line p.line (p.column + length bs)
+columns_counted : (bs : List ℕ) (p : LinePlace) → T (all (λ b. not (feed b)) bs) → past_all p bs ≡ at_line p.line (p.column + length bs)
 unfolding past
 columns_counted [] p h = ap (at_line p.line) (omega arith)
 columns_counted (b ∷ bs) p h =
@@ -57,15 +57,15 @@ behind_lines (WholeLines.ended bs) =
     let z : (past_all first_place bs).line + 1 ≡ 1 + line_feeds (bs ++ (line_feed ∷ [])) = omega (arith, counted, both) in
     foldl-append past first_place bs (line_feed ∷ []) ∙ ap (λ (n : ℕ). at_line n 1) z
 
-place_behind : (xs ys : List ℕ) → place_in (xs ++ ys) (length xs) ≡ past_all first_place xs
-unfolding place_in
+place_behind : (xs ys : List ℕ) → line_place_in (xs ++ ys) (length xs) ≡ past_all first_place xs
+unfolding line_place_in
 place_behind xs ys = ap (λ (zs : List ℕ). past_all first_place zs) (take-append_seam xs ys)
 
 pub line_and_column : LineAndColumn
 line_and_column above left rest w h =
     let k = length-append above left in
-    ap (λ (n : ℕ). place_in (above ++ left ++ rest) n) (sym k)
+    ap (λ (n : ℕ). line_place_in (above ++ left ++ rest) n) (sym k)
     ∙ place_behind (above ++ left) rest
     ∙ foldl-append past first_place above left
-    ∙ ap (λ (p : TextPlace). past_all p left) (behind_lines w)
+    ∙ ap (λ (p : LinePlace). past_all p left) (behind_lines w)
     ∙ columns_counted left (at_line (1 + line_feeds above) 1) h

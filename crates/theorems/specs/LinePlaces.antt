@@ -3,7 +3,7 @@
 use Rattle.std.specs.Prelude.{not, List, [], ◌∷◌, ◌++◌, ◌≡◌, ℕ, ◌+◌, T, eqb, length}
 use Rattle.laws.specs.Lists.{all, keep}
 use Rattle.language.specs.Bytes.{line_feed}
-use Rattle.language.specs.Places.{at_line, place_in}
+use Rattle.language.specs.LinePlaces.{at_line, line_place_in}
 
 -- ---- the line and column of a byte
 
@@ -20,4 +20,4 @@ line_feeds bytes = length (keep (λ b. eqb b line_feed) bytes)
 abbrev pub LineAndColumn : Type 0
 LineAndColumn =
     (above left rest : List ℕ) → WholeLines above → T (all (λ b. not (eqb b line_feed)) left)
-    → place_in (above ++ left ++ rest) (length above + length left) ≡ at_line (1 + line_feeds above) (1 + length left)
+    → line_place_in (above ++ left ++ rest) (length above + length left) ≡ at_line (1 + line_feeds above) (1 + length left)
