@@ -19,9 +19,6 @@ overflow_cast-b c = omega (arith, c.shared_slice_known-2-1.given c.name_end-end.
 pub bounds-classes-b : goal.bounds-classes-b
 bounds-classes-b c = (c.shared_slice_known-2-1.given c.name_end-end.result).fits
 
-pub returns-then-classes-b-lt-SPACE : goal.returns-then-classes-b-lt-SPACE
-returns-then-classes-b-lt-SPACE c h = absurd (omega (arith, h))
-
 pub returns : goal.returns
 returns c h =
     let a = c.args in
@@ -35,6 +32,6 @@ returns c h =
         run = f.run;
         short = omega (arith, f.within, (limit_within (length text) a.start (omega (arith, c.requires.start_in_bounds.0))).1);
         within = c.if-text-end.false;
-        ends = name_no a.classes.now (get_or text e 0) c.requires.start_in_bounds.1 (small e).fits c.if-classes-b-lt-SPACE.false;
+        ends = name_no a.classes.now (get_or text e 0) c.requires.start_in_bounds.1 (small e).fits (omega arith);
       },
     )

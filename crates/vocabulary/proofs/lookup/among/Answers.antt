@@ -16,8 +16,7 @@ pub loop-c-smaller : goal.loop-c-smaller
 loop-c-smaller c =
     let w = c.loop-c.c in
     let next = next_above w c.loop-c-test.true in
-    let e = c.next_candidate-c.ensures in
-    omega (arith, next.0, next.1, e)
+    omega (arith, next.0, next.1)
 
 pub loop-c-preserved : goal.loop-c-preserved
 loop-c-preserved c =
@@ -25,7 +24,9 @@ loop-c-preserved c =
     let later =
     found_later c.args.rest c.loop-c.c h
     (λ e. c.if-s-rest.false (c.spelling_of-s.ensures.2 ∙ e)) in
-    (rw c.next_candidate-c.ensures (next_above c.loop-c.c h).1, rw c.next_candidate-c.ensures later ∙ c.loop-c.invariant.1)
+    let next = next_above c.loop-c.c h in
+    let there = later ∙ c.loop-c.invariant.1 in
+    (omega (arith, next.1), grind arith)
 
 pub returns : goal.returns
 returns c =
