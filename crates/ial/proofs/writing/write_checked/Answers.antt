@@ -1,7 +1,5 @@
 -- `write_checked`: the place after the text tells whether it is too long, and whether it has room.
-use mathlib.Core.Path.{◌∙◌, ap}
 use native.Mathlib.Omega.{arith}
-use Rattle.language.specs.Answers.{zeros}
 use Rattle.language.specs.Table.{decode}
 use Rattle.language.specs.MadeNames.{written}
 use Rattle.theorems.proofs.AcceptanceCheck.{accepted_program}
@@ -16,14 +14,14 @@ write_table-n-requires c =
 pub returns-then-n-gt-MAX_TEXT : goal.returns-then-n-gt-MAX_TEXT
 returns-then-n-gt-MAX_TEXT c =
     let a = c.args in
-    show_long a.out.now (written (decode a.t.now)) c.write_table-n.ensures c.if-n-gt-MAX_TEXT.true (c.zero.ensures ∙ ap zeros c.write_table-n.auto.out)
+    show_long a.out.now (written (decode a.t.now)) c.write_table-n.ensures (omega arith) (grind arith)
 
 pub returns-then-out-n : goal.returns-then-out-n
 returns-then-out-n c =
     let a = c.args in
-    show_larger a.out.now (written (decode a.t.now)) c.write_table-n.ensures c.if-n-gt-MAX_TEXT.false (omega (arith, c.if-out-n.true, c.write_table-n.auto.out)) (c.zero-then-out-n.ensures ∙ ap zeros c.write_table-n.auto.out)
+    show_larger a.out.now (written (decode a.t.now)) c.write_table-n.ensures (omega arith) (omega (arith, c.write_table-n.auto.out)) (grind arith)
 
 pub returns : goal.returns
 returns c =
     let a = c.args in
-    show_whole a.out.now (written (decode a.t.now)) c.write_table-n.ensures c.if-n-gt-MAX_TEXT.false (omega (arith, c.if-out-n.false, c.write_table-n.auto.out))
+    show_whole a.out.now (written (decode a.t.now)) c.write_table-n.ensures (omega arith) (omega (arith, c.write_table-n.auto.out))
