@@ -3,9 +3,11 @@
 
 mod figures;
 mod places;
+mod reasons;
 
 pub use figures::{Answer, put_numbers, run_numbers, verdict_numbers, write_numbers};
 pub use places::row_place;
+pub use reasons::{Reason, Refusal, Stop};
 
 // What is answered where a table is filled or judged: done, or refused with a number of document 01 and its place.
 #[derive(Clone, Copy)]
