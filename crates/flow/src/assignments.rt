@@ -6,7 +6,6 @@ ghost use Rattle.flow.specs.Layout.{flow_length};
 ghost use Rattle.flow.specs.Sized.{Preparable};
 ghost use Rattle.flow.specs.Assignments.{Noted, with_note, with_notes};
 
-use crate::cells::clear;
 use crate::layout::HOMES_OFFSET;
 use instructions::{is_terminator, ops};
 use table::{MAX_REGISTERS, block_count, block_first, block_rows, row_op, row_target};
@@ -45,10 +44,8 @@ fn note_rows(t: &[u8], a: usize, m: &mut [u16], b: usize)
 {
     let first = block_first(t, a, b);
     let rows = block_rows(t, a, b);
-    let mut j = 0;
-    while j < rows {
+    for j in 0..rows {
         note_row(t, a, m, b, first + j);
-        j += 1;
     }
 }
 
@@ -57,11 +54,8 @@ pub fn prepare_assignments(t: &[u8], a: usize, m: &mut [u16])
     requires { Preparable t.now a × (length m.old ≡ flow_length) }
     ensures { Noted (decode_function t.now a) m.new (row_count t.now a) }
 {
-    clear(m, MAX_REGISTERS);
-    let blocks = block_count(t, a);
-    let mut b = 0;
-    while b < blocks {
+    m[..MAX_REGISTERS].fill(0);
+    for b in 0..block_count(t, a) {
         note_rows(t, a, m, b);
-        b += 1;
     }
 }

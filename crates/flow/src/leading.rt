@@ -16,12 +16,10 @@ pub fn leading_phis(t: &[u8], a: usize, first: usize, rows: usize) -> usize
     requires { (InTable t.now a) × (first + rows ≤ max_rows) }
     ensures { (result ≡ length (leading is_phi (map (decode_row t.now a) (from first rows)))) × (result ≤ rows) }
 {
-    let mut j = 0;
-    while j < rows {
+    for j in 0..rows {
         if row_op(t, a, first + j) != ops::PHI {
             return j;
         }
-        j += 1;
     }
     rows
 }
@@ -31,12 +29,9 @@ pub fn prepare_leading(t: &[u8], a: usize, m: &mut [u16])
     requires { Preparable t.now a × (length m.old ≡ flow_length) }
     ensures { Led (decode_function t.now a) m.old m.new (block_count t.now a) }
 {
-    let blocks = block_count(t, a);
-    let mut b = 0;
-    while b < blocks {
+    for b in 0..block_count(t, a) {
         let first = block_first(t, a, b);
         let rows = block_rows(t, a, b);
         m[PHIS_OFFSET + b] = leading_phis(t, a, first, rows) as u16;
-        b += 1;
     }
 }

@@ -4,7 +4,6 @@
 
 mod accessors;
 mod assignments;
-mod cells;
 mod layout;
 mod leading;
 

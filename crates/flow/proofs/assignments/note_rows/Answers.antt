@@ -46,12 +46,6 @@ note_row-requires c = (
   limit c.args.t.now c.args.a c.args.b _ _ c.loop-j.j c.requires.0 c.requires.1 c.block_first-first.ensures.0 c.block_rows-rows.ensures.0 c.loop-j-test.true,
 )
 
-pub overflow_add-j : goal.overflow_add-j
-overflow_add-j c = omega arith
-
-pub loop-j-smaller : goal.loop-j-smaller
-loop-j-smaller c = omega arith
-
 pub loop-j-preserved : goal.loop-j-preserved
 loop-j-preserved c = (
   omega arith,

@@ -1,11 +1,8 @@
 -- The loop's invariant: the rows before the block and its first j are noted.
-use Prim.Native.Nat.{◌+◌, ◌-◌, ◌≤◌}
+use Prim.Native.Nat.{◌+◌, ◌≤◌}
 use Rattle.language.specs.Table.{decode_function}
 use Rattle.flow.specs.Assignments.{Noted}
 use Rattle.flow.proofs.assignments.note_rows.Given as goal
 
 abbrev pub invariant-loop-j : goal.invariant-loop-j
 invariant-loop-j l = (l.j ≤ l.rows) × Noted (decode_function l.t l.a) l.m (l.first + l.j)
-
-abbrev pub decreases-loop-j : goal.decreases-loop-j
-decreases-loop-j l = l.rows - l.j

@@ -1,11 +1,8 @@
 -- The loop's invariant: the rows before block b are noted.
-use Prim.Native.Nat.{◌-◌, ◌≤◌}
+use Prim.Native.Nat.{◌≤◌}
 use Rattle.language.specs.Table.{rows_before, decode_function}
 use Rattle.flow.specs.Assignments.{Noted}
 use Rattle.flow.proofs.assignments.prepare_assignments.Given as goal
 
 abbrev pub invariant-loop-b : goal.invariant-loop-b
-invariant-loop-b l = (l.b ≤ l.blocks) × Noted (decode_function l.t l.a) l.m (rows_before l.t l.a l.b)
-
-abbrev pub decreases-loop-b : goal.decreases-loop-b
-decreases-loop-b l = l.blocks - l.b
+invariant-loop-b l = (l.b ≤ l.b-end) × Noted (decode_function l.t l.a) l.m (rows_before l.t l.a l.b)

@@ -21,12 +21,6 @@ returns-then-row_op-ne-PHI c =
     let args = c.args in
     phis_to args.t.now args.a args.first args.rows c.loop-j.j _ (omega arith) c.loop-j.invariant.1 c.row_op.ensures c.if-row_op-ne-PHI.true
 
-pub overflow_add-j : goal.overflow_add-j
-overflow_add-j c = omega arith
-
-pub loop-j-smaller : goal.loop-j-smaller
-loop-j-smaller c = omega arith
-
 pub loop-j-preserved : goal.loop-j-preserved
 loop-j-preserved c =
     (omega arith, below_more _ _ c.loop-j.invariant.1 (ap (λ o. eqb o phi_op) (sym c.row_op.ensures) ∙ eq-eqb _ _ c.if-row_op-ne-PHI.false))

@@ -1,5 +1,5 @@
 -- The loop's invariant: every row passed is a phi.
-use Prim.Native.Nat.{ℕ, ◌+◌, ◌-◌, ◌≤◌, ◌<◌}
+use Prim.Native.Nat.{ℕ, ◌+◌, ◌≤◌, ◌<◌}
 use mathlib.Core.Path.{◌≡◌}
 use mathlib.Core.Bool.{true}
 use lib.Dec.{eqb}
@@ -9,6 +9,3 @@ use Rattle.flow.proofs.leading.leading_phis.Given as goal
 
 abbrev pub invariant-loop-j : goal.invariant-loop-j
 invariant-loop-j l = (l.j ≤ l.rows) × ((i : ℕ) → i < l.j → eqb (row_op l.t l.a (l.first + i)) phi_op ≡ true)
-
-abbrev pub decreases-loop-j : goal.decreases-loop-j
-decreases-loop-j l = l.rows - l.j
