@@ -17,8 +17,7 @@ use Rattle.language.specs.Names.{plain_bytes}
 use Rattle.language.specs.Tokens as meaning
 use Rattle.language.specs.Tokens.{Mode, name_or_word, ended, lex_end, tokens_from}
 use Rattle.language.proofs.SpelledNames.{plain_before}
-use Rattle.vocabulary.specs.Classes.{class_table}
-use Rattle.vocabulary.proofs.ByteClasses.{class_at, letter_test, name_test}
+use Rattle.vocabulary.proofs.ByteClasses.{letter_test, name_test}
 use Rattle.lexer.specs.declared.Lexer.{Lexer}
 use Rattle.lexer.specs.declared.Lexeme.TheVariants as lexemes
 use Rattle.lexer.specs.declared.Found.TheVariants as founds
@@ -58,18 +57,19 @@ pub run_more : (test : ℕ → Bool) (text : List ℕ) (from i : ℕ) → Run te
 run_more test text from i p t = run_then test text from i (i + 1) p (run_one test text i t)
 
 -- the same up to a place that is that one by a sum
-pub run_next : (test : ℕ → Bool) (text : List ℕ) (from i j : ℕ) → j ≡ i + 1 → Run test text from i → test (get_or text i 0) ≡ true → Run test text from j
-run_next test text from i j e p t = subst (λ (n : ℕ). Run test text from n) (sym e) (run_more test text from i p t)
+pub run_to : (test : ℕ → Bool) (text : List ℕ) (from i j : ℕ) → j ≡ i → Run test text from i → Run test text from j
+run_to test text from i j e p = subst (λ (n : ℕ). Run test text from n) (sym e) p
 
 -- a search that stops at a byte, or at its end
 pub stops_here : (test : ℕ → Bool) (text : List ℕ) (from end r : ℕ) → Run test text from r × (r ≤ end) → test (get_or text r 0) ≡ false → First test text from end r
 stops_here test text from end r p t = record { run = p.0; within = p.1; stops = λ h. t }
 
-pub stops_at_end : (test : ℕ → Bool) (text : List ℕ) (from end r : ℕ) → Run test text from r × (r ≤ end) → end ≤ r → First test text from end r
-stops_at_end test text from end r p h = record { run = p.0; within = p.1; stops = λ l. absurd (past r end l h) }
+pub stops_at_end : (test : ℕ → Bool) (text : List ℕ) (from end r : ℕ) → Run test text from r × (r ≤ end) → end ≤ r → First test text from end end
+stops_at_end test text from end r p h =
+    record { run = run_to test text from r end (all_of r end p.1 h) p.0; within = le_refl end; stops = λ l. absurd (omega (arith, l)) }
   where
-    past : (m n : ℕ) → m < n → n ≤ m → ⊥
-    past m n a b = omega arith
+    all_of : (m n : ℕ) → m ≤ n → n ≤ m → n ≡ m
+    all_of m n a b = omega arith
 
 none_more : (n : ℕ) → n + zero ≡ n
 none_more n = omega arith
@@ -103,21 +103,21 @@ passed_run text g at from r l p h =
 -- ---- the bytes of a text
 
 -- the tests as the code makes them
-module _ (classes : List ℕ) (b : ℕ) (e : classes ≡ class_table) (small : b < 256) where
-  pub space_yes : get_or classes b 0 ≡ 2 → is_space b ≡ true
-  space_yes h = eq-eqb (class_number (class_of b)) 2 (sym (class_at classes b e small) ∙ h)
+module _ (b : ℕ) where
+  pub space_yes : class_number (class_of b) ≡ 2 → is_space b ≡ true
+  space_yes h = eq-eqb (class_number (class_of b)) 2 h
 
-  pub space_no : (get_or classes b 0 ≡ 2 → ⊥) → is_space b ≡ false
-  space_no h = ne_eqb (class_number (class_of b)) 2 (λ q. h (class_at classes b e small ∙ q))
+  pub space_no : (class_number (class_of b) ≡ 2 → ⊥) → is_space b ≡ false
+  space_no h = ne_eqb (class_number (class_of b)) 2 h
 
-  pub name_yes : get_or classes b 0 < 2 → name_byte b ≡ true
-  name_yes h = name_test b ∙ lt-ltb (class_number (class_of b)) 2 (subst (λ (k : ℕ). k < 2) (class_at classes b e small) h)
+  pub name_yes : class_number (class_of b) < 2 → name_byte b ≡ true
+  name_yes h = name_test b ∙ lt-ltb (class_number (class_of b)) 2 h
 
-  pub name_no : 2 ≤ get_or classes b 0 → name_byte b ≡ false
-  name_no h = name_test b ∙ le-ltb (class_number (class_of b)) 2 (subst (λ (k : ℕ). 2 ≤ k) (class_at classes b e small) h)
+  pub name_no : 2 ≤ class_number (class_of b) → name_byte b ≡ false
+  name_no h = name_test b ∙ le-ltb (class_number (class_of b)) 2 h
 
-pub letter_yes : (classes : List ℕ) (b : ℕ) → classes ≡ class_table → b < 256 → get_or classes b 0 ≡ 0 → letter_byte b ≡ true
-letter_yes classes b e small h = letter_test b ∙ eq-eqb (class_number (class_of b)) 0 (sym (class_at classes b e small) ∙ h)
+  pub letter_yes : class_number (class_of b) ≡ 0 → letter_byte b ≡ true
+  letter_yes h = letter_test b ∙ eq-eqb (class_number (class_of b)) 0 h
 
 pub line_yes : (b : ℕ) → (b ≡ 10 → ⊥) → in_line b ≡ true
 line_yes b h = ap not (ne_eqb b 10 h)

@@ -316,7 +316,7 @@ impl Lexer {
         while l.next < text.len() {
             let next = l.next;
             let b = text[next];
-            let class = classes[b as usize];
+            let class = runs::class_of(classes, b);
             let a = actions::action(l.mode, class, b, l.value as usize);
             if modes::ENDS <= a {
                 return l.finding(a, b);
@@ -356,7 +356,7 @@ impl Lexer {
             };
         }
         let b = text[next];
-        let class = fresh(l.mode, classes[b as usize]);
+        let class = fresh(l.mode, runs::class_of(classes, b));
         if class == kinds::MARK {
             return Lexed {
                 lexer: begun(modes::BETWEEN, next, b),

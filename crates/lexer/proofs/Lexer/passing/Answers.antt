@@ -4,8 +4,7 @@ use Prim.Native.Nat.{ℕ, ◌+◌, ◌<◌}
 use native.Mathlib.Nat.{le_refl}
 use native.Mathlib.Omega.{arith}
 use lib.ListN.{length, get_or}
-use Rattle.vocabulary.specs.Classes.{class_table}
-use Rattle.vocabulary.proofs.ByteClasses.{class_at}
+use Rattle.language.specs.Bytes.{class_of, class_number}
 use Rattle.lexer.specs.declared.Lexer.{Lexer}
 use Rattle.lexer.specs.Actions.{action_at}
 use Rattle.lexer.specs.Lexing.{left}
@@ -20,10 +19,10 @@ record More (text : List ℕ) (o : Lexer) (h : List ℕ) (l d : Lexer) (k : List
   next : d.next ≡ l.next + 1
   moved : o.next < d.next
 
-more : (text classes : List ℕ) (o : Lexer) (h : List ℕ) (l : Lexer) (g : List ℕ) (d : Lexer) (k : List ℕ) (a : ℕ) → On text o h l g → l.next < length text → get_or text l.next 0 < 256 → classes ≡ class_table
-    → a ≡ action_at l.mode (get_or classes (get_or text l.next 0) 0) (get_or text l.next 0) l.value → a < 32
+more : (text : List ℕ) (o : Lexer) (h : List ℕ) (l : Lexer) (g : List ℕ) (d : Lexer) (k : List ℕ) (a : ℕ) → On text o h l g → l.next < length text → get_or text l.next 0 < 256
+    → a ≡ action_at l.mode (class_number (class_of (get_or text l.next 0))) (get_or text l.next 0) l.value → a < 32
     → (d ≡ advanced_at l a (get_or text l.next 0) (length g)) × (k ≡ held_after l a (get_or text l.next 0) g) → More text o h l d k
-more text classes o h l g d k a p i small e action j q =
+more text o h l g d k a p i small action j q =
     let b = get_or text l.next 0 in
     let room = length g in
     let m = advanced_moved l p.passed.order a b room in
@@ -34,7 +33,7 @@ more text classes o h l g d k a p i small e action j q =
           record {
             passed =
                 passed_then text o l (advanced_at l a b room) p.passed
-                (step_passes text l b (get_or classes b 0) a p.passed.order i refl small (class_at classes b e small) action j g);
+                (step_passes text l b (class_number (class_of b)) a p.passed.order i refl small refl action j g);
             less = omega (arith, s, p.less);
             long = held_length l a b g ∙ p.long;
           };
@@ -46,12 +45,6 @@ pub loop-l-init : goal.loop-l-init
 loop-l-init c =
     record { passed = passed_none c.args.text.now c.args.self c.args.held.now (omega (arith, c.requires.1)) c.requires.0; less = le_refl (left c.args.text.now c.args.self); long = refl }
 
-pub overflow_cast-class : goal.overflow_cast-class
-overflow_cast-class c = omega (arith, c.shared_slice_known-in-loop-l-1.given c.loop-l.l.next)
-
-pub bounds-classes-b : goal.bounds-classes-b
-bounds-classes-b c = (c.shared_slice_known-in-loop-l-1.given c.loop-l.l.next).fits
-
 pub finding-requires : goal.finding-requires
 finding-requires c = omega (arith, c.loop-l-test.true)
 
@@ -61,13 +54,12 @@ shape_of-held-then-a-ge-ENDS c = c.loop-l.invariant.long
 pub returns-then-a-ge-ENDS : goal.returns-then-a-ge-ENDS
 returns-then-a-ge-ENDS c =
     let text = c.args.text.now in
-    let classes = c.args.classes.now in
     let l = c.loop-l.l in
     let b = get_or text l.next 0 in
     let small = (c.shared_slice_known-1.given l.next).fits in
     rw c.finding.ensures
     (passed_scanned text c.args.self l _ c.loop-l.invariant.passed c.loop-l.invariant.less
-    (step_finds text l b (get_or classes b 0) c.action-a.result c.loop-l.invariant.passed.order c.loop-l-test.true refl small (class_at classes b c.requires.2 small) c.action-a.ensures c.if-a-ge-ENDS.true c.loop-l.held))
+    (step_finds text l b (class_number (class_of b)) c.action-a.result c.loop-l.invariant.passed.order c.loop-l-test.true refl small refl (rw c.class_of-class.ensures at c.action-a.ensures) c.if-a-ge-ENDS.true c.loop-l.held))
 
 pub advanced-l-requires : goal.advanced-l-requires
 advanced-l-requires c = omega (arith, c.loop-l-test.true)
@@ -75,25 +67,25 @@ advanced-l-requires c = omega (arith, c.loop-l-test.true)
 pub shape_of-held-then-l-eq-COMMENT : goal.shape_of-held-then-l-eq-COMMENT
 shape_of-held-then-l-eq-COMMENT c =
     let text = c.args.text.now in
-    let m = more text c.args.classes.now c.args.self c.args.held.now c.loop-l.l c.loop-l.held c.advanced-l.result _ c.action-a.result c.loop-l.invariant c.loop-l-test.true (c.shared_slice_known-1.given c.loop-l.l.next).fits c.requires.2 c.action-a.ensures c.if-a-ge-ENDS.false c.advanced-l.ensures in
+    let m = more text c.args.self c.args.held.now c.loop-l.l c.loop-l.held c.advanced-l.result _ c.action-a.result c.loop-l.invariant c.loop-l-test.true (c.shared_slice_known-1.given c.loop-l.l.next).fits (rw c.class_of-class.ensures at c.action-a.ensures) c.if-a-ge-ENDS.false c.advanced-l.ensures in
     m.on.long
 
 pub returns-then-l-eq-COMMENT : goal.returns-then-l-eq-COMMENT
 returns-then-l-eq-COMMENT c =
     let text = c.args.text.now in
-    let m = more text c.args.classes.now c.args.self c.args.held.now c.loop-l.l c.loop-l.held c.advanced-l.result _ c.action-a.result c.loop-l.invariant c.loop-l-test.true (c.shared_slice_known-1.given c.loop-l.l.next).fits c.requires.2 c.action-a.ensures c.if-a-ge-ENDS.false c.advanced-l.ensures in
+    let m = more text c.args.self c.args.held.now c.loop-l.l c.loop-l.held c.advanced-l.result _ c.action-a.result c.loop-l.invariant c.loop-l-test.true (c.shared_slice_known-1.given c.loop-l.l.next).fits (rw c.class_of-class.ensures at c.action-a.ensures) c.if-a-ge-ENDS.false c.advanced-l.ensures in
     moved_scanned text c.args.self _ (lexes_nothing text c.args.self c.advanced-l.result m.on.passed) m.moved
 
 pub loop-l-smaller : goal.loop-l-smaller
 loop-l-smaller c =
     let text = c.args.text.now in
-    let m = more text c.args.classes.now c.args.self c.args.held.now c.loop-l.l c.loop-l.held c.advanced-l.result _ c.action-a.result c.loop-l.invariant c.loop-l-test.true (c.shared_slice_known-1.given c.loop-l.l.next).fits c.requires.2 c.action-a.ensures c.if-a-ge-ENDS.false c.advanced-l.ensures in
+    let m = more text c.args.self c.args.held.now c.loop-l.l c.loop-l.held c.advanced-l.result _ c.action-a.result c.loop-l.invariant c.loop-l-test.true (c.shared_slice_known-1.given c.loop-l.l.next).fits (rw c.class_of-class.ensures at c.action-a.ensures) c.if-a-ge-ENDS.false c.advanced-l.ensures in
     omega (arith, m.next, c.loop-l-test.true)
 
 pub loop-l-preserved : goal.loop-l-preserved
 loop-l-preserved c =
     let text = c.args.text.now in
-    let m = more text c.args.classes.now c.args.self c.args.held.now c.loop-l.l c.loop-l.held c.advanced-l.result _ c.action-a.result c.loop-l.invariant c.loop-l-test.true (c.shared_slice_known-1.given c.loop-l.l.next).fits c.requires.2 c.action-a.ensures c.if-a-ge-ENDS.false c.advanced-l.ensures in
+    let m = more text c.args.self c.args.held.now c.loop-l.l c.loop-l.held c.advanced-l.result _ c.action-a.result c.loop-l.invariant c.loop-l-test.true (c.shared_slice_known-1.given c.loop-l.l.next).fits (rw c.class_of-class.ensures at c.action-a.ensures) c.if-a-ge-ENDS.false c.advanced-l.ensures in
     m.on
 
 pub shape_of-held : goal.shape_of-held

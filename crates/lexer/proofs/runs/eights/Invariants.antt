@@ -1,11 +1,7 @@
 -- `lexer::runs::eights`: none of the bytes passed is LF.
-use Prim.Native.Nat.{◌-◌, ◌≤◌}
-use lib.ListN.{length}
+use Prim.Native.Nat.{◌+◌, ◌*◌}
 use Rattle.lexer.specs.Runs.{in_line, Run}
 use Rattle.lexer.proofs.runs.eights.Given as goal
 
-abbrev pub invariant-loop-i : goal.invariant-loop-i
-invariant-loop-i l = Run in_line l.text l.from l.i × (l.i ≤ length l.text)
-
-abbrev pub decreases-loop-i : goal.decreases-loop-i
-decreases-loop-i l = length l.text - l.i
+abbrev pub invariant-loop-k : goal.invariant-loop-k
+invariant-loop-k l = Run in_line l.text l.from (l.from + 8 * l.k)

@@ -13,9 +13,6 @@ returns-then-text-i-eq10 c =
     let i = c.loop-i.i in
     stops_here in_line text c.args.from (length text) i c.loop-i.invariant (line_no (get_or text i 0) c.if-text-i-eq10.true)
 
-pub loop-i-smaller : goal.loop-i-smaller
-loop-i-smaller c = omega (arith, c.loop-i-test.true)
-
 pub loop-i-preserved : goal.loop-i-preserved
 loop-i-preserved c =
     let text = c.args.text.now in

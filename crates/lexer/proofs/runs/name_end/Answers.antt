@@ -17,31 +17,19 @@ bounds-text-i c =
     let w = limit_within (length c.args.text.now) c.args.start (omega (arith, c.requires.0)) in
     omega (arith, c.loop-i-test.true, c.limit-end.ensures, w.0)
 
-pub overflow_cast-b : goal.overflow_cast-b
-overflow_cast-b c = omega (arith, c.shared_slice_known-in-loop-i-1.given c.loop-i.i)
-
-pub bounds-classes-b : goal.bounds-classes-b
-bounds-classes-b c = (c.shared_slice_known-in-loop-i-1.given c.loop-i.i).fits
-
-pub returns-then-classes-b-ge-SPACE : goal.returns-then-classes-b-ge-SPACE
-returns-then-classes-b-ge-SPACE c =
+pub returns-then-class_of-ge-SPACE : goal.returns-then-class_of-ge-SPACE
+returns-then-class_of-ge-SPACE c =
     let text = c.args.text.now in
     let i = c.loop-i.i in
     rw (← c.limit-end.ensures)
     (stops_here name_byte text (c.args.start + 1) c.limit-end.result i c.loop-i.invariant
-    (name_no c.args.classes.now (get_or text i 0) c.requires.1 (c.shared_slice_known-in-loop-i-1.given i).fits c.if-classes-b-ge-SPACE.true))
-
-pub loop-i-smaller : goal.loop-i-smaller
-loop-i-smaller c = omega (arith, c.loop-i-test.true)
+    (name_no (get_or text i 0) (rw c.class_of.ensures at c.if-class_of-ge-SPACE.true)))
 
 pub loop-i-preserved : goal.loop-i-preserved
 loop-i-preserved c =
     let text = c.args.text.now in
-    let i = c.loop-i.i in (
-      run_more name_byte text (c.args.start + 1) i c.loop-i.invariant.0
-          (name_yes c.args.classes.now (get_or text i 0) c.requires.1 (c.shared_slice_known-in-loop-i-1.given i).fits c.if-classes-b-ge-SPACE.false),
-      omega (arith, c.loop-i-test.true),
-    )
+    let i = c.loop-i.i in
+    (run_more name_byte text (c.args.start + 1) i c.loop-i.invariant.0 (name_yes (get_or text i 0) (rw c.class_of.ensures at c.if-class_of-ge-SPACE.false)), omega arith)
 
 pub returns : goal.returns
 returns c =
