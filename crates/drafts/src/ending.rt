@@ -11,7 +11,7 @@ ghost use Rattle.drafts.specs.State.{Bounded, EndsFunction, lent_of, pending_len
 
 use crate::state::{Draft, MENTION_LENGTH, MENTION_PLACE, Outcome, low};
 use instructions::ops;
-use numbers::{four_at, put_two, wide};
+use numbers::{four_at, put_two};
 use predecessors::put_predecessors;
 use table::{
     BLOCK_COUNT_OFFSET, BLOCK_LENGTH, BLOCK_NAMES_OFFSET, ENTRY_OFFSET, OPERANDS_OFFSET,
@@ -54,12 +54,12 @@ fn patch_row(f: &mut [u8], r: usize, found: &[u8])
     let op = row_op(f, 0, r);
     let k = OPERANDS_OFFSET + ROW_LENGTH * r;
     if op == ops::JUMP {
-        f[k] = found[wide(f[k])];
+        f[k] = found[usize::from(f[k])];
         return;
     }
     if op == ops::JUMP_COND {
-        f[k] = found[wide(f[k])];
-        f[k + 1] = found[wide(f[k + 1])];
+        f[k] = found[usize::from(f[k])];
+        f[k + 1] = found[usize::from(f[k + 1])];
     }
 }
 

@@ -12,7 +12,7 @@ ghost use Rattle.drafts.specs.Mentions.{max_names};
 use crate::state::{Draft, MAX_NAMES, MENTION_LENGTH, MENTION_PLACE, Outcome, Parts, low};
 use instructions::{bits_of, load_type, number_in_range, operands, shape_of};
 use name_index::find;
-use numbers::{if_so, put_four};
+use numbers::put_four;
 use table::{
     MAX_ENTRIES, MAX_ROWS, REGISTER_LENGTH, REGISTER_NAMES_OFFSET, find_name, put_entry, put_name,
     put_row,
@@ -254,9 +254,9 @@ impl Draft {
         let op = low(self.parts.op);
         let shape = shape_of(op);
         let sources = shape.sources;
-        let target = if_so(shape.target, self.parts.target);
-        let left = if_so(0 < sources, self.parts.left);
-        let right = if_so(1 < sources, self.parts.right);
+        let target = if shape.target { self.parts.target } else { 0 };
+        let left = if 0 < sources { self.parts.left } else { 0 };
+        let right = if 1 < sources { self.parts.right } else { 0 };
         put_row(
             f,
             0,

@@ -4,14 +4,13 @@ ghost use Rattle.language.specs.Programs.{max_registers, max_blocks};
 ghost use Rattle.flow.specs.Layout.{flow_length, assignment_in, home_in, phis_in};
 
 use crate::layout::{HOMES_OFFSET, PHIS_OFFSET};
-use numbers::wide_two;
 
 // 1 and the first row that assigns register u, or 0.
 pub fn assignment(m: &[u16], u: usize) -> usize
     requires { (length m.now ≡ flow_length) × (u < max_registers) }
     ensures { (result ≡ assignment_in m.now u) × (result < 65536) }
 {
-    wide_two(m[u])
+    usize::from(m[u])
 }
 
 // The block of that row.
@@ -19,7 +18,7 @@ pub fn home(m: &[u16], u: usize) -> usize
     requires { (length m.now ≡ flow_length) × (u < max_registers) }
     ensures { (result ≡ home_in m.now u) × (result < 65536) }
 {
-    wide_two(m[HOMES_OFFSET + u])
+    usize::from(m[HOMES_OFFSET + u])
 }
 
 // How many phi lead block b.
@@ -27,5 +26,5 @@ pub fn phis(m: &[u16], b: usize) -> usize
     requires { (length m.now ≡ flow_length) × (b < max_blocks) }
     ensures { (result ≡ phis_in m.now b) × (result < 65536) }
 {
-    wide_two(m[PHIS_OFFSET + b])
+    usize::from(m[PHIS_OFFSET + b])
 }

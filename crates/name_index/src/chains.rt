@@ -10,7 +10,7 @@ ghost use Rattle.name_index.specs.Hashes.{heads, end_of};
 ghost use Rattle.name_index.specs.Names.{names_in};
 
 use crate::hashes::{end, hash};
-use numbers::{eight_at, wide_two};
+use numbers::eight_at;
 use table::name_at;
 
 // Whether the other name is `name`, whose end is x: lengths and ends first, since they tell most names apart.
@@ -81,13 +81,13 @@ pub fn find(
         return find_none(t, at, stride, count);
     }
     let x = end(name);
-    let mut y = wide_two(last[hash(x)]);
+    let mut y = usize::from(last[hash(x)]);
     while y != 0 {
         let j = y - 1;
         if is_name(name_at(t, at + stride * j), name, x) {
             return j;
         }
-        y = wide_two(before[j]);
+        y = usize::from(before[j]);
     }
     count
 }

@@ -2,7 +2,7 @@
 ghost use Rattle.std.specs.Prelude.{◌≡◌, ◌<◌};
 ghost use Rattle.name_index.specs.Hashes.{heads, end_of, end_hash};
 
-use numbers::{eight_at, four_at, wide};
+use numbers::{eight_at, four_at};
 
 // How many hashes there are.
 pub const HEADS: usize = 512;
@@ -19,7 +19,9 @@ pub fn end(name: &[u8]) -> u64
         return (four_at(name, 0) + 4294967296 * four_at(name, n - 4)) as u64;
     }
     if 1 <= n {
-        return (wide(name[0]) + 256 * wide(name[n / 2]) + 65536 * wide(name[n - 1])) as u64;
+        return (usize::from(name[0])
+            + 256 * usize::from(name[n / 2])
+            + 65536 * usize::from(name[n - 1])) as u64;
     }
     0
 }

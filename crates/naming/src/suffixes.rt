@@ -2,8 +2,6 @@
 ghost use Rattle.std.specs.Prelude.{◌≡◌, ◌≤◌};
 ghost use Rattle.naming.specs.Numbers.{digit_from, bounded as bounded_of, prefix_of, Numbers};
 
-use numbers::wide;
-
 // With 256 names at most, no made number reaches 512: it stands for every name that is no made one with a smaller number.
 const OTHER: usize = 512;
 
@@ -26,7 +24,7 @@ fn digit(b: u8, least: u8) -> usize
     if NINE < b {
         return OTHER;
     }
-    wide(b - ZERO)
+    usize::from(b - ZERO)
 }
 
 // No number past OTHER.

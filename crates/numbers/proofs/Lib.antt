@@ -1,2 +1,3 @@
 pub mod MovesLaws
+pub mod Parts
 pub mod Zeros

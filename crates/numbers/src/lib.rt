@@ -7,5 +7,5 @@ mod reads;
 mod stores;
 
 pub use moves::move_up;
-pub use reads::{eight_at, four_at, if_so, two_at, wide, wide_two};
+pub use reads::{eight_at, four_at, two_at};
 pub use stores::{put_bytes, put_eight, put_four, put_two, zero, zero_part};

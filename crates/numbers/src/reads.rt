@@ -1,37 +1,13 @@
 // Numbers read: of one, two, four and eight cells, low byte first.
-ghost use Rattle.std.specs.Prelude.{cond, ◌≡◌, ◌+◌, ◌<◌, ◌≤◌, length};
+ghost use Rattle.std.specs.Prelude.{◌≡◌, ◌+◌, ◌<◌, ◌≤◌, length};
 ghost use Rattle.language.specs.Table.{two, four, eight};
-
-// A byte as an index, with its bound: a caller has no cast to show.
-pub fn wide(x: u8) -> usize
-    ensures { (result ≡ x) × (result < 256) }
-{
-    x as usize
-}
-
-// The same of a number of 16 bits.
-pub fn wide_two(x: u16) -> usize
-    ensures { (result ≡ x) × (result < 65536) }
-{
-    x as usize
-}
-
-// n where the test holds, else 0.
-pub fn if_so(test: bool, n: usize) -> usize
-    ensures { (result ≡ cond test n 0) × (result ≤ n) }
-{
-    if test {
-        return n;
-    }
-    0
-}
 
 // The number of the two cells from k on.
 pub fn two_at(t: &[u8], k: usize) -> usize
     requires { k + 2 ≤ length t.now }
     ensures { (result ≡ two t.now k) × (result < 65536) }
 {
-    wide(t[k]) + 256 * wide(t[k + 1])
+    usize::from(t[k]) + 256 * usize::from(t[k + 1])
 }
 
 // The number of four cells.

@@ -43,11 +43,7 @@ pub fn put_bytes(t: &mut [u8], k: usize, s: &[u8])
     requires { k + length s.now ≤ length t.old }
     ensures { t.new ≡ sets t.old k s.now }
 {
-    let mut i = 0;
-    while i < s.len() {
-        t[k + i] = s[i];
-        i += 1;
-    }
+    t[k..k + s.len()].copy_from_slice(s);
 }
 
 // n cells from a on become 0.
@@ -55,17 +51,12 @@ pub fn zero_part(t: &mut [u8], a: usize, n: usize)
     requires { a + n ≤ length t.old }
     ensures { t.new ≡ sets t.old a (zeros n) }
 {
-    let mut i = 0;
-    while i < n {
-        t[a + i] = 0;
-        i += 1;
-    }
+    t[a..a + n].fill(0);
 }
 
 // Every cell becomes 0.
 pub fn zero(t: &mut [u8])
     ensures { t.new ≡ zeros (length t.old) }
 {
-    let n = t.len();
-    zero_part(t, 0, n);
+    t.fill(0);
 }

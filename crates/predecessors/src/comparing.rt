@@ -6,7 +6,6 @@ ghost use Rattle.language.specs.Table.{block_count, block_first, block_rows, pre
 ghost use Rattle.predecessors.specs.Comparing.{next_agrees, next_seen};
 
 use crate::ends::ends;
-use numbers::wide;
 use table::{MAX_BLOCKS, predecessor, predecessor_count};
 
 // Block x goes to block y, one of n, and is the next of the predecessors that y keeps. Those seen so far are counted; whether y keeps as many
@@ -18,7 +17,7 @@ fn agrees(t: &[u8], a: usize, n: usize, seen: &mut [u8], y: usize, x: usize) -> 
     if n <= y {
         return true;
     }
-    let c = wide(seen[y]);
+    let c = usize::from(seen[y]);
     seen[y] = (c + 1) as u8;
     predecessor(t, a, y, c) == x
 }
@@ -30,7 +29,7 @@ fn counted(t: &[u8], a: usize, n: usize, seen: &[u8]) -> bool
 {
     let mut b = 0;
     while b < n {
-        if predecessor_count(t, a, b) != wide(seen[b]) {
+        if predecessor_count(t, a, b) != usize::from(seen[b]) {
             return false;
         }
         b += 1;

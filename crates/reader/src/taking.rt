@@ -6,7 +6,6 @@ ghost use Rattle.reader.specs.Parse.{reader_at, ReaderReached, Beside, EndTaken,
 
 use drafts::{Draft, Outcome};
 use grammar::{Act, Stage, Token, is_top, next_move};
-use numbers::if_so;
 use text_place::TextPlace;
 
 // The stage of the grammar, and what is read so far.
@@ -116,7 +115,7 @@ fn perform(
         Act::NameFunction => d.name_function(f, names, name, p),
         Act::NameBlock => d.name_block(f, name, p),
         Act::NameRegister(parameter, kind) => {
-            d.name_register(f, last, before, if_so(parameter, 1), kind, name, p)
+            d.name_register(f, last, before, usize::from(parameter), kind, name, p)
         }
         Act::BeginInstruction(op) => d.begin_instruction(op, p),
         Act::SetInstruction(op) => d.set_instruction(op),

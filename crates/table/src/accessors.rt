@@ -13,13 +13,13 @@ use crate::layout::{
     PREDECESSORS_OFFSET, REGISTER_COUNT_OFFSET, REGISTER_LENGTH, REGISTER_NAMES_OFFSET,
     REGISTERS_OFFSET, RESULT_OFFSET, RIGHTS_OFFSET, ROW_LENGTH, ROWS_OFFSET, TARGETS_OFFSET,
 };
-use numbers::{eight_at, two_at, wide};
+use numbers::{eight_at, two_at};
 
 pub fn function_count(t: &[u8]) -> usize
     requires { 1 ≤ length t.now }
     ensures { (result ≡ function_count t.now) × (result < 256) }
 {
-    wide(t[0])
+    usize::from(t[0])
 }
 
 pub fn function_ssa(t: &[u8], a: usize) -> u8
@@ -54,14 +54,14 @@ pub fn block_count(t: &[u8], a: usize) -> usize
     requires { InTable t.now a }
     ensures { (result ≡ block_count t.now a) × (result < 256) }
 {
-    wide(t[a + BLOCK_COUNT_OFFSET])
+    usize::from(t[a + BLOCK_COUNT_OFFSET])
 }
 
 pub fn function_entry(t: &[u8], a: usize) -> usize
     requires { InTable t.now a }
     ensures { (result ≡ function_entry t.now a) × (result < 256) }
 {
-    wide(t[a + ENTRY_OFFSET])
+    usize::from(t[a + ENTRY_OFFSET])
 }
 
 pub fn function_name(t: &[u8], a: usize) -> &[u8]
@@ -116,14 +116,14 @@ pub fn predecessor_count(t: &[u8], a: usize, b: usize) -> usize
     requires { (InTable t.now a) × (b < max_blocks) }
     ensures { (result ≡ predecessor_count t.now a b) × (result < 256) }
 {
-    wide(t[a + PREDECESSORS_OFFSET + BLOCK_LENGTH * b])
+    usize::from(t[a + PREDECESSORS_OFFSET + BLOCK_LENGTH * b])
 }
 
 pub fn predecessor(t: &[u8], a: usize, b: usize, k: usize) -> usize
     requires { (InTable t.now a) × (b < max_blocks) × (k < 256) }
     ensures { (result ≡ predecessor_at t.now a b k) × (result < 256) }
 {
-    wide(t[a + (PREDECESSORS_OFFSET + 1) + BLOCK_LENGTH * b + k])
+    usize::from(t[a + (PREDECESSORS_OFFSET + 1) + BLOCK_LENGTH * b + k])
 }
 
 pub fn row_op(t: &[u8], a: usize, r: usize) -> u8
@@ -137,21 +137,21 @@ pub fn row_target(t: &[u8], a: usize, r: usize) -> usize
     requires { (InTable t.now a) × (r < max_rows) }
     ensures { (result ≡ row_target t.now a r) × (result < 256) }
 {
-    wide(t[a + TARGETS_OFFSET + ROW_LENGTH * r])
+    usize::from(t[a + TARGETS_OFFSET + ROW_LENGTH * r])
 }
 
 pub fn row_left(t: &[u8], a: usize, r: usize) -> usize
     requires { (InTable t.now a) × (r < max_rows) }
     ensures { (result ≡ row_left t.now a r) × (result < 256) }
 {
-    wide(t[a + LEFTS_OFFSET + ROW_LENGTH * r])
+    usize::from(t[a + LEFTS_OFFSET + ROW_LENGTH * r])
 }
 
 pub fn row_right(t: &[u8], a: usize, r: usize) -> usize
     requires { (InTable t.now a) × (r < max_rows) }
     ensures { (result ≡ row_right t.now a r) × (result < 256) }
 {
-    wide(t[a + RIGHTS_OFFSET + ROW_LENGTH * r])
+    usize::from(t[a + RIGHTS_OFFSET + ROW_LENGTH * r])
 }
 
 pub fn load_number(t: &[u8], a: usize, r: usize) -> u64
@@ -165,14 +165,14 @@ pub fn jump_first(t: &[u8], a: usize, r: usize) -> usize
     requires { (InTable t.now a) × (r < max_rows) }
     ensures { (result ≡ jump_first t.now a r) × (result < 256) }
 {
-    wide(t[a + OPERANDS_OFFSET + ROW_LENGTH * r])
+    usize::from(t[a + OPERANDS_OFFSET + ROW_LENGTH * r])
 }
 
 pub fn jump_second(t: &[u8], a: usize, r: usize) -> usize
     requires { (InTable t.now a) × (r < max_rows) }
     ensures { (result ≡ jump_second t.now a r) × (result < 256) }
 {
-    wide(t[a + (OPERANDS_OFFSET + 1) + ROW_LENGTH * r])
+    usize::from(t[a + (OPERANDS_OFFSET + 1) + ROW_LENGTH * r])
 }
 
 pub fn phi_first(t: &[u8], a: usize, r: usize) -> usize
@@ -193,5 +193,5 @@ pub fn phi_entry(t: &[u8], a: usize, k: usize) -> usize
     requires { (InTable t.now a) × (k < max_entries) }
     ensures { (result ≡ phi_entry t.now a k) × (result < 256) }
 {
-    wide(t[a + ENTRIES_OFFSET + k])
+    usize::from(t[a + ENTRIES_OFFSET + k])
 }

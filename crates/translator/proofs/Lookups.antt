@@ -64,10 +64,9 @@ module _ (t : List ℕ) (a : ℕ) (m plan : List ℕ) (x r kind : ℕ) where
 
 -- the cells of a kept row, from what the calls gave
 module _ (t : List ℕ) (a : ℕ) (m plan : List ℕ) (x r : ℕ) where
-  pub row_kept : {op target left right last u v w : ℕ} {s : Shape} (out next : List ℕ) (k : ℕ) → op ≡ row_op t a r → s ≡ shape_of op
-      → u ≡ row_target t a r → target ≡ cond s.target u 0 → v ≡ row_left t a r → left ≡ cond (ltb 0 s.sources) v 0
-      → w ≡ row_right t a r → right ≡ cond (ltb 1 s.sources) w 0 → last ≡ kept_operand t a m plan x r s.operand
+  pub row_kept : {op target left right last : ℕ} {s : Shape} (out next : List ℕ) (k : ℕ) → op ≡ row_op t a r → s ≡ shape_of op
+      → target ≡ cond s.target (row_target t a r) 0 → left ≡ cond (ltb 0 s.sources) (row_left t a r) 0
+      → right ≡ cond (ltb 1 s.sources) (row_right t a r) 0 → last ≡ kept_operand t a m plan x r s.operand
       → next ≡ sets out k (op ∷ target ∷ left ∷ right ∷ eight_bytes last) → next ≡ sets out k (kept_cells t a m plan x r)
   unfolding kept_cells
-  row_kept out next k eo es eu et ev el ew er e n =
-      rw (← eo, ← es, ← eu, ← et, ← ev, ← el, ← ew, ← er, ← e) n
+  row_kept out next k eo es et el er e n = rw (← eo, ← es, ← et, ← el, ← er, ← e) n

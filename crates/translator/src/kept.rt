@@ -11,7 +11,7 @@ ghost use Rattle.translator.specs.Source.{TranslatableAt, Planned, translated, b
 use crate::prepared::renamed;
 use flow::phis;
 use instructions::{operands, shape_of};
-use numbers::{if_so, put_two};
+use numbers::put_two;
 use table::{
     BLOCK_LENGTH, BLOCK_NAMES_OFFSET, BLOCK_ROWS_OFFSET, BLOCKS_OFFSET, FIRST_FUNCTION,
     block_count, block_first, block_name, block_rows, jump_first, jump_second, load_number,
@@ -62,9 +62,9 @@ fn keep_row(
     let op = row_op(t, a, r);
     let shape = shape_of(op);
     let sources = shape.sources;
-    let target = if_so(shape.target, row_target(t, a, r));
-    let left = if_so(0 < sources, row_left(t, a, r));
-    let right = if_so(1 < sources, row_right(t, a, r));
+    let target = if shape.target { row_target(t, a, r) } else { 0 };
+    let left = if 0 < sources { row_left(t, a, r) } else { 0 };
+    let right = if 1 < sources { row_right(t, a, r) } else { 0 };
     let last = operand(t, a, m, plan, x, r, shape.operand);
     put_row(out, 1, k, op, target, left, right, last);
 }

@@ -7,7 +7,6 @@ ghost use Rattle.translator.specs.Source.{pairs_in, renamed_as};
 ghost use Rattle.language.specs.Programs.{max_blocks};
 
 use flow::phis;
-use numbers::wide_two;
 use predecessors::rank;
 use table::predecessor_count;
 
@@ -31,5 +30,5 @@ pub fn renamed(t: &[u8], a: usize, m: &[u16], plan: &[u16], x: usize, y: usize) 
     if phis(m, y) == 0 {
         return y;
     }
-    wide_two(plan[y]) + rank(t, a, y, x)
+    usize::from(plan[y]) + rank(t, a, y, x)
 }

@@ -2,12 +2,13 @@
 use mathlib.Core.Bool.{Bool, true, false, not}
 use mathlib.Core.List.{List, [], ◌∷◌}
 use mathlib.Core.Path.{◌≡◌, refl, sym, ap, ◌∙◌}
-use Prim.Native.Nat.{ℕ, ◌+◌, ◌≤◌, ◌<◌}
+use Prim.Native.Nat.{ℕ, ◌+◌, ◌-◌, ◌≤◌, ◌<◌}
 use native.Mathlib.Numerals.{add-one}
 use native.Mathlib.Omega.{arith}
 use lib.Dec.{eqb}
-use lib.ListN.{length, get_or, drop, drop_of_length-le}
-use lib.Seq.{drop-cons}
+use lib.ListN.{length, get_or, take, drop, drop_of_length-le}
+use lib.Seq.{drop-cons, get_or-drop}
+use Rattle.std.proofs.lemmas.Slice.{between_to_end}
 use borrow.Author.Tests.{lt-ltb, le-ltb, eq-eqb, ne_eqb, not-true, not-false}
 use Rattle.laws.specs.Lists.{all}
 use Rattle.language.specs.Bytes.{class_of, class_number, letter_byte, name_byte}
@@ -18,7 +19,7 @@ use Rattle.vocabulary.proofs.ByteClasses.{class_at, letter_test, name_test}
 
 -- ---- one byte, by the number of its class
 
--- the class of byte i, looked up by what `wide` gave
+-- the class of byte i, looked up by a number that equals it
 module _ (n classes : List ℕ) (i : ℕ) {w : ℕ} (e : classes ≡ class_table) (small : get_or n i 0 < 256) (q : w ≡ get_or n i 0) where
   class : get_or classes w 0 ≡ class_number (class_of (get_or n i 0))
   class = ap (λ (k : ℕ). get_or classes k 0) q ∙ class_at classes (get_or n i 0) e small
@@ -37,26 +38,32 @@ module _ (n classes : List ℕ) (i : ℕ) {w : ℕ} (e : classes ≡ class_table
 
 -- ---- the bytes of a name
 
-pub no_bytes : (n : List ℕ) → length n ≡ 0 → false ≡ plain_bytes n
-no_bytes [] e = refl
-no_bytes (b ∷ n) e = absurd (omega arith)
+-- those after the first
+abbrev pub rest : List ℕ → List ℕ
+rest n = take (length n - 1) (drop 1 n)
+
+rest_is : (n : List ℕ) → rest n ≡ drop 1 n
+rest_is n = between_to_end n 1 (length n) (omega arith)
+
+pub rest_small : (n : List ℕ) (i : ℕ) → ((k : ℕ) → get_or n k 0 < 256) → get_or (rest n) i 0 < 256
+rest_small n i h = rw (rest_is n, get_or-drop 1 n i 0) (h (1 + i))
 
 pub first_no : (n : List ℕ) → letter_byte (get_or n 0 0) ≡ false → false ≡ plain_bytes n
 first_no [] e = refl
 first_no (b ∷ n) e = rw e
 
-pub first_on : (n : List ℕ) → letter_byte (get_or n 0 0) ≡ true → (length n ≡ 0 → ⊥) → all name_byte (drop 1 n) ≡ plain_bytes n
-first_on [] e h = absurd (h refl)
-first_on (b ∷ n) e h = rw e
+pub first_on : (n : List ℕ) → letter_byte (get_or n 0 0) ≡ true → 1 ≤ length n → all name_byte (rest n) ≡ plain_bytes n
+first_on [] e h = absurd (omega arith)
+first_on (b ∷ n) e h = rw (rest_is (b ∷ n), e)
 
-module _ (n : List ℕ) (i : ℕ) (left : all name_byte (drop i n) ≡ plain_bytes n) where
-  pub byte_no : i < length n → name_byte (get_or n i 0) ≡ false → false ≡ plain_bytes n
+module _ (n : List ℕ) (i : ℕ) {r : Bool} (left : all name_byte (drop i n) ≡ r) where
+  pub byte_no : i < length n → name_byte (get_or n i 0) ≡ false → false ≡ r
   byte_no h e = rw (drop-cons n i 0 h, e) at left
 
-  pub byte_on : i < length n → name_byte (get_or n i 0) ≡ true → all name_byte (drop (i + 1) n) ≡ plain_bytes n
+  pub byte_on : i < length n → name_byte (get_or n i 0) ≡ true → all name_byte (drop (i + 1) n) ≡ r
   byte_on h e = rw (add-one i) (rw (drop-cons n i 0 h, e) at left)
 
-  pub bytes_end : length n ≤ i → true ≡ plain_bytes n
+  pub bytes_end : length n ≤ i → true ≡ r
   bytes_end h = rw (drop_of_length-le n h) at left
 
 -- ---- and no word

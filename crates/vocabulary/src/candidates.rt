@@ -7,7 +7,6 @@ ghost use Rattle.vocabulary.specs.Chains.{shortest, longest, first_candidates, n
 
 use crate::spellings::SHORTEST;
 use instructions::words::*;
-use numbers::wide;
 
 // No word.
 const NONE: u8 = COUNT;
@@ -16,8 +15,11 @@ const NONE: u8 = COUNT;
 fn by_length(three: u8, four: u8, five: u8, six: u8, seven: u8, eight: u8, nine: u8) -> usize
     ensures { result ≡ packed (three ∷ four ∷ five ∷ six ∷ seven ∷ eight ∷ nine ∷ []) }
 {
-    let low = wide(three) + 256 * wide(four) + 65536 * wide(five) + 16777216 * wide(six);
-    low + 4294967296 * (wide(seven) + 256 * wide(eight) + 65536 * wide(nine))
+    let low = usize::from(three)
+        + 256 * usize::from(four)
+        + 65536 * usize::from(five)
+        + 16777216 * usize::from(six);
+    low + 4294967296 * (usize::from(seven) + 256 * usize::from(eight) + 65536 * usize::from(nine))
 }
 
 // The first candidates of a first byte.

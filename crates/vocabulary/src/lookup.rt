@@ -7,7 +7,7 @@ ghost use Rattle.vocabulary.specs.Chains.{shortest, longest, from_on, rest_among
 use crate::candidates::{first_candidate, next_candidate};
 use crate::spellings::{LONGEST, SHORTEST, spelling_of};
 use instructions::words::COUNT;
-use numbers::{four_at, two_at, wide};
+use numbers::{four_at, two_at};
 
 // The bytes of a name after its first as one number, low byte first. The last two or four are read where the name ends and shifted to their
 // place: there is no loop and no branch for each length, since every plain name of a text is looked up.
@@ -17,7 +17,7 @@ fn rest_of(name: &[u8]) -> usize
 {
     let n = name.len();
     if n < 5 {
-        return wide(name[1]) + 256 * (two_at(name, n - 2) >> (8 * (4 - n)));
+        return usize::from(name[1]) + 256 * (two_at(name, n - 2) >> (8 * (4 - n)));
     }
     four_at(name, 1) + 4294967296 * (four_at(name, n - 4) >> (8 * (LONGEST - n)))
 }

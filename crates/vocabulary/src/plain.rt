@@ -6,25 +6,22 @@ ghost use Rattle.vocabulary.specs.Classes.{class_table};
 use crate::kinds;
 use crate::lookup::word;
 use instructions::words::COUNT;
-use numbers::wide;
 
 // "letter, `.` or `_`, then those or digits"
 fn plain_bytes(name: &[u8], classes: &[u8; 256]) -> bool
     requires { classes.now ≡ class_table }
     ensures { result ≡ plain_bytes name.now }
 {
-    if name.len() == 0 {
+    let [first, rest @ ..] = name else {
+        return false;
+    };
+    if classes[usize::from(*first)] != kinds::LETTER {
         return false;
     }
-    if classes[wide(name[0])] != kinds::LETTER {
-        return false;
-    }
-    let mut i = 1;
-    while i < name.len() {
-        if kinds::DIGIT < classes[wide(name[i])] {
+    for b in rest {
+        if kinds::DIGIT < classes[usize::from(*b)] {
             return false;
         }
-        i += 1;
     }
     true
 }

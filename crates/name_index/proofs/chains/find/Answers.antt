@@ -35,9 +35,9 @@ pub loop-y-init : goal.loop-y-init
 loop-y-init c =
     let args = c.args in
     let t = args.t.now in (
-      omega (arith, c.wide_two-y.ensures.0, c.requires.indexed.within c.hash.result, names_length_law t args.at args.stride args.count),
+      omega (arith, c.from-y.ensures, c.requires.indexed.within c.hash.result, names_length_law t args.at args.stride args.count),
       found_chained t args.at args.stride args.count args.name.now c.requires.indexed c.if-name-eq0.false c.end-x.ensures
-          c.hash.ensures.0 c.wide_two-y.ensures.0,
+          c.hash.ensures.0 c.from-y.ensures,
     )
 
 pub overflow_sub-j : goal.overflow_sub-j
@@ -74,7 +74,7 @@ bounds-before-j c =
 
 pub loop-y-smaller : goal.loop-y-smaller
 loop-y-smaller c =
-    omega (arith, c.wide_two-y-in-loop-y.ensures.0, c.requires.indexed.falling.falls (c.loop-y.y - 1))
+    omega (arith, c.from-y-in-loop-y.ensures, c.requires.indexed.falling.falls (c.loop-y.y - 1))
 
 pub loop-y-preserved : goal.loop-y-preserved
 loop-y-preserved c =
@@ -82,9 +82,9 @@ loop-y-preserved c =
     let t = args.t.now in
     let y = c.loop-y.y in
     let differs = named t args.at args.stride args.name.now (y - 1) c.name_at.ensures c.is_name.ensures c.if-is_name.false in (
-      omega (arith, c.wide_two-y-in-loop-y.ensures.0, c.requires.indexed.falling.falls (y - 1)),
+      omega (arith, c.from-y-in-loop-y.ensures, c.requires.indexed.falling.falls (y - 1)),
       λ j l e.
-          chain_next (c.loop-y.invariant.1 j l e) c.wide_two-y-in-loop-y.ensures.0
+          chain_next (c.loop-y.invariant.1 j l e) c.from-y-in-loop-y.ensures
           (λ p. true≢false (sym e ∙ ap (λ (k : ℕ). is_named t args.at args.stride args.name.now k) p ∙ differs)),
     )
 

@@ -14,7 +14,7 @@ returns-then-n-ge4 c = rw (lt-leb 8 _ c.if-n-ge8.false, le-leb 4 _ c.if-n-ge4.tr
 pub returns-then-n-ge1 : goal.returns-then-n-ge1
 unfolding end_of
 returns-then-n-ge1 c =
-    rw (lt-leb 8 _ c.if-n-ge8.false, lt-leb 4 _ c.if-n-ge4.false, le-leb 1 _ c.if-n-ge1.true, c.wide.ensures.0, c.wide-then-n-ge1.ensures.0, c.wide-then-n-ge1-2.ensures.0)
+    rw (lt-leb 8 _ c.if-n-ge8.false, lt-leb 4 _ c.if-n-ge4.false, le-leb 1 _ c.if-n-ge1.true, c.from.ensures, c.from-then-n-ge1.ensures, c.from-then-n-ge1-2.ensures)
 
 pub returns : goal.returns
 unfolding end_of

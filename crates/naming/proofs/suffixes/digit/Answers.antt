@@ -16,4 +16,4 @@ returns-then-b-gt-NINE c = (by_not_lt _ _ _ _ _ c.if-b-least.false (by_lt _ _ _ 
 pub returns : goal.returns
 unfolding digit_from
 returns c =
-    (by_not_lt _ _ _ _ _ c.if-b-least.false (by_not_lt _ _ _ _ _ c.if-b-gt-NINE.false c.wide.ensures.0), omega (arith, c.wide.ensures.0, c.wide.ensures.1))
+    (by_not_lt _ _ _ _ _ c.if-b-least.false (by_not_lt _ _ _ _ _ c.if-b-gt-NINE.false c.from.ensures), omega (arith, c.from.ensures, c.ranges))

@@ -15,10 +15,10 @@ predecessor_count-requires c = (c.requires.0, omega arith)
 pub bounds-seen-b : goal.bounds-seen-b
 bounds-seen-b c = omega arith
 
-pub returns-then-predecessor_count-wide : goal.returns-then-predecessor_count-wide
-returns-then-predecessor_count-wide c =
+pub returns-then-predecessor_count-from : goal.returns-then-predecessor_count-from
+returns-then-predecessor_count-from c =
     sym (all_below_not _ c.args.n c.loop-b.b (omega arith)
-    (ne_eqb _ _ (λ d. let e : c.predecessor_count.result ≡ c.wide.result = c.predecessor_count.ensures.0 ∙ d ∙ sym c.wide.ensures.0 in omega arith)))
+    (ne_eqb _ _ (λ d. let e : c.predecessor_count.result ≡ c.from.result = c.predecessor_count.ensures.0 ∙ d ∙ sym c.from.ensures in omega arith)))
 
 pub overflow_add-b : goal.overflow_add-b
 overflow_add-b c = omega arith
@@ -28,8 +28,8 @@ loop-b-smaller c = omega arith
 
 pub loop-b-preserved : goal.loop-b-preserved
 loop-b-preserved c =
-    let e : c.predecessor_count.result ≡ c.wide.result = omega arith in
-    (omega arith, below_more _ _ c.loop-b.invariant.1 (eq-eqb _ _ (sym c.predecessor_count.ensures.0 ∙ e ∙ c.wide.ensures.0)))
+    let e : c.predecessor_count.result ≡ c.from.result = omega arith in
+    (omega arith, below_more _ _ c.loop-b.invariant.1 (eq-eqb _ _ (sym c.predecessor_count.ensures.0 ∙ e ∙ c.from.ensures)))
 
 pub returns : goal.returns
 returns c = sym (all_below _ c.args.n (λ i l. c.loop-b.invariant.1 i (omega arith)))

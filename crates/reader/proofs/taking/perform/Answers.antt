@@ -1,8 +1,20 @@
 -- `perform`: in each arm the act is known, and the called function's contract is what is to be shown.
-use mathlib.Core.Path.{refl}
+use mathlib.Core.Bool.{Bool, true, false, cond}
+use mathlib.Core.Path.{◌≡◌, refl, ◌∙◌}
+use mir.Val.{bool_byte}
+use Prim.Native.Nat.{◌≤◌}
 use lib.Dec.{lit≤}
 use Rattle.reader.proofs.Enabling.{function_room, register_room, block_room, row_room, cells, indexed}
 use Rattle.reader.proofs.taking.perform.Goals as goal
+
+-- what `usize::from` gives of a test
+one_if : (b : Bool) → bool_byte b ≡ cond b 1 0
+one_if true = refl
+one_if false = refl
+
+at_most_one : (b : Bool) → bool_byte b ≤ 1
+at_most_one true = lit≤ tt
+at_most_one false = lit≤ tt
 
 pub name_function-requires : goal.name_function-requires
 name_function-requires c =
@@ -17,7 +29,7 @@ name_block-requires c =
 pub name_register-requires : goal.name_register-requires
 name_register-requires c =
     let h = rw c.in-NameRegister.is at c.requires in
-    record { bounded = h.bounded; registers_lt_max_registers = (register_room h (lit≤ tt), cells h (lit≤ tt), h.lent.last, h.lent.before); more_bound = (c.if_so.ensures.1, h.holding, h.short); cells_indexed = indexed h (lit≤ tt) }
+    record { bounded = h.bounded; registers_lt_max_registers = (register_room h (lit≤ tt), cells h (lit≤ tt), h.lent.last, h.lent.before); more_bound = (rw c.from.ensures (at_most_one _), h.holding, h.short); cells_indexed = indexed h (lit≤ tt) }
 
 pub set_target-requires : goal.set_target-requires
 set_target-requires c =
@@ -77,7 +89,7 @@ pub returns-in-NameBlock : goal.returns-in-NameBlock
 returns-in-NameBlock c = rw c.in-NameBlock.is (c.name_block.ensures _ _ _ _)
 
 pub returns-in-NameRegister : goal.returns-in-NameRegister
-returns-in-NameRegister c = rw c.in-NameRegister.is (rw c.if_so.ensures.0 at (c.name_register.ensures c.args.names.now c.args.pend.now))
+returns-in-NameRegister c = rw c.in-NameRegister.is (rw (c.from.ensures ∙ one_if _) at (c.name_register.ensures c.args.names.now c.args.pend.now))
 
 pub returns-in-BeginInstruction : goal.returns-in-BeginInstruction
 returns-in-BeginInstruction c = rw c.in-BeginInstruction.is (c.begin_instruction.ensures _)

@@ -3,4 +3,4 @@ use native.Mathlib.Nat.{add-sub_cancel_left}
 use Rattle.table.proofs.cells.name_at.Goals as goal
 
 pub returns : goal.returns
-returns c = rw (add-sub_cancel_left, c.wide-n.ensures.0)
+returns c = rw (add-sub_cancel_left, c.from-n.ensures)

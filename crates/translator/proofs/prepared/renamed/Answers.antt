@@ -12,4 +12,4 @@ pub returns : goal.returns
 returns c =
     let args = c.args in
     renamed_so args.t.now args.a args.m.now args.plan.now args.x args.y c.phis.result c.phis.ensures.0 c.if-phis-eq0.false
-    c.wide_two.result c.rank.result c.wide_two.ensures.0 c.wide_two.ensures.1 c.rank.ensures.0 c.rank.ensures.1
+    c.from.result c.rank.result c.from.ensures (rw c.from.ensures (c.type_inv.plan args.y).fits) c.rank.ensures.0 c.rank.ensures.1

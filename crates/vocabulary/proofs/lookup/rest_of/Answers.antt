@@ -14,13 +14,13 @@ overflow_mul-result-then-n-lt5 c =
 pub overflow_add-result : goal.overflow_add-result
 overflow_add-result c =
     let n = length c.args.name.now in
-    record { fits = omega (arith, shr_le c.two_at.result (8 * (4 - n)), c.two_at.ensures.1, c.wide.ensures.1) }
+    record { fits = omega (arith, shr_le c.two_at.result (8 * (4 - n)), c.two_at.ensures.1, c.from.ensures, (c.type_inv.name 1).fits) }
 
 pub returns-then-n-lt5 : goal.returns-then-n-lt5
 returns-then-n-lt5 c =
     let name = c.args.name.now in
     let bytes = bytes_each name (λ k. (c.shared_slice_known-1.given k).fits) in
-    rw (c.wide.ensures.0, c.two_at.ensures.0) (rest_short name bytes c.requires.0 c.if-n-lt5.true)
+    rw (c.from.ensures, c.two_at.ensures.0) (rest_short name bytes c.requires.0 c.if-n-lt5.true)
 
 pub overflow_mul-result-3 : goal.overflow_mul-result-3
 overflow_mul-result-3 c =

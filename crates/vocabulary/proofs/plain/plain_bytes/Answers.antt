@@ -1,36 +1,32 @@
-use native.Mathlib.Omega.{arith}
-use Rattle.vocabulary.proofs.PlainNames.{letter_yes, letter_no, name_yes, name_no, no_bytes, first_no, first_on, byte_no, byte_on, bytes_end}
+use Rattle.vocabulary.proofs.PlainNames.{rest, rest_small, letter_yes, letter_no, name_yes, name_no, first_no, first_on, byte_no, byte_on, bytes_end}
 use Rattle.vocabulary.proofs.plain.plain_bytes.Goals as goal
 
-pub returns-then-name-eq0 : goal.returns-then-name-eq0
-returns-then-name-eq0 c = no_bytes c.args.name.now c.if-name-eq0.true
+pub returns-then-classes-from-ne-LETTER : goal.returns-then-classes-from-ne-LETTER
+returns-then-classes-from-ne-LETTER c =
+    let args = c.args in
+    first_no args.name.now
+    (letter_no args.name.now args.classes.now 0 c.requires (c.type_inv.name 0).fits c.from.ensures c.if-classes-from-ne-LETTER.true)
 
-pub bounds-classes-wide : goal.bounds-classes-wide
-bounds-classes-wide c = omega arith
+pub loop-b-init : goal.loop-b-init
+loop-b-init c =
+    let args = c.args in
+    first_on args.name.now
+    (letter_yes args.name.now args.classes.now 0 c.requires (c.type_inv.name 0).fits c.from.ensures c.if-classes-from-ne-LETTER.false)
+    c.in-len1-up.len_at_least
 
-pub returns-then-classes-wide-ne-LETTER : goal.returns-then-classes-wide-ne-LETTER
-returns-then-classes-wide-ne-LETTER c = first_no c.args.name.now (letter_no c.args.name.now c.args.classes.now 0 c.requires (c.shared_slice_known-1.given 0).fits c.wide.ensures.0 c.if-classes-wide-ne-LETTER.true)
+pub returns-then-classes-from-gt-DIGIT : goal.returns-then-classes-from-gt-DIGIT
+returns-then-classes-from-gt-DIGIT c =
+    let args = c.args in
+    let i = c.loop-b.b-index in
+    byte_no (rest args.name.now) i c.loop-b.invariant c.loop-b-test.true
+    (name_no (rest args.name.now) args.classes.now i c.requires (rest_small args.name.now i (λ k. (c.type_inv.name k).fits)) c.from-in-loop-b.ensures c.if-classes-from-gt-DIGIT.true)
 
-pub loop-i-init : goal.loop-i-init
-loop-i-init c = (omega arith, first_on c.args.name.now (letter_yes c.args.name.now c.args.classes.now 0 c.requires (c.shared_slice_known-1.given 0).fits c.wide.ensures.0 c.if-classes-wide-ne-LETTER.false) c.if-name-eq0.false)
-
-pub bounds-name-i : goal.bounds-name-i
-bounds-name-i c = omega arith
-
-pub bounds-classes-wide-in-loop-i : goal.bounds-classes-wide-in-loop-i
-bounds-classes-wide-in-loop-i c = omega arith
-
-pub returns-then-classes-wide-gt-DIGIT : goal.returns-then-classes-wide-gt-DIGIT
-returns-then-classes-wide-gt-DIGIT c = byte_no c.args.name.now c.loop-i.i c.loop-i.invariant.1 c.loop-i-test.true (name_no c.args.name.now c.args.classes.now c.loop-i.i c.requires (c.shared_slice_known-1.given c.loop-i.i).fits c.wide-in-loop-i.ensures.0 c.if-classes-wide-gt-DIGIT.true)
-
-pub overflow_add-i : goal.overflow_add-i
-overflow_add-i c = omega arith
-
-pub loop-i-smaller : goal.loop-i-smaller
-loop-i-smaller c = omega arith
-
-pub loop-i-preserved : goal.loop-i-preserved
-loop-i-preserved c = (omega arith, byte_on c.args.name.now c.loop-i.i c.loop-i.invariant.1 c.loop-i-test.true (name_yes c.args.name.now c.args.classes.now c.loop-i.i c.requires (c.shared_slice_known-1.given c.loop-i.i).fits c.wide-in-loop-i.ensures.0 c.if-classes-wide-gt-DIGIT.false))
+pub loop-b-preserved : goal.loop-b-preserved
+loop-b-preserved c =
+    let args = c.args in
+    let i = c.loop-b.b-index in
+    byte_on (rest args.name.now) i c.loop-b.invariant c.loop-b-test.true
+    (name_yes (rest args.name.now) args.classes.now i c.requires (rest_small args.name.now i (λ k. (c.type_inv.name k).fits)) c.from-in-loop-b.ensures c.if-classes-from-gt-DIGIT.false)
 
 pub returns : goal.returns
-returns c = bytes_end c.args.name.now c.loop-i.i c.loop-i.invariant.1 (omega arith)
+returns c = bytes_end (rest c.args.name.now) c.loop-b.b-index c.loop-b.invariant c.loop-b-test.false
