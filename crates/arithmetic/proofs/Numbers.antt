@@ -1,9 +1,10 @@
 -- An instruction by its number: what is known of its sources, and a number that is none of theirs.
 -- Assumes nothing.
-use Rattle.std.proofs.Common.{◌≡◌, ℕ, ◌-◌, ◌^◌, ◌<◌, Bool, true, ap, ◌∙◌, subst, ne_eqb}
+use Rattle.std.proofs.Common.{◌≡◌, ℕ, ◌-◌, ◌^◌, ◌<◌, Bool, true, false, ap, ◌∙◌, subst, ne_eqb}
+use Rattle.std.specs.Int.{from_bool}
 use Rattle.language.specs.Instructions.{width, second_type}
 use Rattle.language.specs.Instructions.{ari_add_op, ari_div_op, ari_mul_op, ari_rem_op, ari_sub_op, bit_and_op, bit_or_op, bit_xor_op, cmp_eq_op, cmp_gt_op, cmp_gteq_op, cmp_lt_op, cmp_lteq_op, cmp_neq_op, rol_op, ror_op, shl_op, shr_op}
-use Rattle.language.specs.Arithmetic.{Computed, binary_of}
+use Rattle.language.specs.Arithmetic.{Computed, truth, binary_of}
 use Rattle.arithmetic.specs.Rooms.{sign_matters, sign_for, StandFor, Sources}
 use Rattle.arithmetic.proofs.Meanings.{width_is, room_below}
 
@@ -29,6 +30,11 @@ module _ {op s a b : ℕ} (q : Sources op s a b) where
   second_in e f =
       fits_in q.kind q.above
       (subst (λ (t : ℕ). b < 2 ^ width t) (ap (λ (n : ℕ). second_type n q.kind) e ∙ f q.kind) q.second)
+
+-- a comparison's bit, as std converts it
+pub truth_of : (b : Bool) {n : ℕ} → n ≡ from_bool b → n ≡ truth b
+truth_of true e = e
+truth_of false e = e
 
 -- instruction k
 pub arm : (t a b : ℕ) {op k : ℕ} {x : Computed} → op ≡ k → x ≡ binary_of k t a b → x ≡ binary_of op t a b

@@ -7,7 +7,14 @@ use lib.Pow.{shl-shr}
 use Rattle.laws.proofs.Modulo.{shifts_keep, shift_ones, mod_within, mod_mul_mod, mod_difference}
 use Rattle.laws.proofs.Tests.{same_less, same_equal, le_not_lt}
 use Rattle.language.specs.Arithmetic.{Computed, sub, neg, rol, ror, within}
-use Rattle.arithmetic.specs.Results.{rank_of}
+use Rattle.std.specs.Prelude.{Result, Ok, Err, IsErrAnd}
+use Rattle.answers.specs.declared.reasons.Stop.{Stop}
+use Rattle.answers.specs.declared.reasons.Stop.TheVariants as why
+use Rattle.arithmetic.specs.Results.{result_of, rank_of}
+
+-- what wraps at 64 bits, added again
+pub taken_away : (a b : ℕ) → a < 2 ^ 64 → b < 2 ^ 64 → ((a + (2 ^ 64 - b)) % 2 ^ 64 + b) % 2 ^ 64 ≡ a
+taken_away a b l m = omega arith
 
 -- ---- the order of numbers shifted up
 
@@ -119,6 +126,8 @@ module _ (w k x : ℕ) where
   unfolding within
   runs h f = rw (lt-ltb k w h, f)
 
-  pub stops : w ≤ k → Computed.stops 41 ≡ within w k x
+  -- passed on by a `?`
+  pub stops : {e : Stop} (r : Result ℕ Stop) → IsErrAnd r (λ y. y ≡ e) → (e ≡ why.ShiftTooFar) × (w ≤ k) → result_of r ≡ within w k x
   unfolding within
-  stops h = rw (le-ltb k w h)
+  stops (Err y) i h = rw (le-ltb k w h.1, i, h.0)
+  stops (Ok v) i h = absurd i

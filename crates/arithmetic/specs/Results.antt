@@ -1,14 +1,14 @@
 -- What the answers of this crate stand for.
 -- Assumes nothing.
-use Rattle.std.specs.Prelude.{ℕ, ◌+◌, ◌-◌, ◌^◌, Bool, true, false, cond, ℤ, pos, negsuc, nat_lt}
-use Rattle.language.specs.Arithmetic as L
-use Rattle.arithmetic.specs.declared.Computed.{Computed}
-use Rattle.arithmetic.specs.declared.Computed.TheVariants as answer
+use Rattle.std.specs.Prelude.{ℕ, ◌+◌, ◌-◌, ◌^◌, Bool, true, false, cond, ℤ, pos, negsuc, nat_lt, Result, Ok, Err}
+use Rattle.language.specs.Arithmetic.{Computed}
+use Rattle.answers.specs.declared.reasons.Stop.{Stop}
+use Rattle.answers.specs.Reasons.{stop_number}
 
 -- An answer is document 01's value, or its stop by number (40, 41, 42).
-abbrev pub result_of : Computed → L.Computed
-result_of (answer.Value v) = L.Computed.value v
-result_of (answer.Stop n) = L.Computed.stops n
+abbrev pub result_of : Result ℕ Stop → Computed
+result_of (Ok v) = Computed.value v
+result_of (Err e) = Computed.stops (stop_number e)
 
 abbrev pub is_negative : ℤ → Bool
 is_negative (pos n) = false

@@ -8,21 +8,15 @@ mod wrapping;
 
 ghost use Rattle.std.specs.Prelude.{◌≡◌, ℕ, ◌-◌, ◌<◌};
 ghost use Rattle.language.specs.Instructions.{width as width_of};
-ghost use Rattle.language.specs.Arithmetic.{truth as truth_of, binary_of, unary_of};
+ghost use Rattle.language.specs.Arithmetic.{binary_of, unary_of};
 ghost use Rattle.arithmetic.specs.Results.{result_of};
 ghost use Rattle.arithmetic.specs.Rooms.{sign_for, Source, Sources};
 
+use answers::Stop;
 use instructions::{ops, signed, width};
 use shifts::{rol, ror, shl, shr};
 use signs::{conv, div, less, rem};
 use wrapping::{add, flip, mul, neg, sub};
-
-// A value, or a stop with its number: 40, 41 or 42.
-#[derive(Clone, Copy)]
-pub enum Computed {
-    Value(u64),
-    Stop(u8),
-}
 
 // Whether an instruction goes by the sign of its first source's type t, and t is signed.
 pub fn sign_for(op: u8, t: u8) -> bool
@@ -43,41 +37,32 @@ pub fn room(t: u8) -> u64
     64 - width(t) as u64
 }
 
-// "target `uint`, 1 or 0"
-fn truth(b: bool) -> u64
-    ensures { result ≡ truth_of b }
-{
-    if b {
-        return 1;
-    }
-    0
-}
-
-// An instruction with two sources, by its number; s and sign are the room of the first source's type and whether its sign matters.
-pub fn binary(op: u8, s: u64, sign: bool, a: u64, b: u64) -> Computed
+// An instruction with two sources, by its number; s and sign are the room of the first source's type and whether its sign matters. A comparison's
+// "target `uint`, 1 or 0".
+pub fn binary(op: u8, s: u64, sign: bool, a: u64, b: u64) -> Result<u64, Stop>
     requires { Sources op s a b }
     ensures { (t : ℕ) → s ≡ 64 - width_of t → sign ≡ sign_for op t → result_of result ≡ binary_of op t a b }
 {
     match op {
-        ops::ARI_ADD => Computed::Value(add(s, a, b)),
-        ops::ARI_SUB => Computed::Value(sub(s, a, b)),
-        ops::ARI_MUL => Computed::Value(mul(s, a, b)),
+        ops::ARI_ADD => Ok(add(s, a, b)),
+        ops::ARI_SUB => Ok(sub(s, a, b)),
+        ops::ARI_MUL => Ok(mul(s, a, b)),
         ops::ARI_DIV => div(s, sign, a, b),
         ops::ARI_REM => rem(s, sign, a, b),
-        ops::BIT_AND => Computed::Value(a & b),
-        ops::BIT_OR => Computed::Value(a | b),
-        ops::BIT_XOR => Computed::Value(a ^ b),
+        ops::BIT_AND => Ok(a & b),
+        ops::BIT_OR => Ok(a | b),
+        ops::BIT_XOR => Ok(a ^ b),
         ops::SHL => shl(s, a, b),
         ops::SHR => shr(s, sign, a, b),
         ops::ROL => rol(s, a, b),
         ops::ROR => ror(s, a, b),
-        ops::CMP_EQ => Computed::Value(truth(a == b)),
-        ops::CMP_NEQ => Computed::Value(truth(a != b)),
-        ops::CMP_GT => Computed::Value(truth(less(s, sign, b, a))),
-        ops::CMP_LT => Computed::Value(truth(less(s, sign, a, b))),
-        ops::CMP_GTEQ => Computed::Value(truth(!less(s, sign, a, b))),
-        ops::CMP_LTEQ => Computed::Value(truth(!less(s, sign, b, a))),
-        _ => Computed::Value(0),
+        ops::CMP_EQ => Ok(u64::from(a == b)),
+        ops::CMP_NEQ => Ok(u64::from(a != b)),
+        ops::CMP_GT => Ok(u64::from(less(s, sign, b, a))),
+        ops::CMP_LT => Ok(u64::from(less(s, sign, a, b))),
+        ops::CMP_GTEQ => Ok(u64::from(!less(s, sign, a, b))),
+        ops::CMP_LTEQ => Ok(u64::from(!less(s, sign, b, a))),
+        _ => Ok(0),
     }
 }
 

@@ -5,9 +5,8 @@ ghost use Rattle.language.specs.Arithmetic.{meaning, wrap, neg as neg_of, overfl
 ghost use Rattle.arithmetic.specs.Results.{result_of, is_negative, rank_of};
 ghost use Rattle.arithmetic.specs.Rooms.{StandFor, reading};
 
-use super::Computed;
 use super::wrapping::{flip, keep, neg, ones};
-use std::num::wrapping_add_u64;
+use answers::Stop;
 
 // 2^63, the highest of 64 bits.
 const HIGHEST: u64 = 0x8000_0000_0000_0000;
@@ -25,10 +24,7 @@ fn magnitude(s: u64, sign: bool, x: u64) -> u64
     requires { (s < 64) × (x < 2 ^ (64 - s)) }
     ensures { result ≡ unsigned_abs (reading s sign x) }
 {
-    if negative(s, sign, x) {
-        return neg(s, x);
-    }
-    x
+    if negative(s, sign, x) { neg(s, x) } else { x }
 }
 
 // A magnitude, negated if it is to be.
@@ -36,10 +32,7 @@ fn with_sign(s: u64, minus: bool, m: u64) -> u64
     requires { (s < 64) × (m < 2 ^ (64 - s)) }
     ensures { result ≡ (if minus then neg_of (64 - s) m else m) }
 {
-    if minus {
-        return neg(s, m);
-    }
-    m
+    if minus { neg(s, m) } else { m }
 }
 
 // 42, "least signed number `ari.div` -1"
@@ -47,46 +40,40 @@ fn overflows(s: u64, sign: bool, a: u64, b: u64) -> bool
     requires { (s < 64) × (a < 2 ^ (64 - s)) }
     ensures { (t : ℕ) → StandFor s sign t → result ≡ overflows_of t a b }
 {
-    if !sign {
-        return false;
-    }
-    if a << s == HIGHEST {
-        return b == ones(s);
-    }
-    false
+    sign && a << s == HIGHEST && b == ones(s)
 }
 
 // "Division truncates toward zero"
-pub fn div(s: u64, sign: bool, a: u64, b: u64) -> Computed
+pub fn div(s: u64, sign: bool, a: u64, b: u64) -> Result<u64, Stop>
     requires { (s < 64) × (a < 2 ^ (64 - s)) × (b < 2 ^ (64 - s)) }
     ensures { (t : ℕ) → StandFor s sign t → result_of result ≡ div_of t a b }
 {
     if b == 0 {
-        return Computed::Stop(40);
+        return Err(Stop::ZeroDivisor);
     }
     if !sign {
-        return Computed::Value(a / b);
+        return Ok(a / b);
     }
     if overflows(s, sign, a, b) {
-        return Computed::Stop(42);
+        return Err(Stop::QuotientOverflows);
     }
     let q = magnitude(s, sign, a) / magnitude(s, sign, b);
-    Computed::Value(with_sign(s, negative(s, sign, a) != negative(s, sign, b), q))
+    Ok(with_sign(s, negative(s, sign, a) != negative(s, sign, b), q))
 }
 
 // "the remainder has the dividend's sign"
-pub fn rem(s: u64, sign: bool, a: u64, b: u64) -> Computed
+pub fn rem(s: u64, sign: bool, a: u64, b: u64) -> Result<u64, Stop>
     requires { (s < 64) × (a < 2 ^ (64 - s)) × (b < 2 ^ (64 - s)) }
     ensures { (t : ℕ) → StandFor s sign t → result_of result ≡ rem_of t a b }
 {
     if b == 0 {
-        return Computed::Stop(40);
+        return Err(Stop::ZeroDivisor);
     }
     if !sign {
-        return Computed::Value(a % b);
+        return Ok(a % b);
     }
     let m = magnitude(s, sign, a) % magnitude(s, sign, b);
-    Computed::Value(with_sign(s, negative(s, sign, a), m))
+    Ok(with_sign(s, negative(s, sign, a), m))
 }
 
 // Where a signed number stands among those of its width, 2^s for each: the upper half comes first.
@@ -94,7 +81,7 @@ fn rank(s: u64, x: u64) -> u64
     requires { (s < 64) × (x < 2 ^ (64 - s)) }
     ensures { result ≡ rank_of (64 - s) x * 2 ^ s }
 {
-    wrapping_add_u64(x << s, HIGHEST)
+    (x << s).wrapping_add(HIGHEST)
 }
 
 // a is less than b, "compared by meaning".
@@ -102,10 +89,7 @@ pub fn less(s: u64, sign: bool, a: u64, b: u64) -> bool
     requires { (s < 64) × (a < 2 ^ (64 - s)) × (b < 2 ^ (64 - s)) }
     ensures { (t : ℕ) → StandFor s sign t → result ≡ int_lt (meaning t a) (meaning t b) }
 {
-    if sign {
-        return rank(s, a) < rank(s, b);
-    }
-    a < b
+    if sign { rank(s, a) < rank(s, b) } else { a < b }
 }
 
 // "`conv`: any to any; the meaning of the source modulo 2^w of the target", whose room is r.
@@ -114,7 +98,8 @@ pub fn conv(s: u64, r: u64, sign: bool, x: u64) -> u64
     ensures { (t : ℕ) → StandFor s sign t → result ≡ wrap (64 - r) (meaning t x) }
 {
     if negative(s, sign, x) {
-        return flip(r, keep(r, flip(s, x)));
+        flip(r, keep(r, flip(s, x)))
+    } else {
+        keep(r, x)
     }
-    keep(r, x)
 }

@@ -2,8 +2,6 @@
 ghost use Rattle.std.specs.Prelude.{◌≡◌, ◌-◌, ◌*◌, ◌%◌, ◌^◌, ◌<◌};
 ghost use Rattle.language.specs.Arithmetic.{add as add_of, sub as sub_of, mul as mul_of, neg as neg_of, flip as flip_of};
 
-use std::num::{wrapping_add_u64, wrapping_sub_u64};
-
 // x modulo 2^w: two shifts drop the bits from w on.
 pub fn keep(s: u64, x: u64) -> u64
     requires { s < 64 }
@@ -33,21 +31,21 @@ pub fn add(s: u64, a: u64, b: u64) -> u64
     requires { s < 64 }
     ensures { result ≡ add_of (64 - s) a b }
 {
-    keep(s, wrapping_add_u64(a, b))
+    keep(s, a.wrapping_add(b))
 }
 
 pub fn sub(s: u64, a: u64, b: u64) -> u64
     requires { (s < 64) × (b < 2 ^ (64 - s)) }
     ensures { result ≡ sub_of (64 - s) a b }
 {
-    keep(s, wrapping_sub_u64(a, b))
+    keep(s, a.wrapping_sub(b))
 }
 
 pub fn neg(s: u64, a: u64) -> u64
     requires { (s < 64) × (a < 2 ^ (64 - s)) }
     ensures { result ≡ neg_of (64 - s) a }
 {
-    keep(s, wrapping_sub_u64(0, a))
+    keep(s, 0u64.wrapping_sub(a))
 }
 
 pub fn mul(s: u64, a: u64, b: u64) -> u64
@@ -65,6 +63,6 @@ fn product(a: u64, b: u64) -> u64
     let a1 = a >> 32;
     let b0 = b % 0x1_0000_0000;
     let b1 = b >> 32;
-    let middle = wrapping_add_u64(a1 * b0, a0 * b1);
-    wrapping_add_u64(middle << 32, a0 * b0)
+    let middle = (a1 * b0).wrapping_add(a0 * b1);
+    (middle << 32).wrapping_add(a0 * b0)
 }

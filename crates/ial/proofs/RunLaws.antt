@@ -1,18 +1,16 @@
 -- What a run answers, case by case, where the table passes its check. Assumes nothing.
 use mathlib.Core.Path.{◌≡◌, refl, sym, ap, subst, ◌∙◌}
-use mathlib.Core.Bool.{Bool, true, cond, not}
+use mathlib.Core.Bool.{true, cond}
 use mathlib.Core.List.{List, [], ◌++◌}
-use Prim.Native.Nat.{ℕ, ◌-◌, ◌≤◌, ◌<◌, ◌^◌}
+use Prim.Native.Nat.{ℕ, ◌-◌, ◌≤◌, ◌<◌}
 use native.Mathlib.Omega.{arith}
 use lib.Dec.{eqb, ltb}
 use lib.ListN.{length, replicate}
 use borrow.Author.Tests.{lt-ltb, le-ltb, eq-eqb}
-use Rattle.laws.proofs.Indexing.{length_together_le}
-use Rattle.laws.proofs.Positions.{position_le}
+use Rattle.std.specs.Prelude.{Option, Some, None, IfSome}
+use Rattle.std.specs.Option.{unwrap_or}
 use Rattle.laws.proofs.Branches.{by_eq, by_ne, by_lt, by_not_lt}
-use Rattle.language.specs.Instructions.{width}
-use Rattle.language.specs.Programs.{Register, Func, Program}
-use Rattle.laws.specs.Lists.{together}
+use Rattle.language.specs.Programs.{Func, Program}
 use Rattle.language.specs.Table.{function_at, function_count, function_params, register_count, decode, decode_function}
 use Rattle.language.specs.Checking.{Verdict}
 use Rattle.language.specs.Running.{first_unfit, arguments_fit, run_of}
@@ -44,6 +42,17 @@ ended_as {p} e h = e ∙ ap (λ (o : Outcome). runs.Ended o p) h
 
 pub place_as : (i : ℕ) {r x : Run} → r ≡ x → stop_place (ran_in i r) < 32768 → stop_place (ran_in i x) < 32768
 place_as i e h = subst (λ (x : Run). stop_place (ran_in i x) < 32768) e h
+
+-- ---- the first argument that does not fit, if any
+
+pub unfit_some : {r : Option ℕ} {u k : ℕ} (n : ℕ) → r ≡ Some u → unwrap_or r n ≡ k → u ≡ k
+unfit_some n e h = rw e at h
+
+pub unfit_below : {r : Option ℕ} {u n : ℕ} → r ≡ Some u → IfSome r (λ i. i < n) → u < n
+unfit_below e h = rw e at h
+
+pub unfit_none : {r : Option ℕ} {k : ℕ} (n : ℕ) → r ≡ None → unwrap_or r n ≡ k → k ≡ n
+unfit_none n e h = sym (rw e at h)
 
 -- ---- registers that may hold anything
 
@@ -121,15 +130,6 @@ module _ (t : List ℕ) (i : ℕ) (args : List ℕ) (budget n : ℕ) where
           → finished_of (rans.Refused 20 u) z ≡ run_function (decode t) i args budget n
       run_unfit {z} u h k e =
           counted _ _ (by_ne _ _ _ (first_unfit f args) (length args) (λ s. omega arith) (refused_as {z = z} 20 u e ∙ ap (refused_run n 20) h)) ∙ sym opened
-
-      pub all_fit :
-          (u : ℕ) → length args ≤ register_count t (function_at i) → u ≡ first_unfit (decode_function t (function_at i)) args → length args ≤ u
-          → first_unfit (decode_function t (function_at i)) args ≡ length args
-      unfolding first_unfit
-      all_fit u few e k =
-          let test : Register → ℕ → Bool = λ r v. ltb v (2 ^ width r.type) in
-          let count = length_together_le test f.registers args (omega (arith, register_count_law t (function_at i))) in
-          omega (arith, position_le (λ b. not b) (together test f.registers args), count)
 
       module _ (fits : first_unfit (decode_function t (function_at i)) args ≡ length args) where
         pub run_short : {z : List ℕ} → n < register_count t (function_at i) → z ≡ zeros n → finished_of (rans.Refused 22 0) z ≡ run_function (decode t) i args budget n

@@ -25,7 +25,7 @@ fn answer_of(i: usize, r: Run) -> Ran
         Run::Ended(o, p) => match o {
             Outcome::Returned(v) => Ran::Returned(v, p.steps),
             Outcome::Left => Ran::Left(p.steps),
-            Outcome::Stopped(n) => Ran::Stopped(n, row_place(i, p.row), p.steps),
+            Outcome::Stopped(stop) => Ran::Stopped(u8::from(stop), row_place(i, p.row), p.steps),
         },
     }
 }
@@ -49,8 +49,7 @@ pub fn run_within(
     if args.len() != function_params(t, a) {
         return Ran::Refused(20, args.len());
     }
-    let unfit = first_unfit(t, a, args);
-    if unfit < args.len() {
+    if let Some(unfit) = first_unfit(t, a, args) {
         return Ran::Refused(20, unfit);
     }
     if registers.len() < register_count(t, a) {

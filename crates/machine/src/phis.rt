@@ -25,11 +25,9 @@ fn read_phis(
 {
     let count = phi_count(t, a, first);
     let mut e = phi_first(t, a, first) + k;
-    let mut i = 0;
-    while i < n {
+    for i in 0..n {
         taken[i] = registers[phi_entry(t, a, e)];
         e += count;
-        i += 1;
     }
 }
 
@@ -48,10 +46,8 @@ fn write_phis(
     requires taken { Taken t.now a first n k registers.old taken.now }
     ensures { registers.new ≡ phis_written t.now a first k registers.old n }
 {
-    let mut i = 0;
-    while i < n {
+    for i in 0..n {
         registers[row_target(t, a, first + i)] = taken[i];
-        i += 1;
     }
 }
 

@@ -3,7 +3,7 @@ use Rattle.std.proofs.Common.{ℕ, Bool, not, sym, refl, ap, ◌∙◌}
 use Rattle.language.specs.Arithmetic.{Computed, meaning, add, sub, mul, within, shl, shr, rol, ror, truth, binary_of}
 use Rattle.arithmetic.specs.Rooms.{sign_matters}
 use Rattle.arithmetic.proofs.Meanings.{width_is, same_meaning, least_or_less}
-use Rattle.arithmetic.proofs.Numbers.{stands, room_in, first_in, second_in, arm, binary_else}
+use Rattle.arithmetic.proofs.Numbers.{stands, room_in, first_in, second_in, arm, truth_of, binary_else}
 use Rattle.arithmetic.proofs.binary.Goals as goal
 
 pub add-requires : goal.add-requires
@@ -111,42 +111,42 @@ unfolding binary_of sign_matters
 returns-in-23 c t h g =
     let v = c.args in
     let e = c.in-23.is in
-    arm t v.a v.b e (ap Computed.value (c.truth.ensures ∙ ap (λ (x : Bool). truth x) (sym (same_meaning t _ _ (rw (← width_is t h) (first_in c.requires)) (rw (← width_is t h) (second_in c.requires e (λ t. refl)))))))
+    arm t v.a v.b e (ap Computed.value (truth_of _ c.from.ensures ∙ ap (λ (x : Bool). truth x) (sym (same_meaning t _ _ (rw (← width_is t h) (first_in c.requires)) (rw (← width_is t h) (second_in c.requires e (λ t. refl)))))))
 
 pub returns-in-24 : goal.returns-in-24
 unfolding binary_of sign_matters
 returns-in-24 c t h g =
     let v = c.args in
     let e = c.in-24.is in
-    arm t v.a v.b e (ap Computed.value (c.truth-in-24.ensures ∙ ap (λ (x : Bool). truth (not x)) (sym (same_meaning t _ _ (rw (← width_is t h) (first_in c.requires)) (rw (← width_is t h) (second_in c.requires e (λ t. refl)))))))
+    arm t v.a v.b e (ap Computed.value (truth_of _ c.from-in-24.ensures ∙ ap (λ (x : Bool). truth (not x)) (sym (same_meaning t _ _ (rw (← width_is t h) (first_in c.requires)) (rw (← width_is t h) (second_in c.requires e (λ t. refl)))))))
 
 pub returns-in-25 : goal.returns-in-25
 unfolding binary_of sign_matters
 returns-in-25 c t h g =
     let v = c.args in
     let e = c.in-25.is in
-    arm t v.a v.b e (ap Computed.value (c.truth-in-25.ensures ∙ ap truth (c.less.ensures t (stands e refl h g))))
+    arm t v.a v.b e (ap Computed.value (truth_of _ c.from-in-25.ensures ∙ ap truth (c.less.ensures t (stands e refl h g))))
 
 pub returns-in-26 : goal.returns-in-26
 unfolding binary_of sign_matters
 returns-in-26 c t h g =
     let v = c.args in
     let e = c.in-26.is in
-    arm t v.a v.b e (ap Computed.value (c.truth-in-26.ensures ∙ ap truth (c.less-in-26.ensures t (stands e refl h g))))
+    arm t v.a v.b e (ap Computed.value (truth_of _ c.from-in-26.ensures ∙ ap truth (c.less-in-26.ensures t (stands e refl h g))))
 
 pub returns-in-27 : goal.returns-in-27
 unfolding binary_of sign_matters
 returns-in-27 c t h g =
     let v = c.args in
     let e = c.in-27.is in
-    arm t v.a v.b e (ap Computed.value (c.truth-in-27.ensures ∙ ap (λ (x : Bool). truth (not x)) (c.less-in-27.ensures t (stands e refl h g)) ∙ ap truth (sym (least_or_less (meaning t v.b) (meaning t v.a)))))
+    arm t v.a v.b e (ap Computed.value (truth_of _ c.from-in-27.ensures ∙ ap (λ (x : Bool). truth (not x)) (c.less-in-27.ensures t (stands e refl h g)) ∙ ap truth (sym (least_or_less (meaning t v.b) (meaning t v.a)))))
 
 pub returns-in-28 : goal.returns-in-28
 unfolding binary_of sign_matters
 returns-in-28 c t h g =
     let v = c.args in
     let e = c.in-28.is in
-    arm t v.a v.b e (ap Computed.value (c.truth-in-28.ensures ∙ ap (λ (x : Bool). truth (not x)) (c.less-in-28.ensures t (stands e refl h g)) ∙ ap truth (sym (least_or_less (meaning t v.a) (meaning t v.b)))))
+    arm t v.a v.b e (ap Computed.value (truth_of _ c.from-in-28.ensures ∙ ap (λ (x : Bool). truth (not x)) (c.less-in-28.ensures t (stands e refl h g)) ∙ ap truth (sym (least_or_less (meaning t v.a) (meaning t v.b)))))
 
 pub returns-in_default : goal.returns-in_default
 unfolding binary_of sign_matters

@@ -7,8 +7,9 @@ use Rattle.arithmetic.proofs.shifts.rol.Goals as goal
 pub overflow_sub-w : goal.overflow_sub-w
 overflow_sub-w c = omega arith
 
-pub returns-then-w-k : goal.returns-then-w-k
-returns-then-w-k c = stops (64 - c.args.s) c.args.k _ c.if-w-k.true
+pub returns-in_err-below_width : goal.returns-in_err-below_width
+returns-in_err-below_width c =
+    stops (64 - c.args.s) c.args.k _ c.from_residual.result c.from_residual.ensures.1 c.in_err-below_width.ensures
 
 pub overflow_shl-a : goal.overflow_shl-a
 overflow_shl-a c = omega arith
@@ -25,9 +26,9 @@ overflow_shr-result c = omega arith
 pub overflow_add-result : goal.overflow_add-result
 overflow_add-result c =
     let v = c.args in
-    record { fits = rw (turned_left v.s v.a v.k c.requires.0 c.if-w-k.false c.keep.ensures) (lt_of_lt_of_le (rol_below (64 - v.s) v.a v.k c.requires.1 (omega arith)) (all_bits v.s c.requires.0)) }
+    record { fits = rw (turned_left v.s v.a v.k c.requires.0 c.in_ok-below_width.ensures c.keep.ensures) (lt_of_lt_of_le (rol_below (64 - v.s) v.a v.k c.requires.1 (omega arith)) (all_bits v.s c.requires.0)) }
 
 pub returns : goal.returns
 returns c =
     let v = c.args in
-    runs (64 - v.s) v.k _ c.if-w-k.false (turned_left v.s v.a v.k c.requires.0 c.if-w-k.false c.keep.ensures)
+    runs (64 - v.s) v.k _ c.in_ok-below_width.ensures (turned_left v.s v.a v.k c.requires.0 c.in_ok-below_width.ensures c.keep.ensures)

@@ -3,15 +3,13 @@ use Rattle.std.proofs.Common.{◌-◌, ◌*◌, ◌^◌, refl, arith}
 use Rattle.arithmetic.proofs.Words.{reduced, runs, stops}
 use Rattle.arithmetic.proofs.shifts.shl.Goals as goal
 
-pub overflow_sub-s : goal.overflow_sub-s
-overflow_sub-s c = omega arith
-
-pub returns-then-s-k : goal.returns-then-s-k
-returns-then-s-k c = stops (64 - c.args.s) c.args.k _ c.if-s-k.true
+pub returns-in_err-below_width : goal.returns-in_err-below_width
+returns-in_err-below_width c =
+    stops (64 - c.args.s) c.args.k _ c.from_residual.result c.from_residual.ensures.1 c.in_err-below_width.ensures
 
 pub overflow_shl-a : goal.overflow_shl-a
 overflow_shl-a c = omega arith
 
 pub returns : goal.returns
 returns c =
-    runs (64 - c.args.s) c.args.k _ c.if-s-k.false (reduced c.args.s c.requires (c.args.a * 2 ^ c.args.k) refl c.keep.ensures)
+    runs (64 - c.args.s) c.args.k _ c.in_ok-below_width.ensures (reduced c.args.s c.requires (c.args.a * 2 ^ c.args.k) refl c.keep.ensures)

@@ -4,11 +4,9 @@ use Rattle.arithmetic.proofs.Words.{runs, stops}
 use Rattle.arithmetic.proofs.Meanings.{shifted_negative, shifted_positive}
 use Rattle.arithmetic.proofs.shifts.shr.Goals as goal
 
-pub overflow_sub-s : goal.overflow_sub-s
-overflow_sub-s c = omega arith
-
-pub returns-then-s-k : goal.returns-then-s-k
-returns-then-s-k c t k = stops (64 - c.args.s) c.args.k _ c.if-s-k.true
+pub returns-in_err-below_width : goal.returns-in_err-below_width
+returns-in_err-below_width c t k =
+    stops (64 - c.args.s) c.args.k _ c.from_residual.result c.from_residual.ensures.1 c.in_err-below_width.ensures
 
 pub overflow_shr-flip : goal.overflow_shr-flip
 overflow_shr-flip c = omega arith
@@ -18,7 +16,7 @@ flip-requires-then-negative c = let h = div-le_self c.flip.result (2 ^ c.args.k)
 
 pub returns-then-negative : goal.returns-then-negative
 returns-then-negative c t k =
-    runs (64 - c.args.s) c.args.k _ c.if-s-k.false
+    runs (64 - c.args.s) c.args.k _ c.in_ok-below_width.ensures
     (shifted_negative k c.args.a c.requires.1 c.args.k (sym c.negative.ensures ∙ c.if-negative.true) c.flip.ensures c.flip-then-negative.ensures)
 
 pub overflow_shr-result : goal.overflow_shr-result
@@ -26,4 +24,4 @@ overflow_shr-result c = omega arith
 
 pub returns : goal.returns
 returns c t k =
-    runs (64 - c.args.s) c.args.k _ c.if-s-k.false (shifted_positive k c.args.a c.requires.1 c.args.k (sym c.negative.ensures ∙ c.if-negative.false))
+    runs (64 - c.args.s) c.args.k _ c.in_ok-below_width.ensures (shifted_positive k c.args.a c.requires.1 c.args.k (sym c.negative.ensures ∙ c.if-negative.false))

@@ -10,6 +10,6 @@ pub returns-then-negative : goal.returns-then-negative
 returns-then-negative c t k =
     converted_negative k c.args.x c.requires.2 (64 - c.args.r) (sym c.negative.ensures ∙ c.if-negative.true) c.flip.ensures c.keep.ensures c.flip-then-negative.ensures
 
-pub returns : goal.returns
-returns c t k =
-    converted_positive k c.args.x c.requires.2 (64 - c.args.r) (sym c.negative.ensures ∙ c.if-negative.false) c.keep-2.ensures
+pub returns-else-negative : goal.returns-else-negative
+returns-else-negative c t k =
+    converted_positive k c.args.x c.requires.2 (64 - c.args.r) (sym c.negative.ensures ∙ c.if-negative.false) c.keep-else-negative.ensures

@@ -11,5 +11,5 @@ returns-then-sign c t k =
     (shifted_less (rank_of (64 - c.args.s) c.args.a) (rank_of (64 - c.args.s) c.args.b) c.args.s
     ∙ sym (less_by_rank k c.args.a c.args.b c.requires.1 c.requires.2 c.if-sign.true))
 
-pub returns : goal.returns
-returns c t k = sym (less_unsigned k c.args.a c.args.b c.requires.1 c.requires.2 c.if-sign.false)
+pub returns-else-sign : goal.returns-else-sign
+returns-else-sign c t k = sym (less_unsigned k c.args.a c.args.b c.requires.1 c.requires.2 c.if-sign.false)

@@ -7,6 +7,6 @@ pub returns-then-negative : goal.returns-then-negative
 returns-then-negative c =
     c.neg.ensures ∙ magnitude_negative c.args.s c.args.sign c.args.x c.requires.0 c.requires.1 (sym c.negative.ensures ∙ c.if-negative.true)
 
-pub returns : goal.returns
-returns c =
+pub returns-else-negative : goal.returns-else-negative
+returns-else-negative c =
     sym (ap nat_abs (reading_positive c.args.s c.args.sign c.args.x (sym c.negative.ensures ∙ c.if-negative.false)))

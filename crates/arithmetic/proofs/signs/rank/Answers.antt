@@ -1,10 +1,10 @@
 -- `signs::rank`: to add the highest bit makes the halves change places.
-use Rattle.std.proofs.Common.{◌∙◌, arith}
+use Rattle.std.proofs.Common.{arith}
 use Rattle.arithmetic.proofs.Words.{ranked}
 use Rattle.arithmetic.proofs.signs.rank.Goals as goal
 
-pub overflow_shl-x : goal.overflow_shl-x
-overflow_shl-x c = omega arith
+pub overflow_shl-result : goal.overflow_shl-result
+overflow_shl-result c = omega arith
 
 pub returns : goal.returns
-returns c = c.wrapping_add_u64.ensures.value ∙ ranked c.args.s c.requires.0 c.requires.1
+returns c = ranked c.args.s c.requires.0 c.requires.1

@@ -1,7 +1,8 @@
 -- `wrapping::neg`: 0 - a, modulo 2^w.
-use Rattle.arithmetic.proofs.Words.{negated}
+use Rattle.std.proofs.Common.{arith}
+use Rattle.arithmetic.proofs.Words.{taken_away, negated}
 use Rattle.arithmetic.proofs.wrapping.neg.Goals as goal
 
 pub returns : goal.returns
 returns c =
-    negated c.args.s c.requires.0 c.wrapping_sub_u64.result c.requires.1 c.wrapping_sub_u64.ensures.value c.keep.ensures
+    negated c.args.s c.requires.0 _ c.requires.1 (taken_away 0 c.args.a (omega arith) (omega arith)) c.keep.ensures

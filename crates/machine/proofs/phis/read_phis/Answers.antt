@@ -56,12 +56,6 @@ overflow_add-e-in-loop-i c =
     let test = c.loop-i-test.true in
     omega (arith, c.loop-i.invariant.3 test, c.requires.readable.entry c.loop-i.i test, c.phi_count-count.ensures.1)
 
-pub overflow_add-i : goal.overflow_add-i
-overflow_add-i c = omega arith
-
-pub loop-i-smaller : goal.loop-i-smaller
-loop-i-smaller c = omega arith
-
 pub loop-i-preserved : goal.loop-i-preserved
 loop-i-preserved c =
     let test = c.loop-i-test.true in

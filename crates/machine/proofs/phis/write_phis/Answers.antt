@@ -28,12 +28,6 @@ bounds-registers-row_target c =
     rw (c.row_target.ensures.0, c.loop-i.invariant.1, written_length c.args.t.now c.args.a c.args.first c.args.k c.args.registers.now c.loop-i.i)
     (c.requires.readable.target c.loop-i.i c.loop-i-test.true)
 
-pub overflow_add-i : goal.overflow_add-i
-overflow_add-i c = omega arith
-
-pub loop-i-smaller : goal.loop-i-smaller
-loop-i-smaller c = omega arith
-
 pub loop-i-preserved : goal.loop-i-preserved
 loop-i-preserved c = (
   omega arith,
