@@ -16,10 +16,13 @@ use Rattle.language.specs.Table.{two_bytes, name_length, name_offset}
 use Rattle.language.specs.Table.{block_length, block_names_offset, blocks_offset, register_length, register_names_offset, registers_offset}
 use Rattle.language.specs.Reading.{Draft as Draftᴸ, ActOutcome, no_open_block, function_number, register_number, block_number, open_rows, rows_in}
 use Rattle.language.specs.Reading.{mark_ssa, set_result, name_function, name_register, name_block, end_block}
-use Rattle.drafts.specs.State.{Bounded, Lent, Stands, Acts, ActsOn, ActsAlone, CellsIndexed, function_names, lent_of, names_length, Always, Unnamed, NoBlock}
+use Rattle.drafts.specs.State.{fault_at, Bounded, Lent, Stands, Acts, ActsOn, ActsAlone, CellsIndexed, function_names, lent_of, names_length, Always, Unnamed, NoBlock}
 use Rattle.drafts.specs.declared.state.Draft.{Draft}
 use Rattle.drafts.specs.declared.state.Head.{Head}
-use Rattle.drafts.specs.declared.state.Outcome.TheVariants as outcome
+use Rattle.std.specs.Prelude.{Ok, Err}
+use Rattle.answers.specs.declared.reasons.Reason.{Reason}
+use Rattle.answers.specs.declared.reasons.Reason.TheVariants as reasons
+use Rattle.answers.specs.Reasons.{reason_number}
 use Rattle.text_place.specs.declared.TextPlace.{TextPlace}
 use Rattle.drafts.proofs.HeadLaws as head
 use Rattle.drafts.proofs.HeadLaws.{marked, returning, named, registered, headed_at, counts_headed, keeps_names, names_function, names_register}
@@ -34,7 +37,7 @@ head_at a t k r = record { ssa = a; result = t; params = k; registers = r }
 -- ---- the head
 
 module _ (s : Draft) (b : Bounded s) where
-  pub ssa_marked : ActsAlone Always mark_ssa s (outcome.Proceed (headed_at s (head_at 1 s.head.result s.head.params s.head.registers)))
+  pub ssa_marked : ActsAlone Always mark_ssa s (Ok (headed_at s (head_at 1 s.head.result s.head.params s.head.registers)))
   unfolding mark_ssa
   ssa_marked =
       changing (omega arith)
@@ -50,7 +53,7 @@ module _ (s : Draft) (b : Bounded s) where
       })
 
   pub result_set : (kind : ℕ) → kind < 256
-      → ActsAlone Always (set_result kind) s (outcome.Proceed (headed_at s (head_at s.head.ssa kind s.head.params s.head.registers)))
+      → ActsAlone Always (set_result kind) s (Ok (headed_at s (head_at s.head.ssa kind s.head.params s.head.registers)))
   unfolding set_result
   result_set kind low =
       changing (omega arith)
@@ -69,10 +72,10 @@ module _ {s : Draft} (n : List ℕ) (p : TextPlace) {f : List ℕ} where
   -- ---- a function's name
 
   module _ {names m l b : List ℕ} {i : ℕ} (found : i ≡ first_named names 0 name_length s.functions n) where
-    pub function_known : i < s.functions → Acts Unnamed (name_function n p.byte) s (lent_of f names m l b) (outcome.Refuse 6 p) (lent_of f names m l b)
+    pub function_known : i < s.functions → Acts Unnamed (name_function n p.byte) s (lent_of f names m l b) (Err (fault_at reasons.DeclaredTwice p)) (lent_of f names m l b)
     unfolding name_function
     function_known known =
-        refusing 6 p
+        refusing reasons.DeclaredTwice p
         (λ d h fit.
         let c = h.counts.functions in
         let e = function_found h n in
@@ -84,7 +87,7 @@ module _ {s : Draft} (n : List ℕ) (p : TextPlace) {f : List ℕ} where
 
     pub function_put : Bounded s → s.functions < max_functions → s.functions ≤ i → length n ≤ max_name → length names ≡ names_length → {f' names' : List ℕ}
         → names' ≡ sets names (name_length * s.functions) (length n ∷ n) → f' ≡ sets f name_offset (length n ∷ n)
-        → Acts Unnamed (name_function n p.byte) s (lent_of f names m l b) (outcome.Proceed s) (lent_of f' names' m l b)
+        → Acts Unnamed (name_function n p.byte) s (lent_of f names m l b) (Ok s) (lent_of f' names' m l b)
     function_put bounds less new short all {names' = names'} put-name put =
         record {
           kept = bounds;
@@ -115,10 +118,10 @@ module _ {s : Draft} (n : List ℕ) (p : TextPlace) {f : List ℕ} where
   -- ---- a register's name
 
   module _ (k kind : ℕ) {ns m l b : List ℕ} {i : ℕ} (found : i ≡ first_named f register_names_offset register_length s.head.registers n) where
-    pub register_known : i < s.head.registers → Acts Always (name_register k kind n p.byte) s (lent_of f ns m l b) (outcome.Refuse 6 p) (lent_of f ns m l b)
+    pub register_known : i < s.head.registers → Acts Always (name_register k kind n p.byte) s (lent_of f ns m l b) (Err (fault_at reasons.DeclaredTwice p)) (lent_of f ns m l b)
     unfolding name_register
     register_known known =
-        refusing 6 p
+        refusing reasons.DeclaredTwice p
         (λ d h fit.
         let c = h.counts.head.registers in
         let e = register_found h n in
@@ -133,7 +136,7 @@ module _ {s : Draft} (n : List ℕ) (p : TextPlace) {f : List ℕ} where
       pub register_put : Bounded s → s.head.registers < max_registers → length n ≤ max_name → k ≤ 1 → kind < 256 → CellsIndexed s f l b → {r : ℕ} → r ≡ kind % 256 → {f' : List ℕ}
           → f' ≡ sets f (0 + registers_offset + register_length * s.head.registers) (r ∷ length n ∷ n)
           → Acts Always (name_register k kind n p.byte) s (lent_of f ns m l b)
-          (outcome.Proceed (headed_at s (head_at s.head.ssa s.head.result (s.head.params + k) (s.head.registers + 1)))) (lent_of f' ns m l' b')
+          (Ok (headed_at s (head_at s.head.ssa s.head.result (s.head.params + k) (s.head.registers + 1)))) (lent_of f' ns m l' b')
       register_put bounds less short one low indexed {r} er {f'} put =
           let at : ℕ = registers_offset + register_length * s.head.registers in
           let is : r ≡ kind = omega arith in
@@ -177,10 +180,10 @@ module _ {s : Draft} (n : List ℕ) (p : TextPlace) {f : List ℕ} where
   -- ---- a block's name
 
   module _ {names m l b : List ℕ} {i : ℕ} (found : i ≡ first_named f block_names_offset block_length s.blocks.closed n) where
-    pub block_known : i < s.blocks.closed → Acts NoBlock (name_block n p.byte) s (lent_of f names m l b) (outcome.Refuse 6 p) (lent_of f names m l b)
+    pub block_known : i < s.blocks.closed → Acts NoBlock (name_block n p.byte) s (lent_of f names m l b) (Err (fault_at reasons.DeclaredTwice p)) (lent_of f names m l b)
     unfolding name_block
     block_known known =
-        refusing 6 p
+        refusing reasons.DeclaredTwice p
         (λ d h fit.
         let c = h.counts.blocks.closed in
         let e = block_found h n in
@@ -192,7 +195,7 @@ module _ {s : Draft} (n : List ℕ) (p : TextPlace) {f : List ℕ} where
 
     pub block_put : Bounded s → s.blocks.closed < max_blocks → s.blocks.closed ≤ i → length n ≤ max_name → {f' : List ℕ}
         → f' ≡ sets f (block_names_offset + block_length * s.blocks.closed) (length n ∷ n)
-        → Acts NoBlock (name_block n p.byte) s (lent_of f names m l b) (outcome.Proceed s) (lent_of f' names m l b)
+        → Acts NoBlock (name_block n p.byte) s (lent_of f names m l b) (Ok s) (lent_of f' names m l b)
     block_put bounds room new short put =
         storing (block_names_offset + block_length * s.blocks.closed) (length n ∷ n) put bounds
         (λ d h fit.
@@ -224,7 +227,7 @@ module _ {s : Draft} {f l b : List ℕ} where
   pub block_closed : Bounded s → s.blocks.closed < max_blocks → {f' f'' : List ℕ}
       → f' ≡ sets f (blocks_offset + block_length * s.blocks.closed) (two_bytes s.blocks.first)
       → f'' ≡ sets f' (blocks_offset + block_length * s.blocks.closed + 2) (two_bytes (s.blocks.rows - s.blocks.first))
-      → ActsOn Always end_block s f l b (outcome.Proceed (blocks_at s (s.blocks.closed + 1) s.blocks.rows)) f''
+      → ActsOn Always end_block s f l b (Ok (blocks_at s (s.blocks.closed + 1) s.blocks.rows)) f''
   block_closed bounds room {f'} {f''} first count names m =
       let k = blocks_offset + block_length * s.blocks.closed in
       let vs = two_bytes s.blocks.first ++ two_bytes (s.blocks.rows - s.blocks.first) in

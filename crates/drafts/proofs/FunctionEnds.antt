@@ -22,9 +22,12 @@ use Rattle.text_place.specs.declared.TextPlace.{TextPlace}
 use Rattle.drafts.specs.Cells.{head_bytes}
 use Rattle.drafts.specs.Ending.{block_named, Resolved, patch_rows}
 use Rattle.drafts.specs.Mentions.{name_number, mentions_of, kept}
-use Rattle.drafts.specs.State.{Lent, lent_of, Stands, Closes, EndsFunction, NothingOpen, fresh_at, mention_length}
+use Rattle.drafts.specs.State.{fault_at, Lent, lent_of, Stands, Closes, EndsFunction, NothingOpen, fresh_at, mention_length}
 use Rattle.drafts.specs.declared.state.Draft.{Draft}
-use Rattle.drafts.specs.declared.state.Outcome.TheVariants as outcome
+use Rattle.std.specs.Prelude.{Ok, Err}
+use Rattle.answers.specs.declared.reasons.Reason.{Reason}
+use Rattle.answers.specs.declared.reasons.Reason.TheVariants as reasons
+use Rattle.answers.specs.Reasons.{reason_number}
 use Rattle.drafts.proofs.BraceLaws.{kept_name, Declared, AllDeclared, FirstUnknown, all_kept, none_undeclared, first_undeclared}
 use Rattle.drafts.proofs.Closing.{closed_function, closes, unlisted_stands, listed_closes}
 use Rattle.drafts.proofs.FreshLaws.{bounded_fresh}
@@ -135,25 +138,25 @@ module _ (s : Draft) (f pend : List ℕ) (p : TextPlace) {entry : ℕ} (found_en
   entry_is : (d : Draftᴸ) → Stands d s lent → entry ≡ block_number d.blocks []
   entry_is d h = found_entry ∙ block_found h []
 
-  refuses : (k : ℕ) (q : TextPlace) → ((d : Draftᴸ) → Stands d s lent → NothingOpen d → end_function p.byte d ≡ ActOutcome.refuse k q.byte)
-      → EndsFunction p.byte s lent (outcome.Refuse k q) lent
-  refuses k q same = record { kept = tt; whole = λ w. w; meaning = λ d h none. rw (same d h none) (Closes.refuses k q) }
+  refuses : (k : Reason) (q : TextPlace) → ((d : Draftᴸ) → Stands d s lent → NothingOpen d → end_function p.byte d ≡ ActOutcome.refuse (reason_number k) q.byte)
+      → EndsFunction p.byte s lent (Err (fault_at k q)) lent
+  refuses k q same = record { kept = tt; whole = λ w. w; meaning = λ d h none. rw (same d h none) (Closes.refuses (fault_at k q)) }
 
   -- no block has the empty name
-  pub ends_without_entry : s.blocks.closed ≤ entry → EndsFunction p.byte s lent (outcome.Refuse 8 p) lent
-  ends_without_entry c = refuses 8 p (λ d h none. no_entry h none p.byte (omega (arith, entry_is d h, h.counts.blocks.closed)))
+  pub ends_without_entry : s.blocks.closed ≤ entry → EndsFunction p.byte s lent (Err (fault_at reasons.NoEntry p)) lent
+  ends_without_entry c = refuses reasons.NoEntry p (λ d h none. no_entry h none p.byte (omega (arith, entry_is d h, h.counts.blocks.closed)))
 
   module _ {r : ℕ} {found : List ℕ} (i : entry < s.blocks.closed) (z : Resolved f s.blocks.closed pend s.blocks.names r found) where
     has_entry : (d : Draftᴸ) → Stands d s lent → block_number d.blocks [] < length d.blocks
     has_entry d h = omega (arith, entry_is d h, h.counts.blocks.closed)
 
     pub ends_undeclared : (q : TextPlace) → r < s.blocks.names → q.byte ≡ four pend (mention_length * r + name_length)
-        → EndsFunction p.byte s lent (outcome.Refuse 7 q) lent
-    ends_undeclared q m e = refuses 7 q (λ d h none. undeclared_at h none z m p.byte (has_entry d h) ∙ ap (ActOutcome.refuse 7) (sym e))
+        → EndsFunction p.byte s lent (Err (fault_at reasons.NotDeclared q)) lent
+    ends_undeclared q m e = refuses reasons.NotDeclared q (λ d h none. undeclared_at h none z m p.byte (has_entry d h) ∙ ap (ActOutcome.refuse 7) (sym e))
 
     pub ends_closed : {s' : Draft} {f₁ f₂ f₃ : List ℕ} → s.functions < max_functions → s' ≡ fresh_at (s.functions + 1) → s.blocks.names ≤ r
         → f₁ ≡ patch_rows f found s.blocks.rows → f₂ ≡ sets f₁ 0 (head_at s entry) → Lists f₂ f₃ → length f₃ ≡ length f
-        → EndsFunction p.byte s lent (outcome.Close s') (lent_of f₃ n pend l b)
+        → EndsFunction p.byte s lent (Ok s') (lent_of f₃ n pend l b)
     ends_closed {s'} {f₃ = f₃} less e m u v lists size =
         rw e
         (record {

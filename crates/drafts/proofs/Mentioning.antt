@@ -13,9 +13,12 @@ use Rattle.laws.specs.Lists.{gather}
 use Rattle.laws.proofs.Every.{Every, every_right}
 use Rattle.language.specs.Reading.{Draft as Draftᴸ, Mention, open_rows, mentions_in, add_mention}
 use Rattle.drafts.specs.Mentions.{max_names, name_number, keep_mention, kept}
-use Rattle.drafts.specs.State.{Bounded, Acts, Always, NameKept, Stands, lent_of, with_name_at}
+use Rattle.drafts.specs.State.{fault_at, Bounded, Acts, Always, NameKept, Stands, lent_of, with_name_at}
 use Rattle.drafts.specs.declared.state.Draft.{Draft}
-use Rattle.drafts.specs.declared.state.Outcome.TheVariants as outcome
+use Rattle.std.specs.Prelude.{Ok, Err}
+use Rattle.answers.specs.declared.reasons.Reason.{Reason}
+use Rattle.answers.specs.declared.reasons.Reason.TheVariants as reasons
+use Rattle.answers.specs.Reasons.{reason_number}
 use Rattle.text_place.specs.declared.TextPlace.{TextPlace}
 use Rattle.drafts.proofs.FirstTwo.{Pushed}
 use Rattle.drafts.proofs.InHand.{held, bounded, numbers_of, sources_in, mentions_in_law, counted}
@@ -88,7 +91,7 @@ module _ {s : Draft} (b : Bounded s) (name : List ℕ) (p : TextPlace) {pend pen
         h.names (rw (kept_mentioned d new) (is.all ks c.blocks.names h.pending)) h.indexed
 
     mention_acts : Pushed k s.parts.one s.parts.other s.parts.mentions i j u → i ≤ max_names → j ≤ max_names
-        → Acts Always (add_mention name p.byte) s (lent_of f n pend l q) (outcome.Proceed (mentioned_at (with_name_at s k) i j u)) (lent_of f n pend' l q)
+        → Acts Always (add_mention name p.byte) s (lent_of f n pend l q) (Ok (mentioned_at (with_name_at s k) i j u)) (lent_of f n pend' l q)
     unfolding add_mention
     mention_acts push bi bj =
         record {
@@ -99,5 +102,5 @@ module _ {s : Draft} (b : Bounded s) (name : List ℕ) (p : TextPlace) {pend pen
         }
 
     pub mention_proceeds : {t : Draft} → t ≡ with_name_at s k → Pushed k t.parts.one t.parts.other t.parts.mentions i j u → i ≤ max_names → j ≤ max_names
-        → Acts Always (add_mention name p.byte) s (lent_of f n pend l q) (outcome.Proceed (mentioned_at t i j u)) (lent_of f n pend' l q)
+        → Acts Always (add_mention name p.byte) s (lent_of f n pend l q) (Ok (mentioned_at t i j u)) (lent_of f n pend' l q)
     mention_proceeds e push bi bj = rw e (mention_acts (rw e at push) bi bj)

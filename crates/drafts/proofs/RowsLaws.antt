@@ -19,9 +19,12 @@ use Rattle.instructions.specs.Ranges.{beyond}
 use Rattle.instructions.proofs.RangesLaws.{range_large}
 use Rattle.drafts.specs.Mentions.{kept}
 use Rattle.drafts.specs.Cells.{operand_cell, instruction_cells}
-use Rattle.drafts.specs.State.{Bounded, Counts, Stands, Lent, lent_of, ActsOn, ActsAlone, Always, NoParts, WholeRow, KeptAs, operand_at, row_at}
+use Rattle.drafts.specs.State.{fault_at, Bounded, Counts, Stands, Lent, lent_of, ActsOn, ActsAlone, Always, NoParts, WholeRow, KeptAs, operand_at, row_at}
 use Rattle.drafts.specs.declared.state.Draft.{Draft}
-use Rattle.drafts.specs.declared.state.Outcome.TheVariants as outcome
+use Rattle.std.specs.Prelude.{Ok, Err}
+use Rattle.answers.specs.declared.reasons.Reason.{Reason}
+use Rattle.answers.specs.declared.reasons.Reason.TheVariants as reasons
+use Rattle.answers.specs.Reasons.{reason_number}
 use Rattle.text_place.specs.declared.TextPlace.{TextPlace}
 use Rattle.drafts.proofs.FirstTwo.{Firsts, Pushed, no_firsts}
 use Rattle.drafts.proofs.InHand.{held, bounded, sources_in, mentions_in_law, counted, same_names}
@@ -75,16 +78,16 @@ unfolding draft_rows
 rows_in h = sym h.counts.blocks.rows
 
 module _ {s : Draft} (b : Bounded s) (p : TextPlace) where
-  pub begin_refused : (op : ℕ) → max_rows ≤ s.blocks.rows → ActsAlone NoParts (begin_instruction op p.byte) s (outcome.Refuse 5 p)
+  pub begin_refused : (op : ℕ) → max_rows ≤ s.blocks.rows → ActsAlone NoParts (begin_instruction op p.byte) s (Err (fault_at reasons.SizeExceeded p))
   unfolding begin_instruction
-  begin_refused op full y = refusing 5 p (λ d h fit. rw (rows_in h, le-ltb s.blocks.rows max_rows full))
+  begin_refused op full y = refusing reasons.SizeExceeded p (λ d h fit. rw (rows_in h, le-ltb s.blocks.rows max_rows full))
 
-  pub begin_proceeds : (op : ℕ) → op < 256 → s.blocks.rows < max_rows → ActsAlone NoParts (begin_instruction op p.byte) s (outcome.Proceed (begun s op 0))
+  pub begin_proceeds : (op : ℕ) → op < 256 → s.blocks.rows < max_rows → ActsAlone NoParts (begin_instruction op p.byte) s (Ok (begun s op 0))
   unfolding begin_instruction
   begin_proceeds op small room =
       changing (bounded_begun b op 0 small (lit< tt)) (λ d y h free. step_begun h free op 0 (rw (rows_in h, lt-ltb s.blocks.rows max_rows room)))
 
-pub instruction_proceeds : {s : Draft} → Bounded s → (op : ℕ) → op < 256 → ActsAlone NoParts (set_instruction op) s (outcome.Proceed (begun s op s.parts.target))
+pub instruction_proceeds : {s : Draft} → Bounded s → (op : ℕ) → op < 256 → ActsAlone NoParts (set_instruction op) s (Ok (begun s op s.parts.target))
 unfolding set_instruction
 instruction_proceeds {s} b op small =
     changing (bounded_begun b op s.parts.target small b.target) (λ d y h free. step_begun h free op s.parts.target (rw (← h.counts.parts.target)))
@@ -96,13 +99,13 @@ abbrev pub Numbers : Draft → (f name : List ℕ) → ℕ → Type 0
 Numbers s f name r = (d : Draftᴸ) (n m l b : List ℕ) → Stands d s (lent_of f n m l b) → r ≡ register_number d.function.registers name
 
 module _ {s : Draft} (b : Bounded s) (name : List ℕ) (p : TextPlace) (f last before : List ℕ) where
-  pub target_refused : max_rows ≤ s.blocks.rows → ActsOn NoParts (set_target name p.byte) s f last before (outcome.Refuse 5 p) f
+  pub target_refused : max_rows ≤ s.blocks.rows → ActsOn NoParts (set_target name p.byte) s f last before (Err (fault_at reasons.SizeExceeded p)) f
   unfolding set_target
-  target_refused full n m = refusing 5 p (λ d h fit. rw (rows_in h, le-ltb s.blocks.rows max_rows full))
+  target_refused full n m = refusing reasons.SizeExceeded p (λ d h fit. rw (rows_in h, le-ltb s.blocks.rows max_rows full))
 
-  pub entry_refused : max_entries ≤ s.blocks.entries → ActsOn Always (add_entry name p.byte) s f last before (outcome.Refuse 5 p) f
+  pub entry_refused : max_entries ≤ s.blocks.entries → ActsOn Always (add_entry name p.byte) s f last before (Err (fault_at reasons.SizeExceeded p)) f
   unfolding add_entry
-  entry_refused full n m = refusing 5 p (λ d h fit. rw (← h.counts.blocks.entries, le-ltb s.blocks.entries max_entries full))
+  entry_refused full n m = refusing reasons.SizeExceeded p (λ d h fit. rw (← h.counts.blocks.entries, le-ltb s.blocks.entries max_entries full))
 
   module _ {r : ℕ} (is : Numbers s f name r) where
     unknown : s.head.registers ≤ r → {d : Draftᴸ} {n m : List ℕ} → Stands d s (lent_of f n m last before)
@@ -113,23 +116,23 @@ module _ {s : Draft} (b : Bounded s) (name : List ℕ) (p : TextPlace) (f last b
         → ltb (register_number d.function.registers name) (length d.function.registers) ≡ true
     known less {d} {n} {m} h = rw (← is d n m last before h, ← h.counts.head.registers) (lt-ltb r s.head.registers less)
 
-    pub target_unknown : s.blocks.rows < max_rows → s.head.registers ≤ r → ActsOn NoParts (set_target name p.byte) s f last before (outcome.Refuse 7 p) f
+    pub target_unknown : s.blocks.rows < max_rows → s.head.registers ≤ r → ActsOn NoParts (set_target name p.byte) s f last before (Err (fault_at reasons.NotDeclared p)) f
     unfolding set_target
-    target_unknown room out n m = refusing 7 p (λ d h fit. rw (rows_in h, lt-ltb s.blocks.rows max_rows room, unknown out h))
+    target_unknown room out n m = refusing reasons.NotDeclared p (λ d h fit. rw (rows_in h, lt-ltb s.blocks.rows max_rows room, unknown out h))
 
-    pub target_proceeds : s.blocks.rows < max_rows → r < s.head.registers → ActsOn NoParts (set_target name p.byte) s f last before (outcome.Proceed (begun s 0 r)) f
+    pub target_proceeds : s.blocks.rows < max_rows → r < s.head.registers → ActsOn NoParts (set_target name p.byte) s f last before (Ok (begun s 0 r)) f
     unfolding set_target
     target_proceeds room less n m =
         storing 0 [] refl (bounded_begun b 0 r (lit< tt) (omega (arith, b.registers)))
         (λ d h free. step_begun h free 0 r (rw (rows_in h, lt-ltb s.blocks.rows max_rows room, known less h, ← is d n m last before h)))
 
-    pub source_unknown : s.head.registers ≤ r → ActsOn Always (add_source name p.byte) s f last before (outcome.Refuse 7 p) f
+    pub source_unknown : s.head.registers ≤ r → ActsOn Always (add_source name p.byte) s f last before (Err (fault_at reasons.NotDeclared p)) f
     unfolding add_source
-    source_unknown out n m = refusing 7 p (λ d h fit. rw (unknown out h))
+    source_unknown out n m = refusing reasons.NotDeclared p (λ d h fit. rw (unknown out h))
 
     pub source_proceeds : r < s.head.registers → {l g k : ℕ} → Pushed r s.parts.left s.parts.right s.parts.sources l g k → l < 256 → g < 256
         → ActsOn Always (add_source name p.byte) s f last before
-        (outcome.Proceed
+        (Ok
         (held s s.blocks.rows s.blocks.entries s.blocks.names s.parts.op s.parts.target l g k s.parts.number s.parts.entries s.parts.one s.parts.other
         s.parts.mentions))
         f
@@ -143,13 +146,13 @@ module _ {s : Draft} (b : Bounded s) (name : List ℕ) (p : TextPlace) (f last b
         step_parts c h y refl refl (rw (known less h, ← is d n m last before h))
         (counts_parts c y refl refl c.parts.op c.parts.target (push x.sources (sources_in c)) c.parts.number))
 
-    pub entry_unknown : s.blocks.entries < max_entries → s.head.registers ≤ r → ActsOn Always (add_entry name p.byte) s f last before (outcome.Refuse 7 p) f
+    pub entry_unknown : s.blocks.entries < max_entries → s.head.registers ≤ r → ActsOn Always (add_entry name p.byte) s f last before (Err (fault_at reasons.NotDeclared p)) f
     unfolding add_entry
-    entry_unknown room out n m = refusing 7 p (λ d h fit. rw (← h.counts.blocks.entries, lt-ltb s.blocks.entries max_entries room, unknown out h))
+    entry_unknown room out n m = refusing reasons.NotDeclared p (λ d h fit. rw (← h.counts.blocks.entries, lt-ltb s.blocks.entries max_entries room, unknown out h))
 
     pub entry_proceeds : s.blocks.entries < max_entries → r < s.head.registers → {f' : List ℕ} → f' ≡ sets f (entries_offset + s.blocks.entries) (r ∷ [])
         → ActsOn Always (add_entry name p.byte) s f last before
-        (outcome.Proceed
+        (Ok
         (held s s.blocks.rows (s.blocks.entries + 1) s.blocks.names s.parts.op s.parts.target s.parts.left s.parts.right s.parts.sources s.parts.number
         (s.parts.entries + 1) s.parts.one s.parts.other s.parts.mentions))
         f'
@@ -190,17 +193,17 @@ module _ {s : Draft} (b : Bounded s) (neg : Bool) {v : ℕ} {o : Bool} (p : Text
   kind_is : {d : Draftᴸ} {y : Lent} → Stands d s y → k ≡ load_type d.parts.op
   kind_is h = kind ∙ ap load_type h.counts.parts.op
 
-  pub number_over : o ≡ true → ActsAlone Always (set_number neg n p.byte) s (outcome.Refuse 4 p)
+  pub number_over : o ≡ true → ActsAlone Always (set_number neg n p.byte) s (Err (fault_at reasons.NumberOutOfRange p))
   unfolding set_number
-  number_over q y = refusing 4 p (λ d h fit. rw (range_large (load_type d.parts.op) neg n (value_over a q)))
+  number_over q y = refusing reasons.NumberOutOfRange p (λ d h fit. rw (range_large (load_type d.parts.op) neg n (value_over a q)))
 
-  pub number_refused : o ≡ false → number_in_range k neg v ≡ false → ActsAlone Always (set_number neg n p.byte) s (outcome.Refuse 4 p)
+  pub number_refused : o ≡ false → number_in_range k neg v ≡ false → ActsAlone Always (set_number neg n p.byte) s (Err (fault_at reasons.NumberOutOfRange p))
   unfolding set_number
-  number_refused e q y = refusing 4 p (λ d h fit. rw (← kind_is h, ← value_exact a e, q))
+  number_refused e q y = refusing reasons.NumberOutOfRange p (λ d h fit. rw (← kind_is h, ← value_exact a e, q))
 
   pub number_proceeds : o ≡ false → number_in_range k neg v ≡ true → {r : ℕ} → r ≡ bits_of k neg v
       → ActsAlone Always (set_number neg n p.byte) s
-      (outcome.Proceed
+      (Ok
       (held s s.blocks.rows s.blocks.entries s.blocks.names s.parts.op s.parts.target s.parts.left s.parts.right s.parts.sources r s.parts.entries
       s.parts.one s.parts.other s.parts.mentions))
   unfolding set_number
@@ -236,7 +239,7 @@ module _ {d : Draftᴸ} {s : Draft} (c : Counts d s) where
 pub row_proceeds : {s : Draft} → Bounded s → s.blocks.rows < max_rows → (f last before : List ℕ) {f' : List ℕ}
     → f' ≡ sets f (rows_offset + row_length * s.blocks.rows) (row_at s)
     → ActsOn WholeRow end_instruction s f last before
-    (outcome.Proceed (held s (s.blocks.rows + 1) s.blocks.entries s.blocks.names 0 0 0 0 0 0 0 0 0 0)) f'
+    (Ok (held s (s.blocks.rows + 1) s.blocks.entries s.blocks.names 0 0 0 0 0 0 0 0 0 0)) f'
 unfolding end_instruction
 row_proceeds {s} b room f last before e n m =
     storing (rows_offset + row_length * s.blocks.rows) (row_at s) e

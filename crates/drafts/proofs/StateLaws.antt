@@ -20,9 +20,12 @@ use Rattle.language.specs.Table.{name_at, name_length, block_length, block_names
 use Rattle.language.specs.Reading.{Draft as Draftᴸ, ActOutcome, no_open_block, function_number, register_number, block_number}
 use Rattle.drafts.specs.Cells.{Stores, open_cells}
 use Rattle.drafts.specs.Mentions.{kept}
-use Rattle.drafts.specs.State.{Bounded, Counts, Lent, lent_of, NamesHeld, function_names, draft_names, Pending, CellsIndexed, Stands, Comes, Acts}
+use Rattle.drafts.specs.State.{fault_at, Bounded, Counts, Lent, lent_of, NamesHeld, function_names, draft_names, Pending, CellsIndexed, Stands, Comes, Acts}
 use Rattle.drafts.specs.declared.state.Draft.{Draft}
-use Rattle.drafts.specs.declared.state.Outcome.TheVariants as outcome
+use Rattle.std.specs.Prelude.{Ok, Err}
+use Rattle.answers.specs.declared.reasons.Reason.{Reason}
+use Rattle.answers.specs.declared.reasons.Reason.TheVariants as reasons
+use Rattle.answers.specs.Reasons.{reason_number}
 use Rattle.text_place.specs.declared.TextPlace.{TextPlace}
 use Rattle.drafts.proofs.CellNames.{register_name_back, block_name_back}
 use Rattle.drafts.proofs.Sections.{length_open_cells}
@@ -60,17 +63,17 @@ stored {k = k} {vs} h st e c n m i =
       indexed = i;
     }
 
-pub proceeding : {x : Lent} {o : ActOutcome} {d : Draftᴸ} {s : Draft} → o ≡ ActOutcome.proceed d → Stands d s x → Comes x o (outcome.Proceed s)
+pub proceeding : {x : Lent} {o : ActOutcome} {d : Draftᴸ} {s : Draft} → o ≡ ActOutcome.proceed d → Stands d s x → Comes x o (Ok s)
 proceeding {d = d} {s} e h = rw e (Comes.proceeds d s h)
 
 module _ {Fit : Draftᴸ → Type 0} {act : Draftᴸ → ActOutcome} {s : Draft} where
-  pub refusing : {x : Lent} (n : ℕ) (p : TextPlace) → ((d : Draftᴸ) → Stands d s x → Fit d → act d ≡ ActOutcome.refuse n p.byte) → Acts Fit act s x (outcome.Refuse n p) x
-  refusing n p same = record { kept = tt; whole = λ w. w; meaning = λ d h fit. rw (same d h fit) (Comes.refuses n p) }
+  pub refusing : {x : Lent} (r : Reason) (p : TextPlace) → ((d : Draftᴸ) → Stands d s x → Fit d → act d ≡ ActOutcome.refuse (reason_number r) p.byte) → Acts Fit act s x (Err (fault_at r p)) x
+  refusing r p same = record { kept = tt; whole = λ w. w; meaning = λ d h fit. rw (same d h fit) (Comes.refuses (fault_at r p)) }
 
   -- an act that stores among the cells and keeps all names
   pub storing : {s' : Draft} {f f' n m l b : List ℕ} (k : ℕ) (vs : List ℕ) → f' ≡ sets f k vs → Bounded s'
       → ((d : Draftᴸ) → Stands d s (lent_of f n m l b) → Fit d → Step act d s' k vs)
-      → Acts Fit act s (lent_of f n m l b) (outcome.Proceed s') (lent_of f' n m l b)
+      → Acts Fit act s (lent_of f n m l b) (Ok s') (lent_of f' n m l b)
   storing {f = f} {n = n} {m} {l} {b} k vs e bounds step =
       record {
         kept = bounds;
@@ -92,7 +95,7 @@ module _ {Fit : Draftᴸ → Type 0} {act : Draftᴸ → ActOutcome} {s : Draft}
       }
 
   -- an act that changes numbers alone
-  pub changing : {s' : Draft} → Bounded s' → ((d : Draftᴸ) (x : Lent) → Stands d s x → Fit d → Step act d s' 0 []) → (x : Lent) → Acts Fit act s x (outcome.Proceed s') x
+  pub changing : {s' : Draft} → Bounded s' → ((d : Draftᴸ) (x : Lent) → Stands d s x → Fit d → Step act d s' 0 []) → (x : Lent) → Acts Fit act s x (Ok s') x
   changing bounds step x = storing 0 [] refl bounds (λ d h fit. step d x h fit)
 
 -- ---- names looked for

@@ -1,5 +1,5 @@
 -- What a draft's numbers stand for: a draft of the definition, whose cells and names are lent. Assumes nothing.
-use Rattle.std.specs.Prelude.{◌≡◌, Bool, true, false, cond, List, [], ◌∷◌, ◌++◌, map, ℕ, ◌+◌, ◌-◌, ◌*◌, ◌≤◌, ◌<◌, min, ltb, length, get_or}
+use Rattle.std.specs.Prelude.{◌≡◌, Bool, true, false, cond, List, [], ◌∷◌, ◌++◌, map, ℕ, ◌+◌, ◌-◌, ◌*◌, ◌≤◌, ◌<◌, min, ltb, length, get_or, Result, Ok, Err}
 use Rattle.language.specs.Programs.{Func, max_rows, max_entries, max_blocks, max_registers, max_functions, max_name}
 use Rattle.language.specs.Instructions.{Operand, form_of, has_target, source_count, operand_of}
 use Rattle.language.specs.Table.{name_at, four, eight_bytes, name_length, function_length, register_length, register_names_offset, function_cells}
@@ -14,8 +14,10 @@ use Rattle.drafts.specs.declared.state.Head.{Head}
 use Rattle.drafts.specs.declared.state.Blocks.{Blocks}
 use Rattle.drafts.specs.declared.state.Parts.{Parts}
 use Rattle.drafts.specs.declared.state.Draft.{Draft}
-use Rattle.drafts.specs.declared.state.Outcome.{Outcome}
-use Rattle.drafts.specs.declared.state.Outcome.TheVariants as outcome
+use Rattle.drafts.specs.declared.state.Fault.{Fault}
+use Rattle.answers.specs.declared.reasons.Reason.{Reason}
+use Rattle.answers.specs.declared.reasons.Reason.TheVariants as reasons
+use Rattle.answers.specs.Reasons.{reason_number}
 use Rattle.text_place.specs.declared.TextPlace.{TextPlace}
 
 -- The bounds of every draft's numbers, whatever they stand for.
@@ -152,22 +154,25 @@ fresh_at n =
       parts = parts_from 0 0;
     }
 
+-- The fault of a reason and a place.
+abbrev pub fault_at : Reason → TextPlace → Fault
+fault_at r p = record { reason = r; at = p }
+
 -- The definition's answer, or a draft that goes on.
-pub data Comes (x : Lent) : ActOutcome → Outcome → Type 0 where
-  refuses : (n : ℕ) (p : TextPlace) → Comes x (ActOutcome.refuse n p.byte) (outcome.Refuse n p)
-  proceeds : (d : Draftᴸ) (s : Draft) → Stands d s x → Comes x (ActOutcome.proceed d) (outcome.Proceed s)
+pub data Comes (x : Lent) : ActOutcome → Result Draft Fault → Type 0 where
+  refuses : (e : Fault) → Comes x (ActOutcome.refuse (reason_number e.reason) e.at.byte) (Err e)
+  proceeds : (d : Draftᴸ) (s : Draft) → Stands d s x → Comes x (ActOutcome.proceed d) (Ok s)
 
 -- The definition's answer, or one function more that is closed, the cells being its own.
-pub data Closes (x : Lent) : ActOutcome → Outcome → Type 0 where
-  refuses : (n : ℕ) (p : TextPlace) → Closes x (ActOutcome.refuse n p.byte) (outcome.Refuse n p)
+pub data Closes (x : Lent) : ActOutcome → Result Draft Fault → Type 0 where
+  refuses : (e : Fault) → Closes x (ActOutcome.refuse (reason_number e.reason) e.at.byte) (Err e)
   closes : (fs : List Func) (g : Func) → length fs < max_functions → x.cells ≡ function_cells g → NamesHeld (function_names (fs ++ (g ∷ []))) x.names
-      → Closes x (ActOutcome.proceed (fresh (fs ++ (g ∷ [])))) (outcome.Close (fresh_at (length fs + 1)))
+      → Closes x (ActOutcome.proceed (fresh (fs ++ (g ∷ [])))) (Ok (fresh_at (length fs + 1)))
 
 -- The numbers after an act keep their bounds.
-abbrev pub KeepsBounds : Outcome → Type 0
-KeepsBounds (outcome.Refuse n p) = Unit {0}
-KeepsBounds (outcome.Proceed s) = Bounded s
-KeepsBounds (outcome.Close s) = Bounded s
+abbrev pub KeepsBounds : Result Draft Fault → Type 0
+KeepsBounds (Err e) = Unit {0}
+KeepsBounds (Ok s) = Bounded s
 
 -- The conditions: none; no function's name, no block, no parts of an instruction in hand; of a row that ends, all its entries and mentions.
 abbrev pub Always : Draftᴸ → Type 0
@@ -190,22 +195,22 @@ NothingOpen d = NoBlock d × NoParts d
 
 -- An act in code, from the numbers s and what is lent to r and x', does what the definition's act does to every draft that these stand for
 -- and that meets the act's condition.
-pub record Acts (Fit : Draftᴸ → Type 0) (act : Draftᴸ → ActOutcome) (s : Draft) (x : Lent) (r : Outcome) (x' : Lent) : Type 0 where
+pub record Acts (Fit : Draftᴸ → Type 0) (act : Draftᴸ → ActOutcome) (s : Draft) (x : Lent) (r : Result Draft Fault) (x' : Lent) : Type 0 where
   pub kept : KeepsBounds r
   pub whole : LentWhole x → LentWhole x'
   pub meaning : (d : Draftᴸ) → Stands d s x → Fit d → Comes x' (act d) r
 
 -- The same of a function's closing brace, where nothing is open.
-pub record EndsFunction (p : ℕ) (s : Draft) (x : Lent) (r : Outcome) (x' : Lent) : Type 0 where
+pub record EndsFunction (p : ℕ) (s : Draft) (x : Lent) (r : Result Draft Fault) (x' : Lent) : Type 0 where
   pub kept : KeepsBounds r
   pub whole : LentWhole x → LentWhole x'
   pub meaning : (d : Draftᴸ) → Stands d s x → NothingOpen d → Closes x' (end_function p d) r
 
 -- An act that needs what it finds among the cells alone, and one that leaves all as it is.
-abbrev pub ActsOn : (Draftᴸ → Type 0) → (Draftᴸ → ActOutcome) → Draft → (f last before : List ℕ) → Outcome → (f' : List ℕ) → Type 0
+abbrev pub ActsOn : (Draftᴸ → Type 0) → (Draftᴸ → ActOutcome) → Draft → (f last before : List ℕ) → Result Draft Fault → (f' : List ℕ) → Type 0
 ActsOn Fit act s f last before r f' = (n p : List ℕ) → Acts Fit act s (lent_of f n p last before) r (lent_of f' n p last before)
 
-abbrev pub ActsAlone : (Draftᴸ → Type 0) → (Draftᴸ → ActOutcome) → Draft → Outcome → Type 0
+abbrev pub ActsAlone : (Draftᴸ → Type 0) → (Draftᴸ → ActOutcome) → Draft → Result Draft Fault → Type 0
 ActsAlone Fit act s r = (x : Lent) → Acts Fit act s x r x
 
 -- A number as the lexer keeps it: its value and false, or any value and true if it is 2^64 or more.
@@ -222,8 +227,8 @@ pub record NameKept (n : ℕ) (name : List ℕ) (p : ℕ) (pend pend' : List ℕ
       → Pending (keep_mention ks (record { name = name; place = p })) pend'
 
 -- 5, unless there is room for one more.
-abbrev pub if_room_at : (count limit : ℕ) (place : TextPlace) → Draft → Outcome
-if_room_at k m p s = cond (ltb k m) (outcome.Proceed s) (outcome.Refuse 5 p)
+abbrev pub if_room_at : (count limit : ℕ) (place : TextPlace) → Draft → Result Draft Fault
+if_room_at k m p s = cond (ltb k m) (Ok s) (Err (fault_at reasons.SizeExceeded p))
 
 -- The draft with one name more, if the one of this number is new and there is room for it.
 abbrev pub with_name_at : Draft → ℕ → Draft

@@ -6,7 +6,8 @@ ghost use Rattle.language.specs.Table.{function_length};
 ghost use Rattle.name_index.specs.Hashes.{heads};
 ghost use Rattle.drafts.specs.State.{Bounded, Acts, ActsOn, ActsAlone, CellsIndexed, lent_of, names_length, Always, Unnamed, NoBlock, if_room_at};
 
-use crate::state::{Draft, Outcome, low};
+use crate::state::{Draft, Fault, low};
+use answers::Reason;
 use name_index::{add, find};
 use numbers::put_two;
 use table::{
@@ -17,56 +18,65 @@ use table::{
 use text_place::TextPlace;
 
 impl Draft {
+    // 5, unless there is room for one more.
+    fn if_room(self, count: usize, limit: usize, p: TextPlace) -> Result<Draft, Fault>
+        ensures { result ≡ if_room_at count limit p self }
+    {
+        if count < limit {
+            return Ok(self);
+        }
+        Err(Fault {
+            reason: Reason::SizeExceeded,
+            at: p,
+        })
+    }
+
     // `function`: 5 for one too many.
-    pub fn begin_function(self, p: TextPlace) -> Outcome
+    pub fn begin_function(self, p: TextPlace) -> Result<Draft, Fault>
         ensures { result ≡ if_room_at self.functions max_functions p self }
     {
-        if self.functions < MAX_FUNCTIONS {
-            return Outcome::Proceed(self);
-        }
-        Outcome::Refuse(5, p)
+        self.if_room(self.functions, MAX_FUNCTIONS, p)
     }
 
-    pub fn mark_ssa(mut self) -> Outcome
+    pub fn mark_ssa(mut self) -> Draft
         requires { Bounded self }
-        ensures { ActsAlone Always mark_ssa self result }
+        ensures { ActsAlone Always mark_ssa self (Ok result) }
     {
         self.head.ssa = 1;
-        Outcome::Proceed(self)
+        self
     }
 
-    pub fn set_result(mut self, kind: u8) -> Outcome
+    pub fn set_result(mut self, kind: u8) -> Draft
         requires { Bounded self }
-        ensures { ActsAlone Always (set_result kind) self result }
+        ensures { ActsAlone Always (set_result kind) self (Ok result) }
     {
-        let result = kind as u64;
-        self.head.result = result;
-        Outcome::Proceed(self)
+        self.head.result = u64::from(kind);
+        self
     }
 
     // The function's name: 6 if a function has it.
-    pub fn name_function(self, f: &mut [u8], names: &mut [u8], name: &[u8], p: TextPlace) -> Outcome
+    pub fn name_function(self, f: &mut [u8], names: &mut [u8], name: &[u8], p: TextPlace) -> Result<Draft, Fault>
         requires bounded { Bounded self }
         requires functions_lt_max_functions { (self.functions < max_functions) × (length f.old ≡ function_length) × (length names.old ≡ names_length) × (length name.now ≤ max_name) }
         ensures { (m l b : List ℕ) → Acts Unnamed (name_function name.now p.byte) self (lent_of f.old names.old m l b) result (lent_of f.new names.new m l b) }
     {
         let n = self.functions;
         if find_name(names, 0, NAME_LENGTH, n, name) < n {
-            return Outcome::Refuse(6, p);
+            return Err(Fault {
+                reason: Reason::DeclaredTwice,
+                at: p,
+            });
         }
         put_name(names, NAME_LENGTH * n, name);
         put_name(f, NAME_OFFSET, name);
-        Outcome::Proceed(self)
+        Ok(self)
     }
 
     // A parameter's type, or `register`: 5 for one too many.
-    pub fn begin_register(self, p: TextPlace) -> Outcome
+    pub fn begin_register(self, p: TextPlace) -> Result<Draft, Fault>
         ensures { result ≡ if_room_at self.head.registers max_registers p self }
     {
-        if self.head.registers < MAX_REGISTERS {
-            return Outcome::Proceed(self);
-        }
-        Outcome::Refuse(5, p)
+        self.if_room(self.head.registers, MAX_REGISTERS, p)
     }
 
     // A register's name: 6 if a register has it. `more` is 1 for a parameter and 0 for another.
@@ -79,7 +89,7 @@ impl Draft {
         kind: u64,
         name: &[u8],
         p: TextPlace,
-    ) -> Outcome
+    ) -> Result<Draft, Fault>
         requires bounded { Bounded self }
         requires registers_lt_max_registers { (self.head.registers < max_registers) × (length f.old ≡ function_length) × (length last.old ≡ heads) × (length before.old ≡ max_registers) }
         requires more_bound { (more ≤ 1) × (kind < 256) × (length name.now ≤ max_name) }
@@ -98,45 +108,48 @@ impl Draft {
             before,
         ) < n
         {
-            return Outcome::Refuse(6, p);
+            return Err(Fault {
+                reason: Reason::DeclaredTwice,
+                at: p,
+            });
         }
         add(n, name, last, before);
         put_register(f, 0, n, low(kind), name);
         let registers = n + 1;
         self.head.registers = registers;
         self.head.params = params;
-        Outcome::Proceed(self)
+        Ok(self)
     }
 
     // `block`: 5 for one too many.
-    pub fn begin_block(self, p: TextPlace) -> Outcome
+    pub fn begin_block(self, p: TextPlace) -> Result<Draft, Fault>
         ensures { result ≡ if_room_at self.blocks.closed max_blocks p self }
     {
-        if self.blocks.closed < MAX_BLOCKS {
-            return Outcome::Proceed(self);
-        }
-        Outcome::Refuse(5, p)
+        self.if_room(self.blocks.closed, MAX_BLOCKS, p)
     }
 
     // A block's name, of no bytes for entry: 6 if a block has it.
-    pub fn name_block(self, f: &mut [u8], name: &[u8], p: TextPlace) -> Outcome
+    pub fn name_block(self, f: &mut [u8], name: &[u8], p: TextPlace) -> Result<Draft, Fault>
         requires bounded { Bounded self }
         requires closed_lt_max_blocks { (self.blocks.closed < max_blocks) × (length f.old ≡ function_length) × (length name.now ≤ max_name) }
         ensures { (l b : List ℕ) → ActsOn NoBlock (name_block name.now p.byte) self f.old l b result f.new }
     {
         let n = self.blocks.closed;
         if find_name(f, BLOCK_NAMES_OFFSET, BLOCK_LENGTH, n, name) < n {
-            return Outcome::Refuse(6, p);
+            return Err(Fault {
+                reason: Reason::DeclaredTwice,
+                at: p,
+            });
         }
         put_name(f, BLOCK_NAMES_OFFSET + BLOCK_LENGTH * n, name);
-        Outcome::Proceed(self)
+        Ok(self)
     }
 
     // A block's closing brace: its first row and its count of rows are put down.
-    pub fn end_block(mut self, f: &mut [u8]) -> Outcome
+    pub fn end_block(mut self, f: &mut [u8]) -> Draft
         requires bounded { Bounded self }
         requires closed_lt_max_blocks { (self.blocks.closed < max_blocks) × (length f.old ≡ function_length) }
-        ensures { (l b : List ℕ) → ActsOn Always end_block self f.old l b result f.new }
+        ensures { (l b : List ℕ) → ActsOn Always end_block self f.old l b (Ok result) f.new }
     {
         let n = self.blocks.closed;
         let rows = self.blocks.rows;
@@ -146,6 +159,6 @@ impl Draft {
         let closed = n + 1;
         self.blocks.closed = closed;
         self.blocks.first = rows;
-        Outcome::Proceed(self)
+        self
     }
 }

@@ -9,7 +9,8 @@ ghost use Rattle.drafts.specs.Ending.{Resolved, patch_row, patch_rows};
 ghost use Rattle.drafts.specs.Mentions.{max_names};
 ghost use Rattle.drafts.specs.State.{Bounded, EndsFunction, lent_of, pending_length};
 
-use crate::state::{Draft, MENTION_LENGTH, MENTION_PLACE, Outcome, low};
+use crate::state::{Draft, Fault, MENTION_LENGTH, MENTION_PLACE, low};
+use answers::Reason;
 use instructions::ops;
 use numbers::{four_at, put_two};
 use predecessors::put_predecessors;
@@ -90,8 +91,8 @@ impl Draft {
         f[ENTRY_OFFSET] = entry as u8;
     }
 
-    // The closing brace at p. A function is in hand, its blocks closed.
-    pub fn end_function(self, f: &mut [u8], pend: &[u8], p: TextPlace) -> Outcome
+    // The closing brace at p: the draft between functions, one more being closed. A function is in hand, its blocks closed.
+    pub fn end_function(self, f: &mut [u8], pend: &[u8], p: TextPlace) -> Result<Draft, Fault>
         requires bounded { Bounded self }
         requires functions_lt_max_functions { (self.functions < max_functions) × (length f.old ≡ function_length) × (length pend.now ≡ pending_length) }
         ensures { (n l b : List ℕ) → EndsFunction p.byte self (lent_of f.old n pend.now l b) result (lent_of f.new n pend.now l b) }
@@ -101,17 +102,24 @@ impl Draft {
         let none = &pend[0..0];
         let entry = find_name(f, BLOCK_NAMES_OFFSET, BLOCK_LENGTH, n, none);
         if n <= entry {
-            return Outcome::Refuse(8, p);
+            return Err(Fault {
+                reason: Reason::NoEntry,
+                at: p,
+            });
         }
         let names = self.blocks.names;
         let resolved = resolve(f, n, pend, names, &mut found);
         if resolved < names {
             let byte = four_at(pend, MENTION_LENGTH * resolved + MENTION_PLACE);
-            return Outcome::Refuse(7, TextPlace { byte });
+            let at = TextPlace { byte };
+            return Err(Fault {
+                reason: Reason::NotDeclared,
+                at,
+            });
         }
         patch(f, self.blocks.rows, &found);
         self.put_head(f, entry);
         put_predecessors(f, 0);
-        Outcome::Close(Draft::fresh(self.functions + 1))
+        Ok(Draft::fresh(self.functions + 1))
     }
 }

@@ -7,4 +7,4 @@ mod ending;
 mod rows;
 mod state;
 
-pub use state::{Blocks, Draft, Head, NAMES_LENGTH, Outcome, PENDING_LENGTH, Parts};
+pub use state::{Blocks, Draft, Fault, Head, NAMES_LENGTH, PENDING_LENGTH, Parts};

@@ -9,7 +9,8 @@ ghost use Rattle.instructions.specs.Shapes.{operand_number};
 ghost use Rattle.drafts.specs.State.{Bounded, Acts, ActsOn, ActsAlone, Stands, CellsIndexed, KeptAs, NameKept, lent_of, pending_length, Always, NoParts, WholeRow, row_at, operand_at, with_name_at};
 ghost use Rattle.drafts.specs.Mentions.{max_names};
 
-use crate::state::{Draft, MAX_NAMES, MENTION_LENGTH, MENTION_PLACE, Outcome, Parts, low};
+use crate::state::{Draft, Fault, MAX_NAMES, MENTION_LENGTH, MENTION_PLACE, Parts, low};
+use answers::Reason;
 use instructions::{bits_of, load_type, number_in_range, operands, shape_of};
 use name_index::find;
 use numbers::put_four;
@@ -38,15 +39,18 @@ impl Draft {
     }
 
     // An instruction that has no target: 5 at its word.
-    pub fn begin_instruction(mut self, op: u8, p: TextPlace) -> Outcome
+    pub fn begin_instruction(mut self, op: u8, p: TextPlace) -> Result<Draft, Fault>
         requires { Bounded self }
         ensures { ActsAlone NoParts (begin_instruction op p.byte) self result }
     {
         if MAX_ROWS <= self.blocks.rows {
-            return Outcome::Refuse(5, p);
+            return Err(Fault {
+                reason: Reason::SizeExceeded,
+                at: p,
+            });
         }
-        self.parts = Parts::new(op as u64, 0);
-        Outcome::Proceed(self)
+        self.parts = Parts::new(u64::from(op), 0);
+        Ok(self)
     }
 
     // A target: 5 for one instruction too many, 7 for a name that is no register's.
@@ -57,31 +61,37 @@ impl Draft {
         before: &[u16],
         name: &[u8],
         p: TextPlace,
-    ) -> Outcome
+    ) -> Result<Draft, Fault>
         requires bounded { Bounded self }
         requires f_len { length f.now ≡ function_length }
         requires cells_indexed { CellsIndexed self f.now last.now before.now }
         ensures { ActsOn NoParts (set_target name.now p.byte) self f.now last.now before.now result f.now }
     {
         if MAX_ROWS <= self.blocks.rows {
-            return Outcome::Refuse(5, p);
+            return Err(Fault {
+                reason: Reason::SizeExceeded,
+                at: p,
+            });
         }
         let r = self.register_number(f, last, before, name);
         if r < self.head.registers {
             self.parts = Parts::new(0, r);
-            return Outcome::Proceed(self);
+            return Ok(self);
         }
-        Outcome::Refuse(7, p)
+        Err(Fault {
+            reason: Reason::NotDeclared,
+            at: p,
+        })
     }
 
     // The word after a target.
-    pub fn set_instruction(mut self, op: u8) -> Outcome
+    pub fn set_instruction(mut self, op: u8) -> Draft
         requires { Bounded self }
-        ensures { ActsAlone NoParts (set_instruction op) self result }
+        ensures { ActsAlone NoParts (set_instruction op) self (Ok result) }
     {
         let target = self.parts.target;
-        self.parts = Parts::new(op as u64, target);
-        Outcome::Proceed(self)
+        self.parts = Parts::new(u64::from(op), target);
+        self
     }
 
     // A source: 7 for a name that is no register's.
@@ -92,7 +102,7 @@ impl Draft {
         before: &[u16],
         name: &[u8],
         p: TextPlace,
-    ) -> Outcome
+    ) -> Result<Draft, Fault>
         requires bounded { Bounded self }
         requires f_len { length f.now ≡ function_length }
         requires cells_indexed { CellsIndexed self f.now last.now before.now }
@@ -100,18 +110,21 @@ impl Draft {
     {
         let r = self.register_number(f, last, before, name);
         if self.head.registers <= r {
-            return Outcome::Refuse(7, p);
+            return Err(Fault {
+                reason: Reason::NotDeclared,
+                at: p,
+            });
         }
         if self.parts.sources == 0 {
             self.parts.left = r;
             self.parts.sources = 1;
-            return Outcome::Proceed(self);
+            return Ok(self);
         }
         if self.parts.sources == 1 {
             self.parts.right = r;
             self.parts.sources = 2;
         }
-        Outcome::Proceed(self)
+        Ok(self)
     }
 
     // A phi entry: 5 for one too many, 7 for a name that is no register's.
@@ -122,18 +135,24 @@ impl Draft {
         before: &[u16],
         name: &[u8],
         p: TextPlace,
-    ) -> Outcome
+    ) -> Result<Draft, Fault>
         requires bounded { Bounded self }
         requires f_len { length f.old ≡ function_length }
         requires cells_indexed { CellsIndexed self f.old last.now before.now }
         ensures { ActsOn Always (add_entry name.now p.byte) self f.old last.now before.now result f.new }
     {
         if MAX_ENTRIES <= self.blocks.entries {
-            return Outcome::Refuse(5, p);
+            return Err(Fault {
+                reason: Reason::SizeExceeded,
+                at: p,
+            });
         }
         let r = self.register_number(f, last, before, name);
         if self.head.registers <= r {
-            return Outcome::Refuse(7, p);
+            return Err(Fault {
+                reason: Reason::NotDeclared,
+                at: p,
+            });
         }
         let n = self.blocks.entries;
         put_entry(f, 0, n, r);
@@ -141,7 +160,7 @@ impl Draft {
         let own = self.parts.entries + 1;
         self.blocks.entries = all;
         self.parts.entries = own;
-        Outcome::Proceed(self)
+        Ok(self)
     }
 
     // The number of a name among those mentioned. A new one is kept with its place, if it is one of the first 65.
@@ -179,54 +198,66 @@ impl Draft {
     }
 
     // A block that a jump mentions: the number of its name stands for it until the function ends.
-    pub fn add_mention(self, pend: &mut [u8], name: &[u8], p: TextPlace) -> Outcome
+    pub fn add_mention(self, pend: &mut [u8], name: &[u8], p: TextPlace) -> Draft
         requires bounded { Bounded self }
         requires pend_len { (length pend.old ≡ pending_length) × (length name.now ≤ max_name) × (p.byte < 4294967296) }
-        ensures { (f n l b : List ℕ) → Acts Always (add_mention name.now p.byte) self (lent_of f n pend.old l b) result (lent_of f n pend.new l b) }
+        ensures { (f n l b : List ℕ) → Acts Always (add_mention name.now p.byte) self (lent_of f n pend.old l b) (Ok result) (lent_of f n pend.new l b) }
     {
         let k = self.name_number(pend, name, p);
         let mut d = self.with_name(k);
         if d.parts.mentions == 0 {
             d.parts.one = k;
             d.parts.mentions = 1;
-            return Outcome::Proceed(d);
+            return d;
         }
         if d.parts.mentions == 1 {
             d.parts.other = k;
             d.parts.mentions = 2;
         }
-        Outcome::Proceed(d)
+        d
     }
 
     // A load's number: 4 outside the instruction's range. `over`: its magnitude is 2^64 or more.
-    pub fn set_number(mut self, negative: bool, value: u64, over: bool, p: TextPlace) -> Outcome
+    pub fn set_number(
+        mut self,
+        negative: bool,
+        value: u64,
+        over: bool,
+        p: TextPlace,
+    ) -> Result<Draft, Fault>
         requires { Bounded self }
         ensures { (n : ℕ) → KeptAs n value over → ActsAlone Always (set_number negative n p.byte) self result }
     {
         let kind = load_type(low(self.parts.op));
         if over {
-            return Outcome::Refuse(4, p);
+            return Err(Fault {
+                reason: Reason::NumberOutOfRange,
+                at: p,
+            });
         }
         if !number_in_range(kind, negative, value) {
-            return Outcome::Refuse(4, p);
+            return Err(Fault {
+                reason: Reason::NumberOutOfRange,
+                at: p,
+            });
         }
         let bits = bits_of(kind, negative, value);
         self.parts.number = bits;
-        Outcome::Proceed(self)
+        Ok(self)
     }
 
     // The semicolon: the row is put down.
-    pub fn end_instruction(mut self, f: &mut [u8]) -> Outcome
+    pub fn end_instruction(mut self, f: &mut [u8]) -> Draft
         requires bounded { Bounded self }
         requires rows_lt_max_rows { (self.blocks.rows < max_rows) × (length f.old ≡ function_length) }
-        ensures { (l b : List ℕ) → ActsOn WholeRow end_instruction self f.old l b result f.new }
+        ensures { (l b : List ℕ) → ActsOn WholeRow end_instruction self f.old l b (Ok result) f.new }
     {
         let r = self.blocks.rows;
         self.put(f, r);
         let rows = r + 1;
         self.blocks.rows = rows;
         self.parts = Parts::new(0, 0);
-        Outcome::Proceed(self)
+        self
     }
 
     // The operand as one number: a load's, a phi's first entry and count, the numbers of a jump's names.

@@ -2,6 +2,7 @@
 ghost use Rattle.std.specs.Prelude.{◌≡◌, ◌%◌};
 ghost use Rattle.drafts.specs.State.{parts_from, fresh_at};
 
+use answers::Reason;
 use table::{MAX_BLOCKS, MAX_FUNCTIONS, NAME_LENGTH};
 use text_place::TextPlace;
 
@@ -62,12 +63,11 @@ pub struct Draft {
     pub parts: Parts,
 }
 
-// What an act comes to: an answer with its place, the draft after it, or the draft between functions, one more being closed.
+// Why a text is refused, and where.
 #[derive(Clone, Copy)]
-pub enum Outcome {
-    Refuse(u8, TextPlace),
-    Proceed(Draft),
-    Close(Draft),
+pub struct Fault {
+    pub reason: Reason,
+    pub at: TextPlace,
 }
 
 // The low byte of a number: all of it, where it is known to be below 256.

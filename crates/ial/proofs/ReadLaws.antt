@@ -10,8 +10,9 @@ use Rattle.language.specs.Table.{table_length}
 use Rattle.language.specs.Reading.{Reading, read}
 use Rattle.language.specs.Answers.{zeros, refused_table, fill, filled_from, read_answer}
 use Rattle.reader.specs.Text.{ToldOf, JudgedAs}
-use Rattle.reader.specs.declared.telling.Told.{Told}
-use Rattle.reader.specs.declared.telling.Told.TheVariants as tolds
+use Rattle.std.specs.Prelude.{Result, Ok, Err}
+use Rattle.drafts.specs.declared.state.Fault.{Fault}
+use Rattle.answers.specs.Reasons.{reason_number}
 use Rattle.answers.specs.declared.Verdict.{Verdict}
 use Rattle.answers.specs.declared.Verdict.TheVariants as verdicts
 use Rattle.answers.specs.Lent.{filled_of}
@@ -20,17 +21,17 @@ use Rattle.ial.specs.Verdicts.{Into, Aside}
 -- ---- what the reader answers
 
 -- as a verdict, where v is given for a program
-abbrev verdict_told : Verdict → Told → Verdict
-verdict_told v (tolds.Refused k q) = verdicts.Refused k q.byte
-verdict_told v tolds.Accepted = v
+abbrev verdict_told : Verdict → Result Unit Fault → Verdict
+verdict_told v (Err e) = verdicts.Refused (reason_number e.reason) e.at.byte
+verdict_told v (Ok u) = v
 
-pub into : {t : List ℕ} {x : Reading} {r told : Told} → ToldOf t x r → r ≡ told → Into t x (verdict_told verdicts.Accepted told)
-into (ToldOf.refused k q) e = rw (← e) (Into.refused k q.byte)
+pub into : {t : List ℕ} {x : Reading} {r told : Result Unit Fault} → ToldOf t x r → r ≡ told → Into t x (verdict_told verdicts.Accepted told)
+into (ToldOf.refused k) e = rw (← e) (Into.refused (reason_number k.reason) k.at.byte)
 into (ToldOf.program p h) e = rw (← e) (Into.program p h)
 
-pub aside : {x : Reading} {r told : Told} → JudgedAs x r → r ≡ told → Aside x (verdict_told (verdicts.Refused 22 0) told)
+pub aside : {x : Reading} {r told : Result Unit Fault} → JudgedAs x r → r ≡ told → Aside x (verdict_told (verdicts.Refused 22 0) told)
 unfolding fill refused_table
-aside (JudgedAs.refused k q) e n other = rw (← e) refl
+aside (JudgedAs.refused k) e n other = rw (← e) refl
 aside (JudgedAs.program p) e n other = rw (← e, ne_eqb n table_length other) refl
 
 -- ---- the entry point

@@ -29,7 +29,7 @@ pub use answers::{Answer, Ran, Verdict, Wrote};
 use checker::check_table;
 pub use instructions::types;
 use numbers::zero;
-use reader::{Told, judge_text, read_text};
+use reader::{judge_text, read_text};
 pub use table::{MAX_TEXT, TABLE_LENGTH};
 
 // The text read into a table of the right length that is all zero.
@@ -38,8 +38,8 @@ fn read_into(text: &[u8], t: &mut [u8]) -> Verdict
     ensures { Into t.new (read_of text.now) result }
 {
     match read_text(text, t) {
-        Told::Refused(n, p) => Verdict::Refused(n, p.byte),
-        Told::Accepted => Verdict::Accepted,
+        Ok(()) => Verdict::Accepted,
+        Err(e) => Verdict::Refused(u8::from(e.reason), e.at.byte),
     }
 }
 
@@ -49,8 +49,8 @@ fn read_aside(text: &[u8]) -> Verdict
     ensures { Aside (read_of text.now) result }
 {
     match judge_text(text) {
-        Told::Refused(n, p) => Verdict::Refused(n, p.byte), // 1 to 8
-        Told::Accepted => Verdict::Refused(22, 0),
+        Ok(()) => Verdict::Refused(22, 0),
+        Err(e) => Verdict::Refused(u8::from(e.reason), e.at.byte), // 1 to 8
     }
 }
 

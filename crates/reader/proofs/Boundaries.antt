@@ -20,19 +20,22 @@ use Rattle.lexer.specs.declared.Found.{Found}
 use Rattle.name_index.specs.Hashes.{heads}
 use Rattle.drafts.specs.State.{Lent, lent_of}
 use Rattle.drafts.proofs.StateLaws.{names_back}
+use Rattle.std.specs.Prelude.{Result, Ok, Err}
+use Rattle.answers.specs.declared.reasons.Reason.TheVariants as reasons
+use Rattle.answers.specs.Reasons.{reason_number}
+use Rattle.drafts.specs.declared.state.Fault.{Fault}
 use Rattle.reader.specs.Parse.{Reads, ReaderReached, Suits}
 use Rattle.reader.specs.Text.{FoundAs, FoundHere, TakesFound, Nexts, LexerAt, Between, RegistersIndexed, Arrives, is_end_found}
 use Rattle.reader.proofs.Onward.{Onward, Nexted, next_gives, step_refused, step_reading, step_closed, step_ended}
-use Rattle.reader.specs.declared.reading.Step.TheVariants as steps
+use Rattle.reader.specs.declared.taking.Step.{Step}
+use Rattle.reader.specs.declared.taking.Step.TheVariants as steps
 use Rattle.reader.specs.declared.taking.Reader.{Reader}
-use Rattle.reader.specs.declared.taking.Taken.{Taken}
-use Rattle.reader.specs.declared.taking.Taken.TheVariants as taken
 use Rattle.text_place.specs.declared.TextPlace.{TextPlace}
 
 module _ {fs : List Func} {parse : Parse} {c : Reader} {f n p : List ℕ} where
   -- in, with chains of the registers
   pub reads_in : Between fs parse c f n p → {last before : List ℕ} → length last ≡ heads → length before ≡ max_registers → RegistersIndexed c.draft f last before
-      → Reads fs (lent_of f n p last before) parse (taken.Reading c)
+      → Reads fs (lent_of f n p last before) parse (Ok (steps.Reading c))
   reads_in b {last} {before} l m r =
       rw b.is
       (Reads.reading b.stage b.draft c b.functions
@@ -42,7 +45,7 @@ module _ {fs : List Func} {parse : Parse} {c : Reader} {f n p : List ℕ} where
       rw names at (r (rw b.count few) (rw names (b.once few))))))
 
 -- and out
-pub reads_out : {fs : List Func} {parse : Parse} {c : Reader} {f n p last before : List ℕ} → Reads fs (lent_of f n p last before) parse (taken.Reading c) → Between fs parse c f n p
+pub reads_out : {fs : List Func} {parse : Parse} {c : Reader} {f n p last before : List ℕ} → Reads fs (lent_of f n p last before) parse (Ok (steps.Reading c)) → Between fs parse c f n p
 reads_out {fs} {f = f} {n} {p} (Reads.reading s d c k h) =
     record {
       stage = s;
@@ -105,34 +108,34 @@ found_here {text} {c = c} {h = h} (Nexted.end e w t tokens) =
 -- at the end of what is lent
 pub paused : {text : List ℕ} {ends : Bool} {fs : List Func} {parse₀ : Parse} {l₀ : Lexerᴸ} {c₀ c : Lexer} {s : Reader} {f n p last before h : List ℕ}
     → Onward text ends fs parse₀ l₀ c₀ c h s (lent_of f n p last before) → (length text ≤ c.next) × (ends ≡ false)
-    → Arrives text ends fs parse₀ l₀ c₀ f n p h (steps.Reading (record { lexer = c; reader = s }))
+    → Arrives text ends fs parse₀ l₀ c₀ f n p h (Ok (steps.Reading (record { lexer = c; reader = s })))
 paused {c = c} {s} o k =
     Arrives.reading o.parse (record { lexer = c; reader = s }) o.lexer k.1 o.at k.0 (reads_out o.reads) (λ more. o.same more (λ t. absurd (rw k.1 at t)))
 
 -- ---- by what a token comes to
 
-module _ {text : List ℕ} {ends : Bool} {fs : List Func} {parse₀ : Parse} {l₀ : Lexerᴸ} {c₀ c : Lexer} {h : List ℕ} {s : Reader} {x : Lent} {y : Lexed} {h' : List ℕ} {x' : Lent} {r : Taken}
+module _ {text : List ℕ} {ends : Bool} {fs : List Func} {parse₀ : Parse} {l₀ : Lexerᴸ} {c₀ c : Lexer} {h : List ℕ} {s : Reader} {x : Lent} {y : Lexed} {h' : List ℕ} {x' : Lent} {r : Result (Step Reader) Fault}
     (o : Onward text ends fs parse₀ l₀ c₀ c h s x) (next : Nexts text c h y h') (last : length text ≤ c.next → ends ≡ true) (takes : TakesFound text h' y.found s x r x') where
   found : Nexted text ends o.lexer c y h'
   found = next_gives text ends o.lexer c y o.at next last
 
-  taken_as : {q : Taken} → r ≡ q → TakesFound text h' y.found s x q x'
-  taken_as {q} e = subst (λ (z : Taken). TakesFound text h' y.found s x z x') e takes
+  taken_as : {q : Result (Step Reader) Fault} → r ≡ q → TakesFound text h' y.found s x q x'
+  taken_as {q} e = subst (λ (z : Result (Step Reader) Fault). TakesFound text h' y.found s x z x') e takes
 
-  pub loop_refused : {k : ℕ} {q : TextPlace} → r ≡ taken.Refused k q → (f n p g : List ℕ) → Arrives text ends fs parse₀ l₀ c₀ f n p g (steps.Refused k q)
-  loop_refused {k} {q} e f n p g = step_refused text ends fs parse₀ l₀ c₀ o y found x' f n p g k q (taken_as e)
+  pub loop_refused : {k : Fault} → r ≡ Err k → (f n p g : List ℕ) → Arrives text ends fs parse₀ l₀ c₀ f n p g (Err k)
+  loop_refused {k} e f n p g = step_refused text ends fs parse₀ l₀ c₀ o y found x' f n p g k (taken_as e)
 
   module _ (suits : Suits (is_end_found y.found) r) where
-    suit : {q : Taken} → r ≡ q → Suits (is_end_found y.found) q
+    suit : {q : Result (Step Reader) Fault} → r ≡ q → Suits (is_end_found y.found) q
     suit e = subst (Suits (is_end_found y.found)) e suits
 
-    pub loop_reading : {q : Reader} → r ≡ taken.Reading q → Onward text ends fs parse₀ l₀ c₀ y.lexer h' q x' × (left text y.lexer < left text c)
+    pub loop_reading : {q : Reader} → r ≡ Ok (steps.Reading q) → Onward text ends fs parse₀ l₀ c₀ y.lexer h' q x' × (left text y.lexer < left text c)
     loop_reading {q} e = step_reading text ends fs parse₀ l₀ c₀ o y found x' q (taken_as e) (suit e)
 
-    pub loop_closed : {q : Reader} → r ≡ taken.Closed q → Arrives text ends fs parse₀ l₀ c₀ x'.cells x'.names x'.pending h' (steps.Closed (record { lexer = y.lexer; reader = q }))
+    pub loop_closed : {q : Reader} → r ≡ Ok (steps.Closed q) → Arrives text ends fs parse₀ l₀ c₀ x'.cells x'.names x'.pending h' (Ok (steps.Closed (record { lexer = y.lexer; reader = q })))
     loop_closed {q} e = step_closed text ends fs parse₀ l₀ c₀ o y found x' q (taken_as e) (suit e)
 
-    pub loop_ended : {q : Reader} → r ≡ taken.Ended q → Arrives text ends fs parse₀ l₀ c₀ x'.cells x'.names x'.pending h' (steps.Ended (record { lexer = y.lexer; reader = q }))
+    pub loop_ended : {q : Reader} → r ≡ Ok (steps.Ended q) → Arrives text ends fs parse₀ l₀ c₀ x'.cells x'.names x'.pending h' (Ok (steps.Ended (record { lexer = y.lexer; reader = q })))
     loop_ended {q} e = step_ended text ends fs parse₀ l₀ c₀ o y found x' q (taken_as e) (suit e)
 
 -- what taking asks for

@@ -25,11 +25,15 @@ use Rattle.lexer.specs.declared.Found.TheVariants as founds
 use Rattle.lexer.specs.declared.Lexed.{Lexed}
 use Rattle.drafts.specs.State.{Lent}
 use Rattle.text_place.specs.declared.TextPlace.{TextPlace}
+use Rattle.std.specs.Prelude.{Result, Ok, Err}
+use Rattle.answers.specs.declared.reasons.Reason.TheVariants as reasons
+use Rattle.answers.specs.Reasons.{reason_number}
+use Rattle.drafts.specs.declared.state.Fault.{Fault}
 use Rattle.reader.specs.Parse.{Reads, ClosesWith, Suits}
 use Rattle.reader.specs.Text.{FoundAs, TakesFound, Nexts, LexerAt, Rest, to_go, ClosedWith, Arrives, is_end_found, is_end_lexeme}
 use Rattle.reader.specs.declared.taking.Reader.{Reader}
-use Rattle.reader.specs.declared.taking.Taken.TheVariants as taken
-use Rattle.reader.specs.declared.reading.Step.TheVariants as steps
+use Rattle.reader.specs.declared.taking.Step.{Step}
+use Rattle.reader.specs.declared.taking.Step.TheVariants as steps
 
 -- ---- what is found next
 
@@ -71,7 +75,7 @@ module _ (text : List ℕ) where
     pub parse : Parse
     pub lexer : Lexerᴸ
     pub at : LexerAt text h lexer c
-    pub reads : Reads fs x parse (taken.Reading s)
+    pub reads : Reads fs x parse (Ok (steps.Reading s))
     pub most : left text c ≤ left text c₀
     pub same : (more : List ℕ) → Rest ends more → to_go parse₀ l₀ (drop c₀.next text ++ more) ≡ to_go parse lexer (drop c.next text ++ more)
 
@@ -122,22 +126,22 @@ module _ (text : List ℕ) where
       unfolding to_go
       end_leads tokens e = o.same [] (λ t. refl) ∙ ap (foldl meaning.take_token o.parse) tokens ∙ e
 
-      pub step_refused : (f n p g : List ℕ) (k : ℕ) (q : TextPlace) → TakesFound text h' y.found s x (taken.Refused k q) x' → Arrives text ends fs parse₀ l₀ c₀ f n p g (steps.Refused k q)
-      step_refused f n p g k q takes = by found
+      pub step_refused : (f n p g : List ℕ) (k : Fault) → TakesFound text h' y.found s x (Err k) x' → Arrives text ends fs parse₀ l₀ c₀ f n p g (Err k)
+      step_refused f n p g k takes = by found
         where
-          is_refused : {z : Parse} → Reads fs x' z (taken.Refused k q) → z ≡ Parse.refused k q.byte
-          is_refused (Reads.refused m r) = refl
+          is_refused : {z : Parse} → Reads fs x' z (Err k) → z ≡ Parse.refused (reason_number k.reason) k.at.byte
+          is_refused (Reads.refused m) = refl
 
-          by : Nexted ends o.lexer c y h' → Arrives text ends fs parse₀ l₀ c₀ f n p g (steps.Refused k q)
+          by : Nexted ends o.lexer c y h' → Arrives text ends fs parse₀ l₀ c₀ f n p g (Err k)
           by (Nexted.on one l' finds at less same) =
-              Arrives.refused k q (refused_leads o y one l' same k q (is_refused (takes fs o.parse o.reads one (FoundAs.finds finds))))
+              Arrives.refused k (refused_leads o y one l' same (reason_number k.reason) k.at (is_refused (takes fs o.parse o.reads one (FoundAs.finds finds))))
           by (Nexted.end e w t tokens) =
-              Arrives.refused k q
+              Arrives.refused k
               (λ more r.
               ap (λ (m : List ℕ). to_go parse₀ l₀ (drop c₀.next text ++ m)) (r (rw t tt))
               ∙ end_leads tokens (is_refused (takes fs o.parse o.reads (Foundᴸ.token c.next Tokenᴸ.end ∷ []) (end_found e w))))
 
-      pub step_reading : (q : Reader) → TakesFound text h' y.found s x (taken.Reading q) x' → Suits (is_end_found y.found) (taken.Reading q) → Onward ends fs parse₀ l₀ c₀ y.lexer h' q x' × (left text y.lexer < left text c)
+      pub step_reading : (q : Reader) → TakesFound text h' y.found s x (Ok (steps.Reading q)) x' → Suits (is_end_found y.found) (Ok (steps.Reading q)) → Onward ends fs parse₀ l₀ c₀ y.lexer h' q x' × (left text y.lexer < left text c)
       step_reading q takes suits = by found
         where
           by : Nexted ends o.lexer c y h' → Onward ends fs parse₀ l₀ c₀ y.lexer h' q x' × (left text y.lexer < left text c)
@@ -154,14 +158,14 @@ module _ (text : List ℕ) where
           )
           by (Nexted.end e w t tokens) = absurd (true≢false (sym (is_end e) ∙ suits))
 
-      pub step_closed : (q : Reader) → TakesFound text h' y.found s x (taken.Closed q) x' → Suits (is_end_found y.found) (taken.Closed q)
-          → Arrives text ends fs parse₀ l₀ c₀ x'.cells x'.names x'.pending h' (steps.Closed (record { lexer = y.lexer; reader = q }))
+      pub step_closed : (q : Reader) → TakesFound text h' y.found s x (Ok (steps.Closed q)) x' → Suits (is_end_found y.found) (Ok (steps.Closed q))
+          → Arrives text ends fs parse₀ l₀ c₀ x'.cells x'.names x'.pending h' (Ok (steps.Closed (record { lexer = y.lexer; reader = q })))
       step_closed q takes suits = by found
         where
           Goal : Type 0
-          Goal = Arrives text ends fs parse₀ l₀ c₀ x'.cells x'.names x'.pending h' (steps.Closed (record { lexer = y.lexer; reader = q }))
+          Goal = Arrives text ends fs parse₀ l₀ c₀ x'.cells x'.names x'.pending h' (Ok (steps.Closed (record { lexer = y.lexer; reader = q })))
 
-          is_closed : {z : Parse} → Reads fs x' z (taken.Closed q) → (g : Func) × (z ≡ Parse.reading Stage.top (fresh (fs ++ (g ∷ [])))) × ClosesWith fs g q x'
+          is_closed : {z : Parse} → Reads fs x' z (Ok (steps.Closed q)) → (g : Func) × (z ≡ Parse.reading Stage.top (fresh (fs ++ (g ∷ [])))) × ClosesWith fs g q x'
           is_closed (Reads.closed g q k) = (g, refl, k)
 
           closed_with : (g : Func) → ClosesWith fs g q x' → ClosedWith fs g q x'.cells x'.names x'.pending
@@ -182,14 +186,14 @@ module _ (text : List ℕ) where
               (λ more r. leads o y one l' same more r ∙ ap (λ (z : Parse). to_go z l' (drop y.lexer.next text ++ more)) e)
           by (Nexted.end e w t tokens) = absurd (true≢false (sym (is_end e) ∙ suits))
 
-      pub step_ended : (q : Reader) → TakesFound text h' y.found s x (taken.Ended q) x' → Suits (is_end_found y.found) (taken.Ended q)
-          → Arrives text ends fs parse₀ l₀ c₀ x'.cells x'.names x'.pending h' (steps.Ended (record { lexer = y.lexer; reader = q }))
+      pub step_ended : (q : Reader) → TakesFound text h' y.found s x (Ok (steps.Ended q)) x' → Suits (is_end_found y.found) (Ok (steps.Ended q))
+          → Arrives text ends fs parse₀ l₀ c₀ x'.cells x'.names x'.pending h' (Ok (steps.Ended (record { lexer = y.lexer; reader = q })))
       step_ended q takes suits = by found
         where
           Goal : Type 0
-          Goal = Arrives text ends fs parse₀ l₀ c₀ x'.cells x'.names x'.pending h' (steps.Ended (record { lexer = y.lexer; reader = q }))
+          Goal = Arrives text ends fs parse₀ l₀ c₀ x'.cells x'.names x'.pending h' (Ok (steps.Ended (record { lexer = y.lexer; reader = q })))
 
-          is_ended : {z : Parse} → Reads fs x' z (taken.Ended q) → (z ≡ Parse.reading Stage.top (fresh fs)) × (q.draft.functions ≡ length fs) × (length fs < max_functions → x'.cells ≡ zeros function_length)
+          is_ended : {z : Parse} → Reads fs x' z (Ok (steps.Ended q)) → (z ≡ Parse.reading Stage.top (fresh fs)) × (q.draft.functions ≡ length fs) × (length fs < max_functions → x'.cells ≡ zeros function_length)
           is_ended (Reads.ended q n k) = (refl, n, k)
 
           by : Nexted ends o.lexer c y h' → Goal

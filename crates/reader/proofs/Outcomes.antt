@@ -1,25 +1,27 @@
 -- What bytes come to, by its variant: what a test of the code says of it. Assumes nothing.
-use mathlib.Core.Path.{◌≡◌, refl}
-use Prim.Native.Nat.{ℕ}
-use Rattle.text_place.specs.declared.TextPlace.{TextPlace}
-use Rattle.reader.specs.Text.{refusal_of}
+use mathlib.Core.Path.{◌≡◌, ap, sym, ◌∙◌}
+use Rattle.std.specs.Prelude.{Result, Ok, Err}
+use Rattle.drafts.specs.declared.state.Fault.{Fault}
 use Rattle.reader.specs.declared.reading.Progress.{Progress}
-use Rattle.reader.specs.declared.reading.Step.{Step}
-use Rattle.reader.specs.declared.reading.Step.TheVariants as steps
-use Rattle.reader.specs.declared.telling.Told.TheVariants as tolds
+use Rattle.reader.specs.declared.taking.Step.{Step}
+use Rattle.reader.specs.declared.taking.Step.TheVariants as steps
 
--- No function is closed; there are bytes to come; the text has not ended.
-abbrev pub NotClosed : Step → Type 0
-NotClosed r = (y : Progress) → r ≡ steps.Closed y → ⊥
+-- No function is closed.
+abbrev pub NotClosed : Result (Step Progress) Fault → Type 0
+NotClosed r = (y : Progress) → r ≡ Ok (steps.Closed y) → ⊥
 
-abbrev pub NotReading : Step → Type 0
-NotReading r = (y : Progress) → r ≡ steps.Reading y → ⊥
+-- What is behind a `?`, and then in a pattern.
+pub ok_is : {A : Type 0} {r : Result A Fault} {x y : A} → r ≡ Ok x → x ≡ y → r ≡ Ok y
+ok_is e i = e ∙ ap Ok i
 
-abbrev pub NotEnded : Step → Type 0
-NotEnded r = (y : Progress) → r ≡ steps.Ended y → ⊥
+pub err_closes : {r : Result (Step Progress) Fault} {k : Fault} {y : Progress} → r ≡ Err k → r ≡ Ok (steps.Closed y) → ⊥
+err_closes e i = absurd (ok_no_err (sym i ∙ e))
+  where
+    ok_no_err : {x : Step Progress} {k : Fault} → ◌≡◌ {A = Result (Step Progress) Fault} (Ok x) (Err k) → ⊥
+    ok_no_err e = cc
 
-pub not_refused : (r : Step) → ((k : ℕ) (q : TextPlace) → r ≡ steps.Refused k q → ⊥) → tolds.Accepted ≡ refusal_of r
-not_refused (steps.Refused k q) h = absurd (h k q refl)
-not_refused (steps.Closed y) h = refl
-not_refused (steps.Reading y) h = refl
-not_refused (steps.Ended y) h = refl
+pub ok_closes : {r : Result (Step Progress) Fault} {x : Step Progress} → r ≡ Ok x → ((y : Progress) → x ≡ steps.Closed y → ⊥) → NotClosed r
+ok_closes e n y i = n y (ok_same (sym e ∙ i))
+  where
+    ok_same : {x y : Step Progress} → ◌≡◌ {A = Result (Step Progress) Fault} (Ok x) (Ok y) → x ≡ y
+    ok_same e = cc

@@ -24,19 +24,21 @@ use Rattle.grammar.specs.declared.Token.TheVariants as tokens
 use Rattle.grammar.specs.declared.Act.{Act as Actᶜ}
 use Rattle.grammar.specs.declared.Move.{Move as Moveᶜ}
 use Rattle.grammar.specs.declared.Stage.{Stage as Stageᶜ}
-use Rattle.drafts.specs.State.{Bounded, Counts, Lent, LentWhole, Stands, Comes, Closes, KeepsBounds, Acts, KeptAs, fresh_at, if_room_at, WholeRow}
+use Rattle.drafts.specs.State.{fault_at, Bounded, Counts, Lent, LentWhole, Stands, Comes, Closes, KeepsBounds, Acts, KeptAs, fresh_at, if_room_at, WholeRow}
 use Rattle.drafts.specs.Cells.{open_cells}
 use Rattle.drafts.proofs.WholeRows.{own_entries, own_mentions}
 use Rattle.drafts.proofs.Sections.{open_fresh}
 use Rattle.drafts.proofs.StateLaws.{cells_indexed}
 use Rattle.drafts.specs.declared.state.Draft.{Draft as Draftᶜ}
-use Rattle.drafts.specs.declared.state.Outcome.{Outcome}
-use Rattle.drafts.specs.declared.state.Outcome.TheVariants as outcome
+use Rattle.std.specs.Prelude.{Result, Ok, Err}
+use Rattle.answers.specs.declared.reasons.Reason.TheVariants as reasons
+use Rattle.answers.specs.Reasons.{reason_number}
+use Rattle.drafts.specs.declared.state.Fault.{Fault}
 use Rattle.text_place.specs.declared.TextPlace.{TextPlace}
 use Rattle.reader.specs.Parse.{depth, After, LentFor, Follows, Reads, ReaderReached, Beside, Means, Takes, EndTaken, wants, Holding, RoomFor, Enabled, LeavesLent, Performs}
 use Rattle.reader.specs.declared.taking.Reader.{Reader}
-use Rattle.reader.specs.declared.taking.Taken.{Taken}
-use Rattle.reader.specs.declared.taking.Taken.TheVariants as taken
+use Rattle.reader.specs.declared.taking.Step.{Step}
+use Rattle.reader.specs.declared.taking.Step.TheVariants as steps
 use Rattle.reader.proofs.Acting.{up_to, after, in_function, Typed, OnlyAt, fits}
 use Rattle.reader.proofs.Stages.{settled_after, after_test, after_fail}
 use Rattle.reader.proofs.Stages.{after as afterwards}
@@ -44,10 +46,10 @@ use Rattle.reader.proofs.Stages.{after as afterwards}
 -- ---- what an act comes to
 
 -- The definition's answer, or numbers that stand for its draft.
-data Lands (x : Lent) : ActOutcome → Outcome → Type 0 where
-  refuses : (n : ℕ) (p : TextPlace) → Lands x (refuse n p.byte) (outcome.Refuse n p)
+data Lands (x : Lent) : ActOutcome → Result Draftᶜ Fault → Type 0 where
+  refuses : (e : Fault) → Lands x (refuse (reason_number e.reason) e.at.byte) (Err e)
   proceeds : (d : Draft) (q : Draftᶜ) → Bounded q → Counts d q → LentFor q.functions x → (length d.functions < max_functions → Stands d q x)
-      → Lands x (proceed d) (outcome.Proceed q)
+      → Lands x (proceed d) (Ok q)
 
 lent_whole : {n : ℕ} {x : Lent} → n < max_functions → LentFor n x → LentWhole x
 lent_whole l h = record { cells = h.cells l; names = h.names; pending = h.pending; last = h.last; before = h.before }
@@ -55,12 +57,12 @@ lent_whole l h = record { cells = h.cells l; names = h.names; pending = h.pendin
 whole_lent : {n : ℕ} {x : Lent} → LentWhole x → LentFor n x
 whole_lent h = record { cells = λ l. h.cells; names = h.names; pending = h.pending; last = h.last; before = h.before }
 
-comes : {x : Lent} {o : ActOutcome} {r : Outcome} → Comes x o r → KeepsBounds r → LentWhole x → Lands x o r
-comes (Comes.refuses n p) k w = Lands.refuses n p
+comes : {x : Lent} {o : ActOutcome} {r : Result Draftᶜ Fault} → Comes x o r → KeepsBounds r → LentWhole x → Lands x o r
+comes (Comes.refuses e) k w = Lands.refuses e
 comes (Comes.proceeds d s h) k w = Lands.proceeds d s k h.counts (whole_lent w) (λ l. h)
 
 -- By the act: the closing brace comes to a function closed.
-abbrev Done : Act → Lent → ActOutcome → Outcome → Type 0
+abbrev Done : Act → Lent → ActOutcome → Result Draftᶜ Fault → Type 0
 Done Act.wrong x o r = Lands x o r
 Done Act.pass x o r = Lands x o r
 Done Act.begin_function x o r = Lands x o r
@@ -83,10 +85,10 @@ Done Act.end_instruction x o r = Lands x o r
 Done Act.end_block x o r = Lands x o r
 Done Act.end_function x o r = Closes x o r × LentWhole x
 
-room : {x : Lent} {o : ActOutcome} {r : Outcome} (b : Bool) (p : TextPlace) → (b ≡ true → Lands x o r)
-    → Lands x (cond b o (refuse 5 p.byte)) (cond b r (outcome.Refuse 5 p))
+room : {x : Lent} {o : ActOutcome} {r : Result Draftᶜ Fault} (b : Bool) (p : TextPlace) → (b ≡ true → Lands x o r)
+    → Lands x (cond b o (refuse 5 p.byte)) (cond b r (Err (fault_at reasons.SizeExceeded p)))
 room true p h = h refl
-room false p h = Lands.refuses 5 p
+room false p h = Lands.refuses (fault_at reasons.SizeExceeded p)
 
 -- ---- a row that ends
 
@@ -109,12 +111,12 @@ row_mentions x = by (form_of x.op)
 
 -- ---- each act
 
-module _ (s : Stage) (d : Draft) (c : Reader) (x : Lent) (f : Follows s d c x) (r : Outcome) (x' : Lent) where
+module _ (s : Stage) (d : Draft) (c : Reader) (x : Lent) (f : Follows s d c x) (r : Result Draftᶜ Fault) (x' : Lent) where
   -- nothing lent is changed
-  still : {o : ActOutcome} {q : Outcome} → LeavesLent x r x' q → Lands x o q → Lands x' o r
+  still : {o : ActOutcome} {q : Result Draftᶜ Fault} → LeavesLent x r x' q → Lands x o q → Lands x' o r
   still e h = rw (e.0, e.1) h
 
-  stays : Lands x (proceed d) (outcome.Proceed c.draft)
+  stays : Lands x (proceed d) (Ok c.draft)
   stays = Lands.proceeds d c.draft f.bounded f.counts f.lent f.stands
 
   -- so many are there, and one more has room
@@ -140,7 +142,7 @@ module _ (s : Stage) (d : Draft) (c : Reader) (x : Lent) (f : Follows s d c x) (
       → T (up_to (act_of z a) (depth s)) → T (cond (in_function (act_of z a)) (not (is_top s)) true) → OnlyAt s (act_of z a)
       → Done (act_of z a) x' (perform_act (act_of z a) p.byte d) r
   unfolding perform_act meaning.begin_function meaning.begin_register meaning.begin_block
-  performs z p Actᶜ.Wrong h m u i e = still h (Lands.refuses 3 p)
+  performs z p Actᶜ.Wrong h m u i e = still h (Lands.refuses (fault_at reasons.TokenNotAllowed p))
   performs z p Actᶜ.Pass h m u i e = still h stays
   performs z p Actᶜ.BeginFunction h m u i e = tests (length d.functions) c.draft.functions max_functions p f.counts.functions h
   performs z p Actᶜ.MarkSsa h m u i e = acts i h tt
@@ -201,11 +203,11 @@ top_only (Stage.mention_comma k) e = absurd (false≢true e)
 top_only Stage.operand_end e = absurd (false≢true e)
 top_only Stage.instruction_end e = absurd (false≢true e)
 
--- What an act comes to, as a token's.
-abbrev pub taken_from : Stageᶜ → Outcome → Taken
-taken_from s (outcome.Refuse n p) = taken.Refused n p
-taken_from s (outcome.Proceed d) = taken.Reading (record { stage = s; draft = d })
-taken_from s (outcome.Close d) = taken.Closed (record { stage = s; draft = d })
+-- What an act comes to, as a token's: by whether it closes a function.
+abbrev pub taken_from : Bool → Stageᶜ → Result Draftᶜ Fault → Result (Step Reader) Fault
+taken_from b s (Err e) = Err e
+taken_from false s (Ok d) = Ok (steps.Reading (record { stage = s; draft = d }))
+taken_from true s (Ok d) = Ok (steps.Closed (record { stage = s; draft = d }))
 
 -- ---- the functions closed
 
@@ -219,7 +221,7 @@ closed_in (refuse n p) = []
 closed_in (proceed d) = d.functions
 
 -- Every act but the closing brace leaves them as they were.
-abbrev closing : Act → Bool
+abbrev pub closing : Act → Bool
 closing Act.wrong = false
 closing Act.pass = false
 closing Act.begin_function = false
@@ -293,8 +295,8 @@ module _ (fs : List Func) (s : Stage) (d : Draft) (same : d.functions ≡ fs) (c
   now_is e = ap (after_act (next_move s t).stage) e
 
   -- where an act comes to, there the reader is
-  lands_reads : T (not (closing (next_move s t).act)) → {o : ActOutcome} {r : Outcome} {x' : Lent} → Lands x' o r → perform_act (next_move s t).act p.byte d ≡ o → Reads fs x' now (taken_from n r)
-  lands_reads u (Lands.refuses k q) e = rw (now_is e) (Reads.refused k q)
+  lands_reads : T (not (closing (next_move s t).act)) → {o : ActOutcome} {r : Result Draftᶜ Fault} {x' : Lent} → Lands x' o r → perform_act (next_move s t).act p.byte d ≡ o → Reads fs x' now (taken_from false n r)
+  lands_reads u (Lands.refuses q) e = rw (now_is e) (Reads.refused q)
   lands_reads u {x' = x'} (Lands.proceeds d' q b k l h) e =
       rw (now_is e)
       (Reads.reading (next_move s t).stage d' (record { stage = n; draft = q }) (afterwards (rw e at (same_functions p.byte d (next_move s t).act u)) ∙ same)
@@ -309,18 +311,18 @@ module _ (fs : List Func) (s : Stage) (d : Draft) (same : d.functions ≡ fs) (c
         room = subst Roomy (now_is e) (roomy_taken (Parse.reading s d) (Found.token p.byte t) f.room);
       }))
 
-  closes_reads : (next_move s t).act ≡ Act.end_function → is_top (next_move s t).stage ≡ true → {o : ActOutcome} {r : Outcome} {x' : Lent} → Closes x' o r → LentWhole x' → perform_act (next_move s t).act p.byte d ≡ o → Reads fs x' now (taken_from n r)
-  closes_reads i top (Closes.refuses k q) w e = rw (now_is e) (Reads.refused k q)
+  closes_reads : (next_move s t).act ≡ Act.end_function → is_top (next_move s t).stage ≡ true → {o : ActOutcome} {r : Result Draftᶜ Fault} {x' : Lent} → Closes x' o r → LentWhole x' → perform_act (next_move s t).act p.byte d ≡ o → Reads fs x' now (taken_from true n r)
+  closes_reads i top (Closes.refuses q) w e = rw (now_is e) (Reads.refused q)
   closes_reads i top {x' = x'} (Closes.closes gs g l cells names) w e =
       let is = top_only (next_move s t).stage top in
       let these : gs ≡ fs = one_more p.byte d gs g (sym (ap (λ (a : Act). perform_act a p.byte d) i) ∙ e) ∙ same in
       rw (now_is e, is)
-      (subst (λ (hs : List Func). Reads hs x' (Parse.reading Stage.top (fresh (gs ++ (g ∷ [])))) (taken.Closed (record { stage = n; draft = fresh_at (length gs + 1) }))) these
+      (subst (λ (hs : List Func). Reads hs x' (Parse.reading Stage.top (fresh (gs ++ (g ∷ [])))) (Ok (steps.Closed (record { stage = n; draft = fresh_at (length gs + 1) })))) these
       (Reads.closed g (record { stage = n; draft = fresh_at (length gs + 1) })
       (record { less = l; stage = stage ∙ is; draft = refl; cells = cells; names = names; lent = whole_lent w })))
 
   -- by the act
-  done_reads : (o : ActOutcome) (r : Outcome) (x' : Lent) (a : Act) → (next_move s t).act ≡ a → Done a x' o r → perform_act a p.byte d ≡ o → Reads fs x' now (taken_from n r)
+  done_reads : (o : ActOutcome) (r : Result Draftᶜ Fault) (x' : Lent) (a : Act) → (next_move s t).act ≡ a → Done a x' o r → perform_act a p.byte d ≡ o → Reads fs x' now (taken_from (closing a) n r)
   done_reads o r x' Act.wrong i h e = lands_reads (rw i tt) h (rw i e)
   done_reads o r x' Act.pass i h e = lands_reads (rw i tt) h (rw i e)
   done_reads o r x' Act.begin_function i h e = lands_reads (rw i tt) h (rw i e)
@@ -411,7 +413,7 @@ act_kept {bytes} Means.end m moved neg v over e =
 -- ---- what the code has to show
 
 -- the state before a token
-pub reads_follows : {fs : List Func} {x : Lent} {parse : Parse} {c : Reader} → Reads fs x parse (taken.Reading c) → (s : Stage) × (d : Draft) × (parse ≡ Parse.reading s d) × (d.functions ≡ fs) × Follows s d c x
+pub reads_follows : {fs : List Func} {x : Lent} {parse : Parse} {c : Reader} → Reads fs x parse (Ok (steps.Reading c)) → (s : Stage) × (d : Draft) × (parse ≡ Parse.reading s d) × (d.functions ≡ fs) × Follows s d c x
 reads_follows (Reads.reading s d c k f) = (s, d, refl, k, f)
 
 -- what a stage has begun is what an act puts down
@@ -477,10 +479,78 @@ held_type z s d f Actᶜ.EndBlock h = tt
 held_type z s d f (Actᶜ.NameRegister true u) h = omega (arith, f.ready.types u h)
 held_type z s d f (Actᶜ.NameRegister false u) h = omega (arith, f.ready.types u h)
 
+-- The act that closes a function.
+abbrev pub ends_function : Actᶜ → Bool
+ends_function Actᶜ.Wrong = false
+ends_function Actᶜ.Pass = false
+ends_function Actᶜ.BeginFunction = false
+ends_function Actᶜ.MarkSsa = false
+ends_function Actᶜ.BeginRegister = false
+ends_function Actᶜ.BeginBlock = false
+ends_function (Actᶜ.SetResult u) = false
+ends_function Actᶜ.NameFunction = false
+ends_function Actᶜ.NameBlock = false
+ends_function (Actᶜ.NameRegister k u) = false
+ends_function (Actᶜ.BeginInstruction op) = false
+ends_function (Actᶜ.SetInstruction op) = false
+ends_function Actᶜ.SetTarget = false
+ends_function Actᶜ.AddSource = false
+ends_function Actᶜ.AddEntry = false
+ends_function Actᶜ.AddMention = false
+ends_function (Actᶜ.SetNumber neg v over) = false
+ends_function Actᶜ.EndInstruction = false
+ends_function Actᶜ.EndBlock = false
+ends_function Actᶜ.EndFunction = true
+
+pub other_act : (a : Actᶜ) → (a ≡ Actᶜ.EndFunction → ⊥) → ends_function a ≡ false
+other_act Actᶜ.Wrong n = refl
+other_act Actᶜ.Pass n = refl
+other_act Actᶜ.BeginFunction n = refl
+other_act Actᶜ.MarkSsa n = refl
+other_act Actᶜ.BeginRegister n = refl
+other_act Actᶜ.BeginBlock n = refl
+other_act (Actᶜ.SetResult u) n = refl
+other_act Actᶜ.NameFunction n = refl
+other_act Actᶜ.NameBlock n = refl
+other_act (Actᶜ.NameRegister k u) n = refl
+other_act (Actᶜ.BeginInstruction op) n = refl
+other_act (Actᶜ.SetInstruction op) n = refl
+other_act Actᶜ.SetTarget n = refl
+other_act Actᶜ.AddSource n = refl
+other_act Actᶜ.AddEntry n = refl
+other_act Actᶜ.AddMention n = refl
+other_act (Actᶜ.SetNumber neg v over) n = refl
+other_act Actᶜ.EndInstruction n = refl
+other_act Actᶜ.EndBlock n = refl
+other_act Actᶜ.EndFunction n = absurd (n refl)
+
+closes_by : (a : Actᶜ) (z : TokenSpot) → ends_function a ≡ closing (act_of z a)
+closes_by Actᶜ.Wrong z = refl
+closes_by Actᶜ.Pass z = refl
+closes_by Actᶜ.BeginFunction z = refl
+closes_by Actᶜ.MarkSsa z = refl
+closes_by Actᶜ.BeginRegister z = refl
+closes_by Actᶜ.BeginBlock z = refl
+closes_by (Actᶜ.SetResult u) z = refl
+closes_by Actᶜ.NameFunction z = refl
+closes_by Actᶜ.NameBlock z = refl
+closes_by (Actᶜ.NameRegister true u) z = refl
+closes_by (Actᶜ.NameRegister false u) z = refl
+closes_by (Actᶜ.BeginInstruction op) z = refl
+closes_by (Actᶜ.SetInstruction op) z = refl
+closes_by Actᶜ.SetTarget z = refl
+closes_by Actᶜ.AddSource z = refl
+closes_by Actᶜ.AddEntry z = refl
+closes_by Actᶜ.AddMention z = refl
+closes_by (Actᶜ.SetNumber neg v over) z = refl
+closes_by Actᶜ.EndInstruction z = refl
+closes_by Actᶜ.EndBlock z = refl
+closes_by Actᶜ.EndFunction z = refl
+
 -- a token taken by its act
-pub taken_by : (bytes : List ℕ) (p : TextPlace) (t : Tokenᶜ) (c : Reader) (x : Lent) (m : Moveᶜ) (r : Outcome) (x' : Lent)
+pub taken_by : (bytes : List ℕ) (p : TextPlace) (t : Tokenᶜ) (c : Reader) (x : Lent) (m : Moveᶜ) (r : Result Draftᶜ Fault) (x' : Lent)
     → bytes_of t bytes ≡ bytes → Movesᶜ (next_move (stage_is c.stage)) t m → Performs bytes p c.draft x r x' m.act
-    → Takes bytes p t c x (taken_from m.stage r) x'
+    → Takes bytes p t c x (taken_from (ends_function m.act) m.stage r) x'
 taken_by bytes p t c x m r x' own moved done fs parse reads tok means =
     let (s, d, e, k, f) = reads_follows reads in
     rw e (by s d k f)
@@ -491,13 +561,14 @@ taken_by bytes p t c x m r x' own moved done fs parse reads tok means =
     named : bytes ≡ z.name
     named = sym own ∙ ap (bytes_of t) (sym (spot_name means))
 
-    by : (s : Stage) (d : Draft) → d.functions ≡ fs → Follows s d c x → Reads fs x' (meaning.take_token (Parse.reading s d) (Found.token p.byte tok)) (taken_from m.stage r)
+    by : (s : Stage) (d : Draft) → d.functions ≡ fs → Follows s d c x → Reads fs x' (meaning.take_token (Parse.reading s d) (Found.token p.byte tok)) (taken_from (ends_function m.act) m.stage r)
     by s d k f =
         let moved' : Movesᶜ (next_move s) t m = subst (λ (u : Stage). Movesᶜ (next_move u) t m) f.stage moved in
         let move : move_of z m ≡ next_move s tok = moved' (spot_for means) ∙ ap (next_move s) (spot_token means) in
         let act : act_of z m.act ≡ (next_move s tok).act = ap (λ y. y.act) move in
         let fit = fits s tok in
-        done_reads fs s d k c x f tok p m.stage (ap (λ y. y.stage) move) (perform_act (act_of z m.act) p.byte d) r x' (act_of z m.act) (sym act)
+        rw (closes_by m.act z)
+        (done_reads fs s d k c x f tok p m.stage (ap (λ y. y.stage) move) (perform_act (act_of z m.act) p.byte d) r x' (act_of z m.act) (sym act)
         (performs s d c x f r x' z p m.act (subst (λ (n : List ℕ). Performs n p c.draft x r x' m.act) named done)
         (λ neg v over h.
         let at : s ≡ Stage.number = subst (λ (a : Actᶜ). OnlyAt s (act_of z a)) h (subst (OnlyAt s) (sym act) fit.only) in
@@ -505,7 +576,7 @@ taken_by bytes p t c x m r x' own moved done fs parse reads tok means =
         (subst (λ (a : Act). T (up_to a (depth s))) (sym act) fit.hand)
         (subst (λ (a : Act). T (cond (in_function a) (not (is_top s)) true)) (sym act) fit.inside)
         (subst (OnlyAt s) (sym act) fit.only))
-        refl
+        refl)
 
 pub enabled : (bytes : List ℕ) (p : TextPlace) (t : Tokenᶜ) (c : Reader) (x : Lent) (m : Moveᶜ)
     → ReaderReached c x → Beside t bytes p → Movesᶜ (next_move (stage_is c.stage)) t m → Enabled c.draft x bytes p m.act
@@ -575,17 +646,17 @@ end_wrong (Stage.mention_comma k) e = refl
 end_wrong Stage.operand_end e = refl
 end_wrong Stage.instruction_end e = refl
 
-pub end_taken : (p : TextPlace) (c : Reader) (x : Lent) → is_top (stage_is c.stage) ≡ true → EndTaken p c x (taken.Ended c)
+pub end_taken : (p : TextPlace) (c : Reader) (x : Lent) → is_top (stage_is c.stage) ≡ true → EndTaken p c x (Ok (steps.Ended c))
 unfolding meaning.take_token perform_act next_move
 end_taken p c x top fs parse reads =
     let (s, d, e, k, f) = reads_follows reads in
     let is : s ≡ Stage.top = sym f.stage ∙ top_only (stage_is c.stage) top in
     let none : d ≡ fresh d.functions = (subst (λ (u : Stage). StageReady u d) is f.ready).between tt in
-    rw (e, is) (subst (λ (b : Draft). Reads fs x (Parse.reading Stage.top b) (taken.Ended c)) (sym (none ∙ ap fresh k)) (Reads.ended c (f.counts.functions ∙ ap length k)
+    rw (e, is) (subst (λ (b : Draft). Reads fs x (Parse.reading Stage.top b) (Ok (steps.Ended c))) (sym (none ∙ ap fresh k)) (Reads.ended c (f.counts.functions ∙ ap length k)
     (λ l. (f.stands (rw k l)).cells ∙ ap open_cells none ∙ open_fresh d.functions)))
 
-pub end_refused : (p : TextPlace) (c : Reader) (x : Lent) → is_top (stage_is c.stage) ≡ false → EndTaken p c x (taken.Refused 3 p)
+pub end_refused : (p : TextPlace) (c : Reader) (x : Lent) → is_top (stage_is c.stage) ≡ false → EndTaken p c x (Err (fault_at reasons.TokenNotAllowed p))
 unfolding meaning.take_token perform_act
 end_refused p c x inside fs parse reads =
     let (s, d, e, k, f) = reads_follows reads in
-    rw (e, end_wrong s (sym (ap is_top f.stage) ∙ inside)) (Reads.refused 3 p)
+    rw (e, end_wrong s (sym (ap is_top f.stage) ∙ inside)) (Reads.refused (fault_at reasons.TokenNotAllowed p))

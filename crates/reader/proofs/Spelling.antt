@@ -21,14 +21,18 @@ use Rattle.lexer.specs.declared.Lexeme.{Lexeme}
 use Rattle.lexer.specs.declared.Lexeme.TheVariants as lexemes
 use Rattle.lexer.specs.declared.Found.TheVariants as founds
 use Rattle.text_place.specs.declared.TextPlace.{TextPlace}
+use Rattle.std.specs.Prelude.{Result, Ok, Err}
+use Rattle.answers.specs.declared.reasons.Reason.TheVariants as reasons
+use Rattle.answers.specs.Reasons.{reason_number}
+use Rattle.drafts.specs.declared.state.Fault.{Fault}
 use Rattle.reader.specs.declared.tokens.Spelled.{Spelled}
 use Rattle.reader.specs.declared.taking.Reader.{Reader}
-use Rattle.reader.specs.declared.taking.Taken.{Taken}
-use Rattle.reader.specs.declared.taking.Taken.TheVariants as taken
+use Rattle.reader.specs.declared.taking.Step.{Step}
+use Rattle.reader.specs.declared.taking.Step.TheVariants as steps
 use Rattle.grammar.specs.Meaning.{bytes_of}
 use Rattle.grammar.specs.declared.Token.{Token}
 use Rattle.grammar.specs.declared.Token.TheVariants as tokens
-use Rattle.drafts.specs.State.{KeptAs, Lent}
+use Rattle.drafts.specs.State.{fault_at, KeptAs, Lent}
 use Rattle.reader.specs.Parse.{Means, Reads, Takes, Beside, Suits, is_end}
 use Rattle.reader.specs.Text.{nameless, SpelledAs, spelled_bytes, is_end_lexeme, FoundAs, FoundHere, TakesFound}
 
@@ -140,7 +144,7 @@ module _ {text h : List ℕ} {p : TextPlace} {x : Lexeme} {y : Spelled} (spelled
       low : {a b : ℕ} → a ≤ b → b ≤ max_text → a < 4294967296
       low q r = omega arith
 
-  pub lexeme_taken : {name : List ℕ} → name ≡ spelled_bytes text h y → {c : Reader} {a : Lent} {r : Taken} {b : Lent} → Takes name p y.token c a r b
+  pub lexeme_taken : {name : List ℕ} → name ≡ spelled_bytes text h y → {c : Reader} {a : Lent} {r : Result (Step Reader) Fault} {b : Lent} → Takes name p y.token c a r b
       → TakesFound text h (founds.Lexeme p x) c a r b
   lexeme_taken {name} e {c} {a} {r} {b} takes fs parse reads one f = by one (found_token f)
     where
@@ -148,18 +152,18 @@ module _ {text h : List ℕ} {p : TextPlace} {x : Lexeme} {y : Spelled} (spelled
       by one (FoundToken.token m k) = takes fs parse reads m (rw e (spelled.means m k))
       by one (FoundToken.end q) = takes fs parse reads Tokenᴸ.end (means_end y.token (spelled.end ∙ q))
 
-pub lexeme_suits : {text h : List ℕ} {x : Lexeme} {y : Spelled} → SpelledAs text h x y → (r : Taken) → Suits (is_end y.token) r → Suits (is_end_lexeme x) r
+pub lexeme_suits : {text h : List ℕ} {x : Lexeme} {y : Spelled} → SpelledAs text h x y → (r : Result (Step Reader) Fault) → Suits (is_end y.token) r → Suits (is_end_lexeme x) r
 lexeme_suits spelled r s = subst (λ (e : Bool). Suits e r) spelled.end s
 
-pub nothing_taken : {text h : List ℕ} {c : Reader} {a : Lent} → TakesFound text h founds.Nothing c a (taken.Reading c) a
+pub nothing_taken : {text h : List ℕ} {c : Reader} {a : Lent} → TakesFound text h founds.Nothing c a (Ok (steps.Reading c)) a
 nothing_taken {text} {h} {c} {a} fs parse reads one f = by f
   where
-    by : {one : List Foundᴸ} → FoundAs text h founds.Nothing one → Reads fs a (foldl meaning.take_token parse one) (taken.Reading c)
+    by : {one : List Foundᴸ} → FoundAs text h founds.Nothing one → Reads fs a (foldl meaning.take_token parse one) (Ok (steps.Reading c))
     by (FoundAs.finds lexing.Finds.nothing) = reads
 
-pub stray_taken : {text h : List ℕ} {p : TextPlace} {c : Reader} {a b : Lent} → TakesFound text h (founds.Stray p) c a (taken.Refused 2 p) b
+pub stray_taken : {text h : List ℕ} {p : TextPlace} {c : Reader} {a b : Lent} → TakesFound text h (founds.Stray p) c a (Err (fault_at reasons.NoToken p)) b
 unfolding meaning.take_token
 stray_taken {text} {h} {p} {c} {a} {b} fs parse (Reads.reading s d q k i) one f = by f
   where
-    by : {one : List Foundᴸ} → FoundAs text h (founds.Stray p) one → Reads fs b (foldl meaning.take_token (Parse.reading s d) one) (taken.Refused 2 p)
-    by (FoundAs.finds (lexing.Finds.stray p)) = Reads.refused 2 p
+    by : {one : List Foundᴸ} → FoundAs text h (founds.Stray p) one → Reads fs b (foldl meaning.take_token (Parse.reading s d) one) (Err (fault_at reasons.NoToken p))
+    by (FoundAs.finds (lexing.Finds.stray p)) = Reads.refused (fault_at reasons.NoToken p)

@@ -20,14 +20,17 @@ use Rattle.lexer.specs.Lexing.{left, idle_at}
 use Rattle.lexer.proofs.Stepping.{stands_first}
 use Rattle.lexer.specs.declared.Lexer.{Lexer}
 use Rattle.drafts.specs.State.{names_length, pending_length}
+use Rattle.std.specs.Prelude.{Result, Ok, Err}
+use Rattle.answers.specs.declared.reasons.Reason.TheVariants as reasons
+use Rattle.answers.specs.Reasons.{reason_number}
+use Rattle.drafts.specs.declared.state.Fault.{Fault}
 use Rattle.reader.specs.Parse.{reader_at}
-use Rattle.reader.specs.Text.{LexerAt, Between, ProgressReached, Rest, to_go, ClosedWith, Arrives, Advances, end_of, table_with, InTable, TableReached, Fed, Feeds, ToldOf, JudgedAs, refusal_of, progress_start}
+use Rattle.reader.specs.Text.{LexerAt, Between, ProgressReached, Rest, to_go, ClosedWith, Arrives, Advances, end_of, table_with, InTable, TableReached, Fed, Feeds, ToldOf, JudgedAs, progress_start}
 use Rattle.reader.specs.declared.reading.Progress.{Progress}
-use Rattle.reader.specs.declared.reading.Step.{Step}
-use Rattle.reader.specs.declared.reading.Step.TheVariants as steps
-use Rattle.reader.specs.declared.telling.Told.TheVariants as tolds
+use Rattle.reader.specs.declared.taking.Step.{Step}
+use Rattle.reader.specs.declared.taking.Step.TheVariants as steps
 use Rattle.reader.proofs.Fresh.{lent_start, between_fresh, between_closed}
-use Rattle.reader.proofs.Outcomes.{NotClosed, NotReading, NotEnded}
+use Rattle.reader.proofs.Outcomes.{NotClosed}
 use Rattle.reader.proofs.Tables.{Whole, slot_length, in_slot, slot_back, slot_within, slot_zero, whole_more, table_more, table_start, table_end, length_slot}
 
 -- Whatever comes after the bytes lent, all bytes come to the same from there and from here.
@@ -36,7 +39,7 @@ Same text ends parse l c parse' l' c' =
     (more : List ℕ) → Rest ends more → to_go parse l (drop c.next text ++ more) ≡ to_go parse' l' (drop c'.next text ++ more)
 
 closed_of : {text : List ℕ} {ends : Bool} {fs : List Func} {parse : Parse} {l : Lexerᴸ} {c : Lexer} {f n p v : List ℕ} {y : Progress}
-    → Arrives text ends fs parse l c f n p v (steps.Closed y)
+    → Arrives text ends fs parse l c f n p v (Ok (steps.Closed y))
     → (g : Func) × (l' : Lexerᴸ) × LexerAt text v l' y.lexer × (left text y.lexer < left text c) × ClosedWith fs g y.reader f n p
     × Same text ends parse l c (Parse.reading Stage.top (fresh (fs ++ (g ∷ [])))) l' y.lexer
 closed_of (Arrives.closed g y l' at less with same) = (g, l', at, less, with, same)
@@ -112,7 +115,7 @@ cells_zero fs {f} l e = by (dec_lt (length fs) max_functions)
 module _ (text : List ℕ) (ends : Bool) (parse₁ : Parse) (l₁ : Lexerᴸ) (c₁ : Lexer) (s : Progress) (t n p v : List ℕ)
     (h : Here text ends parse₁ l₁ c₁ s t n p v) (f' n' p' v' : List ℕ) where
   -- one function more
-  here_closed : (y : Progress) → Arrives text ends h.functions h.parse h.lexer s.lexer f' n' p' v' (steps.Closed y)
+  here_closed : (y : Progress) → Arrives text ends h.functions h.parse h.lexer s.lexer f' n' p' v' (Ok (steps.Closed y))
       → Here text ends parse₁ l₁ c₁ y (table_with h.functions f') n' p' v' × (left text y.lexer < left text s.lexer)
   here_closed y r =
       let (g, l', at, less, with, same) = closed_of r in
@@ -140,9 +143,9 @@ module _ (text : List ℕ) (ends : Bool) (parse₁ : Parse) (l₁ : Lexerᴸ) (c
       )
 
   -- an answer, or an end
-  here_fed : length f' ≡ slot_length (length h.functions) → {r : Step} → Arrives text ends h.functions h.parse h.lexer s.lexer f' n' p' v' r → NotClosed r
+  here_fed : length f' ≡ slot_length (length h.functions) → {r : Result (Step Progress) Fault} → Arrives text ends h.functions h.parse h.lexer s.lexer f' n' p' v' r → NotClosed r
       → Fed text ends parse₁ l₁ c₁ (table_with h.functions f') n' p' v' r
-  here_fed l (Arrives.refused k q e) out = Fed.refused k q (λ more r. h.same more r ∙ e more r)
+  here_fed l (Arrives.refused k e) out = Fed.refused k (λ more r. h.same more r ∙ e more r)
   here_fed l (Arrives.closed g y l' at less with same) out = absurd (out y refl)
   here_fed l (Arrives.reading parse' y l' e at all b same) out =
       Fed.reading h.functions parse' y l' e at all
@@ -168,24 +171,24 @@ module _ {text : List ℕ} {ends : Bool} {parse : Parse} {l : Lexerᴸ} {c : Lex
         slot_back h.functions now.few now.whole (q ∙ ap function_at now.between.count) (w ∙ ap end_of now.between.count) now.cells now.size now.table f'
         (kept ∙ ap length slot)
 
-    arrives : (r : Step) → Advances text ends s (mid_of a (e - a) t) n p v r f' n' p' v' → Arrives text ends h.functions h.parse h.lexer s.lexer f' n' p' v' r
+    arrives : (r : Result (Step Progress) Fault) → Advances text ends s (mid_of a (e - a) t) n p v r f' n' p' v' → Arrives text ends h.functions h.parse h.lexer s.lexer f' n' p' v' r
     arrives r adv = adv h.functions h.parse h.lexer h.at (rw slot now.between)
 
-    step_on : (r : Step) → Advances text ends s (mid_of a (e - a) t) n p v r f' n' p' v' → (y : Progress) → r ≡ steps.Closed y
+    step_on : (r : Result (Step Progress) Fault) → Advances text ends s (mid_of a (e - a) t) n p v r f' n' p' v' → (y : Progress) → r ≡ Ok (steps.Closed y)
         → Here text ends parse l c y (put_mid a (e - a) t f') n' p' v' × (left text y.lexer < left text s.lexer)
     step_on r adv y is = rw back (here_closed text ends parse l c s t n p v h f' n' p' v' y (rw is at (arrives r adv)))
 
-    step_out : (r : Step) → Advances text ends s (mid_of a (e - a) t) n p v r f' n' p' v' → NotClosed r → Fed text ends parse l c (put_mid a (e - a) t f') n' p' v' r
+    step_out : (r : Result (Step Progress) Fault) → Advances text ends s (mid_of a (e - a) t) n p v r f' n' p' v' → NotClosed r → Fed text ends parse l c (put_mid a (e - a) t f') n' p' v' r
     step_out r adv out = rw back (here_fed text ends parse l c s t n p v h f' n' p' v' (kept ∙ ap length slot ∙ now.size) (arrives r adv) out)
 
 -- what the loop has to show
 module _ {text : List ℕ} {ends : Bool} {x : Progress} {t₀ n₀ p₀ v₀ : List ℕ} {s : Progress} {t n p v : List ℕ} (goes : Goes text ends x t₀ n₀ p₀ v₀ s t n p v)
     {a e : ℕ} (q : a ≡ function_at s.reader.draft.functions) (w : e ≡ end_of s.reader.draft.functions) (f' n' p' v' : List ℕ) (kept : length f' ≡ length (mid_of a (e - a) t))
-    {r : Step} (adv : Advances text ends s (mid_of a (e - a) t) n p v r f' n' p' v') where
-  pub goes_on : {y : Progress} → r ≡ steps.Closed y → Goes text ends x t₀ n₀ p₀ v₀ y (put_mid a (e - a) t f') n' p' v'
+    {r : Result (Step Progress) Fault} (adv : Advances text ends s (mid_of a (e - a) t) n p v r f' n' p' v') where
+  pub goes_on : {y : Progress} → r ≡ Ok (steps.Closed y) → Goes text ends x t₀ n₀ p₀ v₀ y (put_mid a (e - a) t f') n' p' v'
   goes_on {y} is fs parse l at i = (step_on (goes fs parse l at i) q w f' n' p' v' kept r adv y is).0
 
-  pub goes_less : TableReached text x t₀ n₀ p₀ v₀ → {y : Progress} → r ≡ steps.Closed y → left text y.lexer < left text s.lexer
+  pub goes_less : TableReached text x t₀ n₀ p₀ v₀ → {y : Progress} → r ≡ Ok (steps.Closed y) → left text y.lexer < left text s.lexer
   goes_less h {y} is = (step_on (goes h.functions h.parse h.lexer h.at h.in_table) q w f' n' p' v' kept r adv y is).1
 
   pub goes_out : NotClosed r → Feeds text ends x t₀ n₀ p₀ v₀ r (put_mid a (e - a) t f') n' p' v'
@@ -220,20 +223,26 @@ comes_to text short e =
 
 -- fed: an answer, or all is read
 module _ (text : List ℕ) (short : length text ≤ max_text) {x : Progress} (is : x ≡ progress_start) {t₀ n₀ p₀ v₀ : List ℕ} (first : (t₀ ≡ zeros table_length) × (n₀ ≡ zeros names_length) × (p₀ ≡ zeros pending_length) × (length v₀ ≡ max_name))
-    {r : Step} {t n p v : List ℕ} (feeds : Feeds text false x t₀ n₀ p₀ v₀ r t n p v) where
+    {r : Result (Step Progress) Fault} {t n p v : List ℕ} (feeds : Feeds text false x t₀ n₀ p₀ v₀ r t n p v) where
   fed : Fed text false parse₀ lexer₀ (idle_at 0 0) t n p v r
   fed = rw is at feeds [] parse₀ lexer₀ (lexer_start text v₀ first.3) (table_first first.0 first.1 first.2)
 
-  pub fed_refused : NotReading r → (t' : List ℕ) → ToldOf t' (read text) (refusal_of r)
-  fed_refused out t' = by fed out
+  pub fed_refused : {k : Fault} → r ≡ Err k → (t' : List ℕ) → ToldOf t' (read text) (Err k)
+  fed_refused {k} is t' = by (rw is at fed)
     where
-      by : {r : Step} → Fed text false parse₀ lexer₀ (idle_at 0 0) t n p v r → NotReading r → ToldOf t' (read text) (refusal_of r)
-      by (Fed.refused k q e) out = rw (comes_to text short (e [] (λ t. refl))) (ToldOf.refused k q)
-      by (Fed.reading fs parse y l e at all i same) out = absurd (out y refl)
-      by (Fed.ended fs y e count few table same) out = absurd (false≢true e)
+      by : Fed text false parse₀ lexer₀ (idle_at 0 0) t n p v (Err k) → ToldOf t' (read text) (Err k)
+      by (Fed.refused k e) = rw (comes_to text short (e [] (λ t. refl))) (ToldOf.refused k)
 
-  module _ {y : Progress} (now : r ≡ steps.Reading y) where
-    read_on : {y : Progress} → Fed text false parse₀ lexer₀ (idle_at 0 0) t n p v (steps.Reading y)
+  -- and nothing else
+  pub fed_reads : {z : Step Progress} → r ≡ Ok z → ((y : Progress) → z ≡ steps.Reading y → ⊥) → ⊥
+  fed_reads {z} is out = by (rw is at fed) out
+    where
+      by : {z : Step Progress} → Fed text false parse₀ lexer₀ (idle_at 0 0) t n p v (Ok z) → ((y : Progress) → z ≡ steps.Reading y → ⊥) → ⊥
+      by (Fed.reading fs parse y l e at all i same) out = out y refl
+      by (Fed.ended fs y e count few table same) out = false≢true e
+
+  module _ {y : Progress} (now : r ≡ Ok (steps.Reading y)) where
+    read_on : {y : Progress} → Fed text false parse₀ lexer₀ (idle_at 0 0) t n p v (Ok (steps.Reading y))
         → (fs : List Func) × (parse : Parse) × (l : Lexerᴸ) × LexerAt text v l y.lexer × InTable fs parse y.reader t n p
         × ((more : List ℕ) → to_go parse₀ lexer₀ (drop 0 text ++ more) ≡ to_go parse l (drop y.lexer.next text ++ more))
     read_on (Fed.reading fs parse y l e at all i same) = (fs, parse, l, at, i, same)
@@ -241,39 +250,44 @@ module _ (text : List ℕ) (short : length text ≤ max_text) {x : Progress} (is
     pub fed_reached : TableReached text y t n p v
     fed_reached = let (fs, parse, l, at, i, same) = read_on (rw now at fed) in record { functions = fs; parse = parse; lexer = l; at = at; in_table = i }
 
-    module _ {r' : Step} {t' n' p' v' : List ℕ} (closes : Feeds text true y t n p v r' t' n' p' v') where
+    module _ {r' : Result (Step Progress) Fault} {t' n' p' v' : List ℕ} (closes : Feeds text true y t n p v r' t' n' p' v') where
       whole_fed : Fed text true parse₀ lexer₀ (idle_at 0 0) t' n' p' v' r'
       whole_fed =
           let (fs, parse, l, at, i, same) = read_on (rw now at fed) in
           from same (closes fs parse l at i)
         where
           from : {parse : Parse} {l : Lexerᴸ} → ((more : List ℕ) → to_go parse₀ lexer₀ (drop 0 text ++ more) ≡ to_go parse l (drop y.lexer.next text ++ more))
-              → {r : Step} → Fed text true parse l y.lexer t' n' p' v' r → Fed text true parse₀ lexer₀ (idle_at 0 0) t' n' p' v' r
-          from same (Fed.refused k q e) = Fed.refused k q (λ more r. same more ∙ e more r)
+              → {r : Result (Step Progress) Fault} → Fed text true parse l y.lexer t' n' p' v' r → Fed text true parse₀ lexer₀ (idle_at 0 0) t' n' p' v' r
+          from same (Fed.refused k e) = Fed.refused k (λ more r. same more ∙ e more r)
           from same (Fed.reading fs parse y l e at all i s) = absurd (true≢false e)
           from same (Fed.ended fs y e count few table s) = Fed.ended fs y e count few table (same [] ∙ s)
 
-      pub closed_refused : NotEnded r' → (t'' : List ℕ) → ToldOf t'' (read text) (refusal_of r')
-      closed_refused out t'' = by whole_fed out
+      pub closed_refused : {k : Fault} → r' ≡ Err k → (t'' : List ℕ) → ToldOf t'' (read text) (Err k)
+      closed_refused {k} is t'' = by (rw is at whole_fed)
         where
-          by : {r : Step} → Fed text true parse₀ lexer₀ (idle_at 0 0) t' n' p' v' r → NotEnded r → ToldOf t'' (read text) (refusal_of r)
-          by (Fed.refused k q e) out = rw (comes_to text short (e [] (λ t. refl))) (ToldOf.refused k q)
-          by (Fed.reading fs parse y l e at all i same) out = absurd (true≢false e)
-          by (Fed.ended fs y e count few table same) out = absurd (out y refl)
+          by : Fed text true parse₀ lexer₀ (idle_at 0 0) t' n' p' v' (Err k) → ToldOf t'' (read text) (Err k)
+          by (Fed.refused k e) = rw (comes_to text short (e [] (λ t. refl))) (ToldOf.refused k)
 
-      module _ {z : Progress} (ended : r' ≡ steps.Ended z) where
-        at_end : {z : Progress} → Fed text true parse₀ lexer₀ (idle_at 0 0) t' n' p' v' (steps.Ended z)
+      pub closed_ends : {z : Step Progress} → r' ≡ Ok z → ((y : Progress) → z ≡ steps.Ended y → ⊥) → ⊥
+      closed_ends {z} is out = by (rw is at whole_fed) out
+        where
+          by : {z : Step Progress} → Fed text true parse₀ lexer₀ (idle_at 0 0) t' n' p' v' (Ok z) → ((y : Progress) → z ≡ steps.Ended y → ⊥) → ⊥
+          by (Fed.reading fs parse y l e at all i same) out = true≢false e
+          by (Fed.ended fs y e count few table same) out = out y refl
+
+      module _ {z : Progress} (ended : r' ≡ Ok (steps.Ended z)) where
+        at_end : {z : Progress} → Fed text true parse₀ lexer₀ (idle_at 0 0) t' n' p' v' (Ok (steps.Ended z))
             → (fs : List Func) × (z.reader.draft.functions ≡ length fs) × (length fs ≤ max_functions) × (t' ≡ table_with fs []) × (read text ≡ Reading.program fs)
         at_end (Fed.ended fs z e count few table same) = (fs, count, few, table, comes_to text short same)
 
         pub few_ended : z.reader.draft.functions ≤ max_functions
         few_ended = let (fs, count, few, table, reads) = at_end (rw ended at whole_fed) in omega (arith, count, few)
 
-        pub told_program : {k : ℕ} → k ≡ z.reader.draft.functions → ToldOf (set t' 0 k) (read text) tolds.Accepted
+        pub told_program : {k : ℕ} → k ≡ z.reader.draft.functions → ToldOf (set t' 0 k) (read text) (Ok tt)
         told_program {k} e = by (at_end (rw ended at whole_fed))
           where
             by : (fs : List Func) × (z.reader.draft.functions ≡ length fs) × (length fs ≤ max_functions) × (t' ≡ table_with fs []) × (read text ≡ Reading.program fs)
-                → ToldOf (set t' 0 k) (read text) tolds.Accepted
+                → ToldOf (set t' 0 k) (read text) (Ok tt)
             by (fs, count, few, table, reads) = rw reads (ToldOf.program fs (rw (table, e ∙ count) (table_end fs)))
 
 -- ---- without a table
@@ -303,11 +317,11 @@ module _ {text : List ℕ} {s : Progress} {f n p v : List ℕ} (h : JudgedTo tex
   pub judge_reached : ProgressReached text s f n p v
   judge_reached = record { functions = h.functions; parse = h.parse; lexer = h.lexer; at = h.at; between = h.between }
 
-  module _ {r : Step} {f' n' p' v' : List ℕ} (adv : Advances text true s f n p v r f' n' p' v') where
+  module _ {r : Result (Step Progress) Fault} {f' n' p' v' : List ℕ} (adv : Advances text true s f n p v r f' n' p' v') where
     judged : Arrives text true h.functions h.parse h.lexer s.lexer f' n' p' v' r
     judged = adv h.functions h.parse h.lexer h.at h.between
 
-    module _ {y : Progress} (is : r ≡ steps.Closed y) where
+    module _ {y : Progress} (is : r ≡ Ok (steps.Closed y)) where
       pub judge_on : {z : List ℕ} → z ≡ zeros function_length → JudgedTo text y z n' p' v'
       judge_on {z} e =
           let (g, l', at, less, with, same) = closed_of (rw is at judged) in
@@ -323,11 +337,16 @@ module _ {text : List ℕ} {s : Progress} {f n p v : List ℕ} (h : JudgedTo tex
       pub judge_less : left text y.lexer < left text s.lexer
       judge_less = let (g, l', at, less, with, same) = closed_of (rw is at judged) in less
 
-    pub judge_out : length text ≤ max_text → NotClosed r → JudgedAs (read text) (refusal_of r)
-    judge_out short out = by judged out
+    pub judge_refused : length text ≤ max_text → {k : Fault} → r ≡ Err k → JudgedAs (read text) (Err k)
+    judge_refused short {k} is = by (rw is at judged)
       where
-        by : {r : Step} → Arrives text true h.functions h.parse h.lexer s.lexer f' n' p' v' r → NotClosed r → JudgedAs (read text) (refusal_of r)
-        by (Arrives.refused k q e) out = rw (comes_to text short (h.same [] (λ t. refl) ∙ e [] (λ t. refl))) (JudgedAs.refused k q)
+        by : Arrives text true h.functions h.parse h.lexer s.lexer f' n' p' v' (Err k) → JudgedAs (read text) (Err k)
+        by (Arrives.refused k e) = rw (comes_to text short (h.same [] (λ t. refl) ∙ e [] (λ t. refl))) (JudgedAs.refused k)
+
+    pub judge_out : length text ≤ max_text → {z : Step Progress} → r ≡ Ok z → ((y : Progress) → z ≡ steps.Closed y → ⊥) → JudgedAs (read text) (Ok tt)
+    judge_out short {z} is out = by (rw is at judged) out
+      where
+        by : {z : Step Progress} → Arrives text true h.functions h.parse h.lexer s.lexer f' n' p' v' (Ok z) → ((y : Progress) → z ≡ steps.Closed y → ⊥) → JudgedAs (read text) (Ok tt)
         by (Arrives.closed g y l' at less with same) out = absurd (out y refl)
         by (Arrives.reading parse' y l' e at all b same) out = absurd (true≢false e)
         by (Arrives.ended y e count zero same) out = rw (comes_to text short (h.same [] (λ t. refl) ∙ same)) (JudgedAs.program h.functions)

@@ -1,5 +1,5 @@
 -- What the reader's numbers stand for between two tokens: a stage of the grammar and a draft. Assumes nothing.
-use Rattle.std.specs.Prelude.{◌≡◌, Bool, true, false, cond, List, [], ◌∷◌, ◌++◌, ℕ, ◌+◌, ◌≤◌, ◌<◌, T, ltb, length}
+use Rattle.std.specs.Prelude.{◌≡◌, Bool, true, false, cond, List, [], ◌∷◌, ◌++◌, ℕ, ◌+◌, ◌≤◌, ◌<◌, T, ltb, length, Result, Ok, Err}
 use Rattle.language.specs.Programs.{Func, max_functions, max_registers, max_blocks, max_rows, max_name}
 use Rattle.language.specs.Answers.{zeros}
 use Rattle.language.specs.Table.{function_length, function_cells}
@@ -14,14 +14,15 @@ use Rattle.grammar.specs.Ready.{StageReady}
 use Rattle.grammar.specs.declared.Token.{Token}
 use Rattle.grammar.specs.declared.Token.TheVariants as tokens
 use Rattle.grammar.specs.declared.Act.{Act}
-use Rattle.drafts.specs.State.{Bounded, Counts, Lent, Stands, CellsIndexed, NamesHeld, function_names, Acts, EndsFunction, KeptAs, fresh_at, if_room_at, names_length, pending_length, Always, Unnamed, NoBlock, NoParts, WholeRow}
+use Rattle.drafts.specs.State.{fault_at, Bounded, Counts, Lent, Stands, CellsIndexed, NamesHeld, function_names, Acts, EndsFunction, KeptAs, fresh_at, if_room_at, names_length, pending_length, Always, Unnamed, NoBlock, NoParts, WholeRow}
 use Rattle.drafts.specs.declared.state.Draft.{Draft as Draftᶜ}
-use Rattle.drafts.specs.declared.state.Outcome.{Outcome}
-use Rattle.drafts.specs.declared.state.Outcome.TheVariants as outcome
+use Rattle.drafts.specs.declared.state.Fault.{Fault}
+use Rattle.answers.specs.declared.reasons.Reason.TheVariants as reasons
+use Rattle.answers.specs.Reasons.{reason_number}
 use Rattle.text_place.specs.declared.TextPlace.{TextPlace}
 use Rattle.reader.specs.declared.taking.Reader.{Reader}
-use Rattle.reader.specs.declared.taking.Taken.{Taken}
-use Rattle.reader.specs.declared.taking.Taken.TheVariants as taken
+use Rattle.reader.specs.declared.taking.Step.{Step}
+use Rattle.reader.specs.declared.taking.Step.TheVariants as steps
 
 -- Before the first token of a function, so many being closed.
 abbrev pub reader_at : ℕ → Reader
@@ -106,18 +107,18 @@ pub record ClosesWith (fs : List Func) (g : Func) (c : Reader) (x : Lent) : Type
 
 -- The tokens so far come to an answer, or, with these functions closed, to a state that stands for their stage and draft, to one function
 -- more that is closed, or to the end.
-pub data Reads (fs : List Func) (x : Lent) : Parse → Taken → Type 0 where
-  refused : (n : ℕ) (p : TextPlace) → Reads fs x (Parse.refused n p.byte) (taken.Refused n p)
-  reading : (s : Stage) (d : Draft) (c : Reader) → d.functions ≡ fs → Follows s d c x → Reads fs x (Parse.reading s d) (taken.Reading c)
-  closed : (g : Func) (c : Reader) → ClosesWith fs g c x → Reads fs x (Parse.reading Stage.top (fresh (fs ++ (g ∷ [])))) (taken.Closed c)
+pub data Reads (fs : List Func) (x : Lent) : Parse → Result (Step Reader) Fault → Type 0 where
+  refused : (e : Fault) → Reads fs x (Parse.refused (reason_number e.reason) e.at.byte) (Err e)
+  reading : (s : Stage) (d : Draft) (c : Reader) → d.functions ≡ fs → Follows s d c x → Reads fs x (Parse.reading s d) (Ok (steps.Reading c))
+  closed : (g : Func) (c : Reader) → ClosesWith fs g c x → Reads fs x (Parse.reading Stage.top (fresh (fs ++ (g ∷ [])))) (Ok (steps.Closed c))
   ended : (c : Reader) → c.draft.functions ≡ length fs → (length fs < max_functions → x.cells ≡ zeros function_length)
-      → Reads fs x (Parse.reading Stage.top (fresh fs)) (taken.Ended c)
+      → Reads fs x (Parse.reading Stage.top (fresh fs)) (Ok (steps.Ended c))
 
 -- Some tokens bring the reader to this state.
 pub record ReaderReached (c : Reader) (x : Lent) : Type 0 where
   pub functions : List Func
   pub parse : Parse
-  pub reads : Reads functions x parse (taken.Reading c)
+  pub reads : Reads functions x parse (Ok (steps.Reading c))
 
 -- ---- a token
 
@@ -143,22 +144,22 @@ is_end (tokens.Number g v o) = false
 is_end (tokens.Mark b) = false
 is_end tokens.End = true
 
-abbrev pub Suits : Bool → Taken → Type 0
-Suits last (taken.Refused n p) = Unit {0}
-Suits last (taken.Reading c) = last ≡ false
-Suits last (taken.Closed c) = last ≡ false
-Suits last (taken.Ended c) = last ≡ true
+abbrev pub Suits : Bool → Result (Step Reader) Fault → Type 0
+Suits last (Err e) = Unit {0}
+Suits last (Ok (steps.Reading c)) = last ≡ false
+Suits last (Ok (steps.Closed c)) = last ≡ false
+Suits last (Ok (steps.Ended c)) = last ≡ true
 
 -- One more token.
-abbrev pub Takes : (name : List ℕ) (p : TextPlace) (t : Token) (c : Reader) (x : Lent) (r : Taken) (x' : Lent) → Type 0
+abbrev pub Takes : (name : List ℕ) (p : TextPlace) (t : Token) (c : Reader) (x : Lent) (r : Result (Step Reader) Fault) (x' : Lent) → Type 0
 Takes name p t c x r x' =
-    (fs : List Func) (parse : Parse) → Reads fs x parse (taken.Reading c) → (m : Tokenᴸ) → Means name t m
+    (fs : List Func) (parse : Parse) → Reads fs x parse (Ok (steps.Reading c)) → (m : Tokenᴸ) → Means name t m
     → Reads fs x' (meaning.take_token parse (Foundᴸ.token p.byte m)) r
 
 -- The end, at this place.
-abbrev pub EndTaken : (p : TextPlace) (c : Reader) (x : Lent) (r : Taken) → Type 0
+abbrev pub EndTaken : (p : TextPlace) (c : Reader) (x : Lent) (r : Result (Step Reader) Fault) → Type 0
 EndTaken p c x r =
-    (fs : List Func) (parse : Parse) → Reads fs x parse (taken.Reading c) → Reads fs x (meaning.take_token parse (Foundᴸ.token p.byte Tokenᴸ.end)) r
+    (fs : List Func) (parse : Parse) → Reads fs x parse (Ok (steps.Reading c)) → Reads fs x (meaning.take_token parse (Foundᴸ.token p.byte Tokenᴸ.end)) r
 
 -- ---- an act
 
@@ -226,13 +227,13 @@ pub record Enabled (d : Draftᶜ) (x : Lent) (name : List ℕ) (p : TextPlace) (
   pub holding : Holding a
 
 -- Nothing lent is changed, and this is the answer.
-abbrev pub LeavesLent : (x : Lent) (r : Outcome) (x' : Lent) → Outcome → Type 0
+abbrev pub LeavesLent : (x : Lent) (r : Result Draftᶜ Fault) (x' : Lent) → Result Draftᶜ Fault → Type 0
 LeavesLent x r x' o = (r ≡ o) × (x' ≡ x)
 
 -- What each act does in code.
-abbrev pub Performs : (name : List ℕ) (p : TextPlace) (d : Draftᶜ) (x : Lent) (r : Outcome) (x' : Lent) → Act → Type 0
-Performs name p d x r x' Act.Wrong = LeavesLent x r x' (outcome.Refuse 3 p)
-Performs name p d x r x' Act.Pass = LeavesLent x r x' (outcome.Proceed d)
+abbrev pub Performs : (name : List ℕ) (p : TextPlace) (d : Draftᶜ) (x : Lent) (r : Result Draftᶜ Fault) (x' : Lent) → Act → Type 0
+Performs name p d x r x' Act.Wrong = LeavesLent x r x' (Err (fault_at reasons.TokenNotAllowed p))
+Performs name p d x r x' Act.Pass = LeavesLent x r x' (Ok d)
 Performs name p d x r x' Act.BeginFunction = LeavesLent x r x' (if_room_at d.functions max_functions p d)
 Performs name p d x r x' Act.MarkSsa = Acts Always meaning.mark_ssa d x r x'
 Performs name p d x r x' Act.BeginRegister = LeavesLent x r x' (if_room_at d.head.registers max_registers p d)

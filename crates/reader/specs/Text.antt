@@ -1,5 +1,5 @@
 -- What lexemes, and the loops over a text, come to. Assumes nothing.
-use Rattle.std.specs.Prelude.{◌≡◌, Bool, true, false, cond, ℕ, ◌+◌, ◌≤◌, ◌<◌, T, ltb, length, get_or, drop}
+use Rattle.std.specs.Prelude.{◌≡◌, Bool, true, false, cond, ℕ, ◌+◌, ◌≤◌, ◌<◌, T, ltb, length, get_or, drop, Result, Ok, Err}
 use mathlib.Core.List.{List, [], ◌∷◌, ◌++◌, foldl, map}
 use Rattle.laws.specs.Lists.{gather}
 use Rattle.laws.specs.Sections.{pad}
@@ -27,17 +27,15 @@ use Rattle.lexer.specs.declared.Found.TheVariants as founds
 use Rattle.lexer.specs.declared.Lexed.{Lexed}
 use Rattle.drafts.specs.State.{Bounded, Lent, lent_of, CellsIndexed, NamesHeld, function_names, fresh_at, names_length, pending_length}
 use Rattle.drafts.specs.declared.state.Draft.{Draft as Draftᶜ}
+use Rattle.drafts.specs.declared.state.Fault.{Fault}
+use Rattle.answers.specs.Reasons.{reason_number}
 use Rattle.text_place.specs.declared.TextPlace.{TextPlace}
 use Rattle.reader.specs.Parse.{reader_at, Follows, Reads, Means, is_end}
 use Rattle.reader.specs.declared.taking.Reader.{Reader}
-use Rattle.reader.specs.declared.taking.Taken.{Taken}
-use Rattle.reader.specs.declared.taking.Taken.TheVariants as taken
+use Rattle.reader.specs.declared.taking.Step.{Step}
+use Rattle.reader.specs.declared.taking.Step.TheVariants as steps
 use Rattle.reader.specs.declared.tokens.Spelled.{Spelled}
 use Rattle.reader.specs.declared.reading.Progress.{Progress}
-use Rattle.reader.specs.declared.reading.Step.{Step}
-use Rattle.reader.specs.declared.reading.Step.TheVariants as steps
-use Rattle.reader.specs.declared.telling.Told.{Told}
-use Rattle.reader.specs.declared.telling.Told.TheVariants as tolds
 
 -- ---- a lexeme
 
@@ -79,9 +77,9 @@ is_end_found founds.Nothing = false
 is_end_found (founds.Lexeme p x) = is_end_lexeme x
 is_end_found (founds.Stray p) = false
 
-abbrev pub TakesFound : (text h : List ℕ) (f : Found) (c : Reader) (x : Lent) (r : Taken) (x' : Lent) → Type 0
+abbrev pub TakesFound : (text h : List ℕ) (f : Found) (c : Reader) (x : Lent) (r : Result (Step Reader) Fault) (x' : Lent) → Type 0
 TakesFound text h f c x r x' =
-    (fs : List Func) (parse : Parse) → Reads fs x parse (taken.Reading c) → (one : List Foundᴸ) → FoundAs text h f one
+    (fs : List Func) (parse : Parse) → Reads fs x parse (Ok (steps.Reading c)) → (one : List Foundᴸ) → FoundAs text h f one
     → Reads fs x' (foldl meaning.take_token parse one) r
 
 -- What comes next in a text: what a scan finds; at the end what the end ends, and the end.
@@ -157,20 +155,20 @@ pub record ClosedWith (fs : List Func) (g : Func) (c : Reader) (f n p : List ℕ
 
 -- From a parse and a lexer, with the functions fs closed, the bytes lent come to an answer, to one function more, to their end, or to the
 -- text's. Whatever comes after them, all bytes come to the same from here and from there.
-pub data Arrives (text : List ℕ) (ends : Bool) (fs : List Func) (parse : Parse) (l : Lexerᴸ) (c : Lexer) (f n p h : List ℕ) : Step → Type 0 where
-  refused : (k : ℕ) (q : TextPlace) → ((more : List ℕ) → Rest ends more → to_go parse l (drop c.next text ++ more) ≡ Parse.refused k q.byte)
-      → Arrives text ends fs parse l c f n p h (steps.Refused k q)
+pub data Arrives (text : List ℕ) (ends : Bool) (fs : List Func) (parse : Parse) (l : Lexerᴸ) (c : Lexer) (f n p h : List ℕ) : Result (Step Progress) Fault → Type 0 where
+  refused : (e : Fault) → ((more : List ℕ) → Rest ends more → to_go parse l (drop c.next text ++ more) ≡ Parse.refused (reason_number e.reason) e.at.byte)
+      → Arrives text ends fs parse l c f n p h (Err e)
   closed : (g : Func) (y : Progress) (l' : Lexerᴸ) → LexerAt text h l' y.lexer → left text y.lexer < left text c → ClosedWith fs g y.reader f n p
       → ((more : List ℕ) → Rest ends more
       → to_go parse l (drop c.next text ++ more) ≡ to_go (Parse.reading Stage.top (fresh (fs ++ (g ∷ [])))) l' (drop y.lexer.next text ++ more))
-      → Arrives text ends fs parse l c f n p h (steps.Closed y)
+      → Arrives text ends fs parse l c f n p h (Ok (steps.Closed y))
   reading : (parse' : Parse) (y : Progress) (l' : Lexerᴸ) → ends ≡ false → LexerAt text h l' y.lexer → length text ≤ y.lexer.next → Between fs parse' y.reader f n p
       → ((more : List ℕ) → to_go parse l (drop c.next text ++ more) ≡ to_go parse' l' (drop y.lexer.next text ++ more))
-      → Arrives text ends fs parse l c f n p h (steps.Reading y)
+      → Arrives text ends fs parse l c f n p h (Ok (steps.Reading y))
   ended : (y : Progress) → ends ≡ true → y.reader.draft.functions ≡ length fs → (length fs < max_functions → f ≡ zeros function_length) → to_go parse l (drop c.next text ++ []) ≡ Parse.reading Stage.top (fresh fs)
-      → Arrives text ends fs parse l c f n p h (steps.Ended y)
+      → Arrives text ends fs parse l c f n p h (Ok (steps.Ended y))
 
-abbrev pub Advances : (text : List ℕ) (ends : Bool) (x : Progress) (f n p h : List ℕ) (r : Step) (f' n' p' h' : List ℕ) → Type 0
+abbrev pub Advances : (text : List ℕ) (ends : Bool) (x : Progress) (f n p h : List ℕ) (r : Result (Step Progress) Fault) (f' n' p' h' : List ℕ) → Type 0
 Advances text ends x f n p h r f' n' p' h' =
     (fs : List Func) (parse : Parse) (l : Lexerᴸ) → LexerAt text h l x.lexer → Between fs parse x.reader f n p
     → Arrives text ends fs parse l x.lexer f' n' p' h' r
@@ -202,36 +200,29 @@ pub record TableReached (text : List ℕ) (x : Progress) (t n p h : List ℕ) : 
   pub in_table : InTable functions parse x.reader t n p
 
 -- The same through all functions: the bytes lent come to an answer, to their end, or to the text's, with the table of all functions.
-pub data Fed (text : List ℕ) (ends : Bool) (parse : Parse) (l : Lexerᴸ) (c : Lexer) (t n p h : List ℕ) : Step → Type 0 where
-  refused : (k : ℕ) (q : TextPlace) → ((more : List ℕ) → Rest ends more → to_go parse l (drop c.next text ++ more) ≡ Parse.refused k q.byte)
-      → Fed text ends parse l c t n p h (steps.Refused k q)
+pub data Fed (text : List ℕ) (ends : Bool) (parse : Parse) (l : Lexerᴸ) (c : Lexer) (t n p h : List ℕ) : Result (Step Progress) Fault → Type 0 where
+  refused : (e : Fault) → ((more : List ℕ) → Rest ends more → to_go parse l (drop c.next text ++ more) ≡ Parse.refused (reason_number e.reason) e.at.byte)
+      → Fed text ends parse l c t n p h (Err e)
   reading : (fs : List Func) (parse' : Parse) (y : Progress) (l' : Lexerᴸ) → ends ≡ false → LexerAt text h l' y.lexer → length text ≤ y.lexer.next
       → InTable fs parse' y.reader t n p
       → ((more : List ℕ) → to_go parse l (drop c.next text ++ more) ≡ to_go parse' l' (drop y.lexer.next text ++ more))
-      → Fed text ends parse l c t n p h (steps.Reading y)
+      → Fed text ends parse l c t n p h (Ok (steps.Reading y))
   ended : (fs : List Func) (y : Progress) → ends ≡ true → y.reader.draft.functions ≡ length fs → length fs ≤ max_functions → t ≡ table_with fs []
-      → to_go parse l (drop c.next text ++ []) ≡ Parse.reading Stage.top (fresh fs) → Fed text ends parse l c t n p h (steps.Ended y)
+      → to_go parse l (drop c.next text ++ []) ≡ Parse.reading Stage.top (fresh fs) → Fed text ends parse l c t n p h (Ok (steps.Ended y))
 
-abbrev pub Feeds : (text : List ℕ) (ends : Bool) (x : Progress) (t n p h : List ℕ) (r : Step) (t' n' p' h' : List ℕ) → Type 0
+abbrev pub Feeds : (text : List ℕ) (ends : Bool) (x : Progress) (t n p h : List ℕ) (r : Result (Step Progress) Fault) (t' n' p' h' : List ℕ) → Type 0
 Feeds text ends x t n p h r t' n' p' h' =
     (fs : List Func) (parse : Parse) (l : Lexerᴸ) → LexerAt text h l x.lexer → InTable fs parse x.reader t n p
     → Fed text ends parse l x.lexer t' n' p' h' r
 
 -- ---- a whole text
 
--- The answer of bytes that were refused.
-abbrev pub refusal_of : Step → Told
-refusal_of (steps.Refused k q) = tolds.Refused k q
-refusal_of (steps.Closed y) = tolds.Accepted
-refusal_of (steps.Reading y) = tolds.Accepted
-refusal_of (steps.Ended y) = tolds.Accepted
-
 -- The definition's answer, or the table of its program.
-pub data ToldOf (t : List ℕ) : Reading → Told → Type 0 where
-  refused : (k : ℕ) (q : TextPlace) → ToldOf t (Reading.refused k q.byte) (tolds.Refused k q)
-  program : (p : Program) → t ≡ cells p → ToldOf t (Reading.program p) tolds.Accepted
+pub data ToldOf (t : List ℕ) : Reading → Result Unit Fault → Type 0 where
+  refused : (e : Fault) → ToldOf t (Reading.refused (reason_number e.reason) e.at.byte) (Err e)
+  program : (p : Program) → t ≡ cells p → ToldOf t (Reading.program p) (Ok tt)
 
 -- The same without a table.
-pub data JudgedAs : Reading → Told → Type 0 where
-  refused : (k : ℕ) (q : TextPlace) → JudgedAs (Reading.refused k q.byte) (tolds.Refused k q)
-  program : (p : Program) → JudgedAs (Reading.program p) tolds.Accepted
+pub data JudgedAs : Reading → Result Unit Fault → Type 0 where
+  refused : (e : Fault) → JudgedAs (Reading.refused (reason_number e.reason) e.at.byte) (Err e)
+  program : (p : Program) → JudgedAs (Reading.program p) (Ok tt)

@@ -7,6 +7,7 @@ mod taking;
 mod telling;
 mod tokens;
 
-pub use reading::{Progress, Step, begin};
-pub use taking::Reader;
-pub use telling::{Told, close, feed, judge_text, read_text};
+pub use drafts::Fault;
+pub use reading::{Progress, begin};
+pub use taking::{Reader, Step};
+pub use telling::{feed, judge_text, read_text};

@@ -7,13 +7,13 @@ ghost use Rattle.drafts.specs.State.{Bounded, lent_of};
 ghost use Rattle.reader.specs.Parse.{ReaderReached, Suits};
 ghost use Rattle.reader.specs.Text.{FoundHere, TakesFound, Nexts, ProgressReached, CellsFor, Advances, progress_start, RegistersIndexed, is_end_found};
 
-use crate::taking::{Reader, Taken};
+use crate::taking::{Reader, Step};
 use crate::tokens::token_of;
-use drafts::Draft;
+use answers::Reason;
+use drafts::{Draft, Fault};
 use lexer::{Found, Lexed, Lexer, contents_of};
 use name_index::{HEADS, index};
 use table::{MAX_FUNCTIONS, MAX_REGISTERS, REGISTER_LENGTH, REGISTER_NAMES_OFFSET};
-use text_place::TextPlace;
 use vocabulary::classes;
 
 // Where reading stands between two bytes.
@@ -21,15 +21,6 @@ use vocabulary::classes;
 pub struct Progress {
     pub lexer: Lexer,
     pub reader: Reader,
-}
-
-// What bytes come to: an answer with its place, one function more closed, all bytes read, or the end of the text.
-#[derive(Clone, Copy)]
-pub enum Step {
-    Refused(u8, TextPlace),
-    Closed(Progress),
-    Reading(Progress),
-    Ended(Progress),
 }
 
 // Before the first byte.
@@ -54,21 +45,24 @@ impl Reader {
         last: &mut [u16],
         before: &mut [u16],
         found: Found,
-    ) -> Taken
+    ) -> Result<Step<Reader>, Fault>
         requires reader_reached { ReaderReached self (lent_of f.old names.old pend.old last.old before.old) }
         requires text_len_bound { (length text.now ≤ max_text) × (FoundHere text.now held.now found) }
         ensures takes_found { TakesFound text.now held.now found self (lent_of f.old names.old pend.old last.old before.old) result (lent_of f.new names.new pend.new last.new before.new) }
         ensures suits { Suits (is_end_found found) result }
     {
         match found {
-            Found::Nothing => Taken::Reading(self),
+            Found::Nothing => Ok(Step::Reading(self)),
             Found::Lexeme(p, x) => {
                 let y = token_of(x, text, held);
                 let token = y.token;
                 let name = contents_of(text, held, y.from, y.bytes);
                 self.take(f, names, pend, last, before, name, p, token)
             }
-            Found::Stray(p) => Taken::Refused(2, p),
+            Found::Stray(p) => Err(Fault {
+                reason: Reason::NoToken,
+                at: p,
+            }),
         }
     }
 }
@@ -121,7 +115,7 @@ pub fn advance(
     names: &mut [u8],
     pend: &mut [u8],
     held: &mut [u8],
-) -> Step
+) -> Result<Step<Progress>, Fault>
     requires text_len_bound { length text.now ≤ max_text }
     requires progress_reached { ProgressReached text.now x f.old names.old pend.old held.old }
     ensures { Advances text.now ends x f.old names.old pend.old held.old result f.new names.new pend.new held.new }
@@ -134,32 +128,29 @@ pub fn advance(
     index_registers(s.draft, f, &mut last, &mut before);
     loop {
         if pauses(l.next, text.len(), ends) {
-            return Step::Reading(Progress {
+            return Ok(Step::Reading(Progress {
                 lexer: l,
                 reader: s,
-            });
+            }));
         }
         let y = next(l, text, &table, held);
         let found = y.found;
         l = y.lexer;
-        match s.take_found(text, held, f, names, pend, &mut last, &mut before, found) {
-            Taken::Refused(n, p) => {
-                return Step::Refused(n, p);
-            }
-            Taken::Reading(q) => {
+        match s.take_found(text, held, f, names, pend, &mut last, &mut before, found)? {
+            Step::Reading(q) => {
                 s = q;
             }
-            Taken::Closed(q) => {
-                return Step::Closed(Progress {
+            Step::Closed(q) => {
+                return Ok(Step::Closed(Progress {
                     lexer: l,
                     reader: q,
-                });
+                }));
             }
-            Taken::Ended(q) => {
-                return Step::Ended(Progress {
+            Step::Ended(q) => {
+                return Ok(Step::Ended(Progress {
                     lexer: l,
                     reader: q,
-                });
+                }));
             }
         }
     }

@@ -4,7 +4,8 @@ ghost use Rattle.std.specs.Prelude.{true, ◌≡◌};
 ghost use Rattle.drafts.specs.State.{Lent, lent_of};
 ghost use Rattle.reader.specs.Parse.{reader_at, ReaderReached, Beside, EndTaken, Takes, Suits, is_end, Enabled, Performs};
 
-use drafts::{Draft, Outcome};
+use answers::Reason;
+use drafts::{Draft, Fault};
 use grammar::{Act, Stage, Token, is_top, next_move};
 use text_place::TextPlace;
 
@@ -15,13 +16,12 @@ pub struct Reader {
     pub draft: Draft,
 }
 
-// What a token comes to: an answer with its place, the state after it, the state between functions with one more closed, or the end.
+// What a token or bytes lead to: the state after them, the state between functions with one more closed, or the end of the text.
 #[derive(Clone, Copy)]
-pub enum Taken {
-    Refused(u8, TextPlace),
-    Reading(Reader),
-    Closed(Reader),
-    Ended(Reader),
+pub enum Step<T> {
+    Reading(T),
+    Closed(T),
+    Ended(T),
 }
 
 impl Reader {
@@ -39,15 +39,15 @@ impl Reader {
         }
     }
 
-    // The end of the text, at place p: it is allowed between functions alone.
-    fn end(self, p: TextPlace) -> Taken
-        ensures { ((x : Lent) → EndTaken p self x result) × (Suits true result) }
+    // The end of the text, at this place: it is allowed between functions alone.
+    fn end(self, at: TextPlace) -> Result<Step<Reader>, Fault>
+        ensures { ((x : Lent) → EndTaken at self x result) × (Suits true result) }
     {
-        let stage = self.stage;
-        if is_top(stage) {
-            return Taken::Ended(self);
+        if is_top(self.stage) {
+            return Ok(Step::Ended(self));
         }
-        Taken::Refused(3, p)
+        let reason = Reason::TokenNotAllowed;
+        Err(Fault { reason, at })
     }
 
     // The token at place p, with the bytes of a name.
@@ -61,7 +61,7 @@ impl Reader {
         name: &[u8],
         p: TextPlace,
         token: Token,
-    ) -> Taken
+    ) -> Result<Step<Reader>, Fault>
         requires reader_reached { ReaderReached self (lent_of f.old names.old pend.old last.old before.old) }
         requires beside { Beside token name.now p }
         ensures takes { Takes name.now p token self (lent_of f.old names.old pend.old last.old before.old) result (lent_of f.new names.new pend.new last.new before.new) }
@@ -70,22 +70,16 @@ impl Reader {
         if let Token::End = token {
             return self.end(p);
         }
-        let stage = self.stage;
-        let draft = self.draft;
-        let next = next_move(stage, token);
-        let after = next.stage;
-        let act = next.act;
-        match perform(draft, f, names, pend, last, before, name, p, act) {
-            Outcome::Refuse(n, q) => Taken::Refused(n, q),
-            Outcome::Proceed(d) => Taken::Reading(Reader {
-                stage: after,
-                draft: d,
-            }),
-            Outcome::Close(d) => Taken::Closed(Reader {
-                stage: after,
-                draft: d,
-            }),
+        let next = next_move(self.stage, token);
+        let draft = perform(self.draft, f, names, pend, last, before, name, p, next.act)?;
+        let after = Reader {
+            stage: next.stage,
+            draft,
+        };
+        if let Act::EndFunction = next.act {
+            return Ok(Step::Closed(after));
         }
+        Ok(Step::Reading(after))
     }
 }
 
@@ -100,32 +94,35 @@ fn perform(
     name: &[u8],
     p: TextPlace,
     act: Act,
-) -> Outcome
+) -> Result<Draft, Fault>
     requires { Enabled d (lent_of f.old names.old pend.old last.old before.old) name.now p act }
     ensures { Performs name.now p d (lent_of f.old names.old pend.old last.old before.old) result (lent_of f.new names.new pend.new last.new before.new) act }
 {
     match act {
-        Act::Wrong => Outcome::Refuse(3, p),
-        Act::Pass => Outcome::Proceed(d),
+        Act::Wrong => Err(Fault {
+            reason: Reason::TokenNotAllowed,
+            at: p,
+        }),
+        Act::Pass => Ok(d),
         Act::BeginFunction => d.begin_function(p),
-        Act::MarkSsa => d.mark_ssa(),
+        Act::MarkSsa => Ok(d.mark_ssa()),
         Act::BeginRegister => d.begin_register(p),
         Act::BeginBlock => d.begin_block(p),
-        Act::SetResult(kind) => d.set_result(kind),
+        Act::SetResult(kind) => Ok(d.set_result(kind)),
         Act::NameFunction => d.name_function(f, names, name, p),
         Act::NameBlock => d.name_block(f, name, p),
         Act::NameRegister(parameter, kind) => {
             d.name_register(f, last, before, usize::from(parameter), kind, name, p)
         }
         Act::BeginInstruction(op) => d.begin_instruction(op, p),
-        Act::SetInstruction(op) => d.set_instruction(op),
+        Act::SetInstruction(op) => Ok(d.set_instruction(op)),
         Act::SetTarget => d.set_target(f, last, before, name, p),
         Act::AddSource => d.add_source(f, last, before, name, p),
         Act::AddEntry => d.add_entry(f, last, before, name, p),
-        Act::AddMention => d.add_mention(pend, name, p),
+        Act::AddMention => Ok(d.add_mention(pend, name, p)),
         Act::SetNumber(negative, value, over) => d.set_number(negative, value, over, p),
-        Act::EndInstruction => d.end_instruction(f),
-        Act::EndBlock => d.end_block(f),
+        Act::EndInstruction => Ok(d.end_instruction(f)),
+        Act::EndBlock => Ok(d.end_block(f)),
         Act::EndFunction => d.end_function(f, pend, p),
     }
 }

@@ -2,8 +2,8 @@
 use Rattle.ial.proofs.ReadLaws.{aside}
 use Rattle.ial.proofs.read_aside.Goals as goal
 
-pub returns-in-Refused : goal.returns-in-Refused
-returns-in-Refused c = aside c.judge_text.ensures c.in-Refused.is
+pub returns-in-Ok : goal.returns-in-Ok
+returns-in-Ok c = aside c.judge_text.ensures c.in-Ok.is
 
-pub returns-in-Accepted : goal.returns-in-Accepted
-returns-in-Accepted c = aside c.judge_text.ensures c.in-Accepted.is
+pub returns-in-Err : goal.returns-in-Err
+returns-in-Err c = rw c.from.ensures (aside c.judge_text.ensures c.in-Err.is)

@@ -1,6 +1,8 @@
 use mathlib.Core.Path.{refl, sym, ◌∙◌}
 use Rattle.name_index.proofs.ChainLaws.{indexed_none}
+use Rattle.std.proofs.lemmas.Result.{err_from_is_err_and}
 use Rattle.reader.proofs.Boundaries.{onward_start, may_end, has_paused, paused, taking, loop_refused, loop_reading, loop_closed, loop_ended}
+use Rattle.reader.proofs.Outcomes.{ok_is}
 use Rattle.reader.proofs.reading.advance.Goals as goal
 
 pub index_registers-requires : goal.index_registers-requires
@@ -50,28 +52,16 @@ take_found-requires c =
     let t = taking (c.loop-last.invariant.0 c.requires.progress_reached.functions c.requires.progress_reached.parse c.requires.progress_reached.lexer c.requires.progress_reached.at c.requires.progress_reached.between) c.next-y.ensures (may_end _ _ _ c.pauses.ensures c.if-pauses.false) in
     record { reader_reached = t.0; text_len_bound = (c.requires.text_len_bound, t.1) }
 
-pub shape_of-f-in-Refused : goal.shape_of-f-in-Refused
-shape_of-f-in-Refused c = c.take_found.auto.f ∙ c.loop-last.invariant.1
-
-pub shape_of-names-in-Refused : goal.shape_of-names-in-Refused
-shape_of-names-in-Refused c = c.take_found.auto.names ∙ c.loop-last.invariant.2
-
-pub shape_of-pend-in-Refused : goal.shape_of-pend-in-Refused
-shape_of-pend-in-Refused c = c.take_found.auto.pend ∙ c.loop-last.invariant.3
-
-pub shape_of-held-in-Refused : goal.shape_of-held-in-Refused
-shape_of-held-in-Refused c = c.next-y.auto.held ∙ c.loop-last.invariant.6
-
-pub returns-in-Refused : goal.returns-in-Refused
-returns-in-Refused c = λ fs parse lx at b. loop_refused (c.loop-last.invariant.0 fs parse lx at b) c.next-y.ensures (may_end _ _ _ c.pauses.ensures c.if-pauses.false) c.take_found.ensures.takes_found c.in-Refused.is _ _ _ _
+pub returns-in_err-q : goal.returns-in_err-q
+returns-in_err-q c = let p = err_from_is_err_and c.from_residual.result c.from_residual.ensures.1 in rw (p.1, p.2) (λ fs parse lx at b. loop_refused (c.loop-last.invariant.0 fs parse lx at b) c.next-y.ensures (may_end _ _ _ c.pauses.ensures c.if-pauses.false) c.take_found.ensures.takes_found c.in_err-q.was _ _ _ _)
 
 pub loop-last-smaller : goal.loop-last-smaller
 loop-last-smaller c =
-    (loop_reading (c.loop-last.invariant.0 c.requires.progress_reached.functions c.requires.progress_reached.parse c.requires.progress_reached.lexer c.requires.progress_reached.at c.requires.progress_reached.between) c.next-y.ensures (may_end _ _ _ c.pauses.ensures c.if-pauses.false) c.take_found.ensures.takes_found c.take_found.ensures.suits c.in-Reading.is).1
+    (loop_reading (c.loop-last.invariant.0 c.requires.progress_reached.functions c.requires.progress_reached.parse c.requires.progress_reached.lexer c.requires.progress_reached.at c.requires.progress_reached.between) c.next-y.ensures (may_end _ _ _ c.pauses.ensures c.if-pauses.false) c.take_found.ensures.takes_found c.take_found.ensures.suits (ok_is c.in_ok-q.was c.in-Reading.is)).1
 
 pub loop-last-preserved : goal.loop-last-preserved
 loop-last-preserved c = (
-  (λ fs parse lx at b. (loop_reading (c.loop-last.invariant.0 fs parse lx at b) c.next-y.ensures (may_end _ _ _ c.pauses.ensures c.if-pauses.false) c.take_found.ensures.takes_found c.take_found.ensures.suits c.in-Reading.is).0),
+  (λ fs parse lx at b. (loop_reading (c.loop-last.invariant.0 fs parse lx at b) c.next-y.ensures (may_end _ _ _ c.pauses.ensures c.if-pauses.false) c.take_found.ensures.takes_found c.take_found.ensures.suits (ok_is c.in_ok-q.was c.in-Reading.is)).0),
   c.take_found.auto.f ∙ c.loop-last.invariant.1,
   c.take_found.auto.names ∙ c.loop-last.invariant.2,
   c.take_found.auto.pend ∙ c.loop-last.invariant.3,
@@ -93,7 +83,7 @@ pub shape_of-held-in-Closed : goal.shape_of-held-in-Closed
 shape_of-held-in-Closed c = c.next-y.auto.held ∙ c.loop-last.invariant.6
 
 pub returns-in-Closed : goal.returns-in-Closed
-returns-in-Closed c = λ fs parse lx at b. loop_closed (c.loop-last.invariant.0 fs parse lx at b) c.next-y.ensures (may_end _ _ _ c.pauses.ensures c.if-pauses.false) c.take_found.ensures.takes_found c.take_found.ensures.suits c.in-Closed.is
+returns-in-Closed c = λ fs parse lx at b. loop_closed (c.loop-last.invariant.0 fs parse lx at b) c.next-y.ensures (may_end _ _ _ c.pauses.ensures c.if-pauses.false) c.take_found.ensures.takes_found c.take_found.ensures.suits (ok_is c.in_ok-q.was c.in-Closed.is)
 
 pub shape_of-f-in-Ended : goal.shape_of-f-in-Ended
 shape_of-f-in-Ended c = c.take_found.auto.f ∙ c.loop-last.invariant.1
@@ -108,4 +98,4 @@ pub shape_of-held-in-Ended : goal.shape_of-held-in-Ended
 shape_of-held-in-Ended c = c.next-y.auto.held ∙ c.loop-last.invariant.6
 
 pub returns-in-Ended : goal.returns-in-Ended
-returns-in-Ended c = λ fs parse lx at b. loop_ended (c.loop-last.invariant.0 fs parse lx at b) c.next-y.ensures (may_end _ _ _ c.pauses.ensures c.if-pauses.false) c.take_found.ensures.takes_found c.take_found.ensures.suits c.in-Ended.is
+returns-in-Ended c = λ fs parse lx at b. loop_ended (c.loop-last.invariant.0 fs parse lx at b) c.next-y.ensures (may_end _ _ _ c.pauses.ensures c.if-pauses.false) c.take_found.ensures.takes_found c.take_found.ensures.suits (ok_is c.in_ok-q.was c.in-Ended.is)

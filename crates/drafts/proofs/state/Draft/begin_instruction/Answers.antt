@@ -7,4 +7,4 @@ returns-then-self-ge-MAX_ROWS c = begin_refused c.requires _ _ c.if-self-ge-MAX_
 
 pub returns : goal.returns
 returns c x =
-    rw c.new-self.ensures (begin_proceeds c.requires _ _ c.ranges.op.fits c.if-self-ge-MAX_ROWS.false x)
+    rw (c.new-self.ensures, c.from.ensures) (begin_proceeds c.requires _ _ c.ranges.op.fits c.if-self-ge-MAX_ROWS.false x)

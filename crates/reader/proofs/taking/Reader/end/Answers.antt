@@ -6,9 +6,9 @@ use Rattle.reader.proofs.taking.Reader.end.Goals as goal
 pub returns-then-is_top : goal.returns-then-is_top
 returns-then-is_top c =
     let a = c.args in
-    (λ x. end_taken a.p a.self x (sym c.is_top.ensures ∙ c.if-is_top.true), refl)
+    (λ x. end_taken a.«at» a.self x (sym c.is_top.ensures ∙ c.if-is_top.true), refl)
 
 pub returns : goal.returns
 returns c =
     let a = c.args in
-    (λ x. end_refused a.p a.self x (sym c.is_top.ensures ∙ c.if-is_top.false), tt)
+    (λ x. end_refused a.«at» a.self x (sym c.is_top.ensures ∙ c.if-is_top.false), tt)
