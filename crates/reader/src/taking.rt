@@ -30,11 +30,7 @@ impl Reader {
         ensures { result ≡ reader_at 0 }
     {
         Self {
-            stage: Stage {
-                kind: 0,
-                more: 0,
-                detail: 0,
-            },
+            stage: Stage::Top,
             draft: Draft::fresh(0),
         }
     }

@@ -6,8 +6,8 @@ use Rattle.grammar.proofs.names_block.Goals as goal
 pub returns-in-Name : goal.returns-in-Name
 returns-in-Name c = search (taken, rules)
 
-pub returns-in_default-token : goal.returns-in_default-token
-returns-in_default-token c = search (taken, rules)
+pub returns-in-Word : goal.returns-in-Word
+returns-in-Word c = search (taken, rules)
 
-pub returns : goal.returns
-returns c = search (taken, rules)
+pub returns-in_default : goal.returns-in_default
+returns-in_default c = search (taken, rules)
