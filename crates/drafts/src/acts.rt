@@ -55,7 +55,13 @@ impl Draft {
     }
 
     // The function's name: 6 if a function has it.
-    pub fn name_function(self, f: &mut [u8], names: &mut [u8], name: &[u8], p: TextPlace) -> Result<Draft, Fault>
+    pub fn name_function(
+        self,
+        f: &mut [u8],
+        names: &mut [u8],
+        name: &[u8],
+        p: TextPlace,
+    ) -> Result<Draft, Fault>
         requires bounded { Bounded self }
         requires functions_lt_max_functions { (self.functions < max_functions) × (length f.old ≡ function_length) × (length names.old ≡ names_length) × (length name.now ≤ max_name) }
         ensures { (m l b : List ℕ) → Acts Unnamed (name_function name.now p.byte) self (lent_of f.old names.old m l b) result (lent_of f.new names.new m l b) }

@@ -1,6 +1,6 @@
 // A function's closing brace: 8 without an entry block, 7 at the first mention of a block that is not there, else every jump gets its blocks'
 // numbers, every block the list of its predecessors, and the function is closed.
-ghost use Rattle.std.specs.Prelude.{◌≡◌, List, ℕ, ◌<◌, ◌≤◌, length};
+ghost use Rattle.std.specs.Prelude.{◌≡◌, List, ℕ, ◌<◌, ◌≤◌, length, unwrap_or, IfSome};
 ghost use Rattle.std.proofs.lemmas.List.Edits.{sets};
 ghost use Rattle.language.specs.Programs.{max_rows, max_blocks, max_functions};
 ghost use Rattle.language.specs.Table.{function_length};
@@ -23,14 +23,14 @@ use text_place::TextPlace;
 // A block's number for each number that a cell can hold.
 const FOUND: usize = 256;
 
-// How many of the names are resolved, each block's number put down in `found`: all, or those before the first that no block answers.
-fn resolve(f: &[u8], blocks: usize, pend: &[u8], names: usize, found: &mut [u8]) -> usize
+// Each name's block in `found`, or the first name that no block answers, with those before it there.
+fn resolve(f: &[u8], blocks: usize, pend: &[u8], names: usize, found: &mut [u8]) -> Option<usize>
     requires f_len { (length f.now ≡ function_length) × (blocks ≤ max_blocks) × (names ≤ max_names) }
     requires pend_len { (length pend.now ≡ pending_length) × (length found.old ≡ 256) }
-    ensures { Resolved f.now blocks pend.now names result found.new }
+    ensures resolved { Resolved f.now blocks pend.now names (unwrap_or result names) found.new }
+    ensures among { IfSome result (λ k. k < names) }
 {
-    let mut k = 0;
-    while k < names {
+    for k in 0..names {
         let b = find_name(
             f,
             BLOCK_NAMES_OFFSET,
@@ -39,12 +39,11 @@ fn resolve(f: &[u8], blocks: usize, pend: &[u8], names: usize, found: &mut [u8])
             name_at(pend, MENTION_LENGTH * k),
         );
         if blocks <= b {
-            return k;
+            return Some(k);
         }
         found[k] = b as u8;
-        k += 1;
     }
-    k
+    None
 }
 
 // A jump or branch gets its blocks' numbers in place of those of the names.
@@ -69,10 +68,8 @@ fn patch(f: &mut [u8], rows: usize, found: &[u8])
     requires { (length f.old ≡ function_length) × (rows ≤ max_rows) × (length found.now ≡ 256) }
     ensures { f.new ≡ patch_rows f.old found.now rows }
 {
-    let mut r = 0;
-    while r < rows {
+    for r in 0..rows {
         patch_row(f, r, found);
-        r += 1;
     }
 }
 
@@ -108,9 +105,8 @@ impl Draft {
             });
         }
         let names = self.blocks.names;
-        let resolved = resolve(f, n, pend, names, &mut found);
-        if resolved < names {
-            let byte = four_at(pend, MENTION_LENGTH * resolved + MENTION_PLACE);
+        if let Some(k) = resolve(f, n, pend, names, &mut found) {
+            let byte = four_at(pend, MENTION_LENGTH * k + MENTION_PLACE);
             let at = TextPlace { byte };
             return Err(Fault {
                 reason: Reason::NotDeclared,

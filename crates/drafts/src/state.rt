@@ -20,6 +20,7 @@ pub const NAMES_LENGTH: usize = MAX_FUNCTIONS * NAME_LENGTH + 256;
 pub const PENDING_LENGTH: usize = MAX_NAMES * MENTION_LENGTH + 256;
 
 // Of the function in hand what stands before its blocks: its mark, its return type, how many parameters and registers.
+// Kept, speed: fields of eight bytes here and in `Parts`, and counts beside their values; narrower ones are copied apart (docs/BENCHMARKS.md, "Copies that stall").
 #[derive(Clone, Copy)]
 pub struct Head {
     pub ssa: u64,

@@ -12,12 +12,6 @@ loop-r-init c = (omega arith, refl, refl)
 pub patch_row-requires : goal.patch_row-requires
 patch_row-requires c = (omega arith, omega arith, omega arith)
 
-pub overflow_add-r : goal.overflow_add-r
-overflow_add-r c = omega arith
-
-pub loop-r-smaller : goal.loop-r-smaller
-loop-r-smaller c = omega arith
-
 pub loop-r-preserved : goal.loop-r-preserved
 unfolding patch_rows
 loop-r-preserved c = (

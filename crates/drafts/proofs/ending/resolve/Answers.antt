@@ -1,6 +1,7 @@
-use mathlib.Core.Path.{refl}
+use mathlib.Core.Path.{◌≡◌, refl}
 use native.Mathlib.Omega.{arith}
 use borrow.Author.Count.{below_none}
+use borrow.Author.Rules.{rules}
 use lib.ListN.{length-set}
 use Rattle.drafts.specs.Ending.{block_named}
 use Rattle.drafts.proofs.EndingLaws.{named_by, found_more}
@@ -25,19 +26,13 @@ pub returns-then-blocks-b : goal.returns-then-blocks-b
 returns-then-blocks-b c =
     let named = named_by c.args.f.now c.args.blocks c.args.pend.now c.loop-k.k c.name_at.ensures c.find_name-b.ensures.0 in
     let inv = c.loop-k.invariant in
-    record { most = inv.0; named = inv.2; missing = λ h. omega (arith, named) }
+    record { resolved = record { most = inv.0; named = inv.2; missing = λ h. omega (arith, named) }; among = omega arith }
 
 pub overflow_cast-found : goal.overflow_cast-found
 overflow_cast-found c = omega arith
 
 pub bounds-found-k : goal.bounds-found-k
 bounds-found-k c = omega arith
-
-pub overflow_add-k : goal.overflow_add-k
-overflow_add-k c = omega arith
-
-pub loop-k-smaller : goal.loop-k-smaller
-loop-k-smaller c = omega arith
 
 pub loop-k-preserved : goal.loop-k-preserved
 loop-k-preserved c =
@@ -55,4 +50,5 @@ shape_of-found c = omega arith
 pub returns : goal.returns
 returns c =
     let inv = c.loop-k.invariant in
-    record { most = inv.0; named = inv.2; missing = λ h. absurd (omega arith) }
+    let all : c.loop-k.k ≡ c.args.names = omega arith in
+    record { resolved = rw (← all) (record { most = omega arith; named = inv.2; missing = λ h. absurd (omega arith) }); among = search rules }

@@ -1,5 +1,5 @@
 -- The loop's invariant: the blocks of the first k names are there, and stand in `found`.
-use Prim.Native.Nat.{ℕ, ◌≤◌, ◌<◌, ◌-◌}
+use Prim.Native.Nat.{ℕ, ◌≤◌, ◌<◌}
 use mathlib.Core.Path.{◌≡◌}
 use lib.ListN.{length, get_or}
 use Rattle.drafts.specs.Ending.{block_named}
@@ -9,6 +9,3 @@ abbrev pub invariant-loop-k : goal.invariant-loop-k
 invariant-loop-k l =
     (l.k ≤ l.names) × (length l.found ≡ length l.initial.found)
     × ((j : ℕ) → j < l.k → (get_or l.found j 0 ≡ block_named l.f l.blocks l.pend j) × (block_named l.f l.blocks l.pend j < l.blocks))
-
-abbrev pub decreases-loop-k : goal.decreases-loop-k
-decreases-loop-k l = l.names - l.k

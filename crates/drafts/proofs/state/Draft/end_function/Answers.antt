@@ -11,11 +11,11 @@ returns-then-n-entry c n l b =
     let args = c.args in
     ends_without_entry args.self args.f.now args.pend.now args.p c.find_name-entry.ensures.0 n l b c.if-n-entry.true
 
-pub returns-then-resolved-names : goal.returns-then-resolved-names
-returns-then-resolved-names c n l b =
+pub returns-in-Some : goal.returns-in-Some
+returns-in-Some c n l b =
     let args = c.args in
-    ends_undeclared args.self args.f.now args.pend.now args.p c.find_name-entry.ensures.0 n l b c.if-n-entry.false c.resolve-resolved.ensures
-    (record { byte = c.four_at-byte.result }) c.if-resolved-names.true c.four_at-byte.ensures.0
+    ends_undeclared args.self args.f.now args.pend.now args.p c.find_name-entry.ensures.0 n l b c.if-n-entry.false c.in-Some.ensures.resolved
+    (record { byte = c.four_at-byte.result }) c.in-Some.ensures.among c.four_at-byte.ensures.0
 
 pub put_head-requires : goal.put_head-requires
 put_head-requires c =
@@ -35,6 +35,6 @@ overflow_add-self c =
 pub returns : goal.returns
 returns c n l b =
     let args = c.args in
-    ends_closed args.self args.f.now args.pend.now args.p c.find_name-entry.ensures.0 n l b c.if-n-entry.false c.resolve-resolved.ensures
-    c.requires.functions_lt_max_functions.0 c.fresh.ensures c.if-resolved-names.false c.patch.ensures c.put_head.ensures c.put_predecessors.ensures
+    ends_closed args.self args.f.now args.pend.now args.p c.find_name-entry.ensures.0 n l b c.if-n-entry.false c.in_default.ensures.resolved
+    c.requires.functions_lt_max_functions.0 c.fresh.ensures (omega arith) c.patch.ensures c.put_head.ensures c.put_predecessors.ensures
     (c.put_predecessors.auto.t ∙ c.put_head.auto.f ∙ c.patch.auto.f)
