@@ -20,9 +20,7 @@ use Rattle.drafts.specs.State.{fault_at, Bounded, Lent, Stands, Acts, ActsOn, Ac
 use Rattle.drafts.specs.declared.state.Draft.{Draft}
 use Rattle.drafts.specs.declared.state.Head.{Head}
 use Rattle.std.specs.Prelude.{Ok, Err}
-use Rattle.answers.specs.declared.reasons.Reason.{Reason}
 use Rattle.answers.specs.declared.reasons.Reason.TheVariants as reasons
-use Rattle.answers.specs.Reasons.{reason_number}
 use Rattle.text_place.specs.declared.TextPlace.{TextPlace}
 use Rattle.drafts.proofs.HeadLaws as head
 use Rattle.drafts.proofs.HeadLaws.{marked, returning, named, registered, headed_at, counts_headed, keeps_names, names_function, names_register}

@@ -13,12 +13,9 @@ use Rattle.laws.specs.Lists.{gather}
 use Rattle.laws.proofs.Every.{Every, every_right}
 use Rattle.language.specs.Reading.{Draft as Draftᴸ, Mention, open_rows, mentions_in, add_mention}
 use Rattle.drafts.specs.Mentions.{max_names, name_number, keep_mention, kept}
-use Rattle.drafts.specs.State.{fault_at, Bounded, Acts, Always, NameKept, Stands, lent_of, with_name_at}
+use Rattle.drafts.specs.State.{Bounded, Acts, Always, NameKept, Stands, lent_of, with_name_at}
 use Rattle.drafts.specs.declared.state.Draft.{Draft}
-use Rattle.std.specs.Prelude.{Ok, Err}
-use Rattle.answers.specs.declared.reasons.Reason.{Reason}
-use Rattle.answers.specs.declared.reasons.Reason.TheVariants as reasons
-use Rattle.answers.specs.Reasons.{reason_number}
+use Rattle.std.specs.Prelude.{Ok}
 use Rattle.text_place.specs.declared.TextPlace.{TextPlace}
 use Rattle.drafts.proofs.FirstTwo.{Pushed}
 use Rattle.drafts.proofs.InHand.{held, bounded, numbers_of, sources_in, mentions_in_law, counted}

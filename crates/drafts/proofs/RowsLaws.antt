@@ -22,9 +22,7 @@ use Rattle.drafts.specs.Cells.{operand_cell, instruction_cells}
 use Rattle.drafts.specs.State.{fault_at, Bounded, Counts, Stands, Lent, lent_of, ActsOn, ActsAlone, Always, NoParts, WholeRow, KeptAs, operand_at, row_at}
 use Rattle.drafts.specs.declared.state.Draft.{Draft}
 use Rattle.std.specs.Prelude.{Ok, Err}
-use Rattle.answers.specs.declared.reasons.Reason.{Reason}
 use Rattle.answers.specs.declared.reasons.Reason.TheVariants as reasons
-use Rattle.answers.specs.Reasons.{reason_number}
 use Rattle.text_place.specs.declared.TextPlace.{TextPlace}
 use Rattle.drafts.proofs.FirstTwo.{Firsts, Pushed, no_firsts}
 use Rattle.drafts.proofs.InHand.{held, bounded, sources_in, mentions_in_law, counted, same_names}

@@ -24,7 +24,6 @@ use Rattle.drafts.specs.State.{fault_at, Bounded, Counts, Lent, lent_of, NamesHe
 use Rattle.drafts.specs.declared.state.Draft.{Draft}
 use Rattle.std.specs.Prelude.{Ok, Err}
 use Rattle.answers.specs.declared.reasons.Reason.{Reason}
-use Rattle.answers.specs.declared.reasons.Reason.TheVariants as reasons
 use Rattle.answers.specs.Reasons.{reason_number}
 use Rattle.text_place.specs.declared.TextPlace.{TextPlace}
 use Rattle.drafts.proofs.CellNames.{register_name_back, block_name_back}

@@ -21,8 +21,6 @@ use Rattle.name_index.specs.Hashes.{heads}
 use Rattle.drafts.specs.State.{Lent, lent_of}
 use Rattle.drafts.proofs.StateLaws.{names_back}
 use Rattle.std.specs.Prelude.{Result, Ok, Err}
-use Rattle.answers.specs.declared.reasons.Reason.TheVariants as reasons
-use Rattle.answers.specs.Reasons.{reason_number}
 use Rattle.drafts.specs.declared.state.Fault.{Fault}
 use Rattle.reader.specs.Parse.{Reads, ReaderReached, Suits}
 use Rattle.reader.specs.Text.{FoundAs, FoundHere, TakesFound, Nexts, LexerAt, Between, RegistersIndexed, Arrives, is_end_found}
@@ -30,7 +28,6 @@ use Rattle.reader.proofs.Onward.{Onward, Nexted, next_gives, step_refused, step_
 use Rattle.reader.specs.declared.taking.Step.{Step}
 use Rattle.reader.specs.declared.taking.Step.TheVariants as steps
 use Rattle.reader.specs.declared.taking.Reader.{Reader}
-use Rattle.text_place.specs.declared.TextPlace.{TextPlace}
 
 module _ {fs : List Func} {parse : Parse} {c : Reader} {f n p : List ℕ} where
   -- in, with chains of the registers

@@ -8,9 +8,7 @@ use Rattle.grammar.specs.declared.Token.{Token}
 use Rattle.grammar.specs.declared.Token.TheVariants as tokens
 use Rattle.drafts.specs.State.{Lent}
 use Rattle.text_place.specs.declared.TextPlace.{TextPlace}
-use Rattle.std.specs.Prelude.{Result, Ok, Err}
-use Rattle.answers.specs.declared.reasons.Reason.TheVariants as reasons
-use Rattle.answers.specs.Reasons.{reason_number}
+use Rattle.std.specs.Prelude.{Result}
 use Rattle.drafts.specs.declared.state.Fault.{Fault}
 use Rattle.reader.specs.Parse.{Means, Takes, EndTaken, is_end}
 use Rattle.reader.specs.declared.taking.Reader.{Reader}

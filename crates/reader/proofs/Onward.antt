@@ -25,14 +25,12 @@ use Rattle.lexer.specs.declared.Found.TheVariants as founds
 use Rattle.lexer.specs.declared.Lexed.{Lexed}
 use Rattle.drafts.specs.State.{Lent}
 use Rattle.text_place.specs.declared.TextPlace.{TextPlace}
-use Rattle.std.specs.Prelude.{Result, Ok, Err}
-use Rattle.answers.specs.declared.reasons.Reason.TheVariants as reasons
+use Rattle.std.specs.Prelude.{Ok, Err}
 use Rattle.answers.specs.Reasons.{reason_number}
 use Rattle.drafts.specs.declared.state.Fault.{Fault}
 use Rattle.reader.specs.Parse.{Reads, ClosesWith, Suits}
 use Rattle.reader.specs.Text.{FoundAs, TakesFound, Nexts, LexerAt, Rest, to_go, ClosedWith, Arrives, is_end_found, is_end_lexeme}
 use Rattle.reader.specs.declared.taking.Reader.{Reader}
-use Rattle.reader.specs.declared.taking.Step.{Step}
 use Rattle.reader.specs.declared.taking.Step.TheVariants as steps
 
 -- ---- what is found next

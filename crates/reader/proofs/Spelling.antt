@@ -23,7 +23,6 @@ use Rattle.lexer.specs.declared.Found.TheVariants as founds
 use Rattle.text_place.specs.declared.TextPlace.{TextPlace}
 use Rattle.std.specs.Prelude.{Result, Ok, Err}
 use Rattle.answers.specs.declared.reasons.Reason.TheVariants as reasons
-use Rattle.answers.specs.Reasons.{reason_number}
 use Rattle.drafts.specs.declared.state.Fault.{Fault}
 use Rattle.reader.specs.declared.tokens.Spelled.{Spelled}
 use Rattle.reader.specs.declared.taking.Reader.{Reader}

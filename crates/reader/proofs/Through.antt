@@ -21,8 +21,6 @@ use Rattle.lexer.proofs.Stepping.{stands_first}
 use Rattle.lexer.specs.declared.Lexer.{Lexer}
 use Rattle.drafts.specs.State.{names_length, pending_length}
 use Rattle.std.specs.Prelude.{Result, Ok, Err}
-use Rattle.answers.specs.declared.reasons.Reason.TheVariants as reasons
-use Rattle.answers.specs.Reasons.{reason_number}
 use Rattle.drafts.specs.declared.state.Fault.{Fault}
 use Rattle.reader.specs.Parse.{reader_at}
 use Rattle.reader.specs.Text.{LexerAt, Between, ProgressReached, Rest, to_go, ClosedWith, Arrives, Advances, end_of, table_with, InTable, TableReached, Fed, Feeds, ToldOf, JudgedAs, progress_start}
