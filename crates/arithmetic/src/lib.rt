@@ -43,6 +43,7 @@ pub fn binary(op: u8, s: u64, sign: bool, a: u64, b: u64) -> Result<u64, Stop>
     requires { Sources op s a b }
     ensures { (t : ℕ) → s ≡ 64 - width_of t → sign ≡ sign_for op t → result_of result ≡ binary_of op t a b }
 {
+    // Kept, plainer: an arm an instruction; closures, one for each, would be chosen by the same match.
     match op {
         ops::ARI_ADD => Ok(add(s, a, b)),
         ops::ARI_SUB => Ok(sub(s, a, b)),
@@ -71,6 +72,7 @@ pub fn unary(op: u8, s: u64, r: u64, sign: bool, x: u64) -> u64
     requires { Source s r x }
     ensures { (t u : ℕ) → s ≡ 64 - width_of t → r ≡ 64 - width_of u → sign ≡ sign_for op t → result ≡ unary_of op t u x }
 {
+    // Kept, plainer: as in `binary`.
     match op {
         ops::ARI_NEG => neg(s, x),
         ops::BIT_NEG => flip(s, x),

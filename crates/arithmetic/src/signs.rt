@@ -62,6 +62,7 @@ pub fn div(s: u64, sign: bool, a: u64, b: u64) -> Result<u64, Stop>
 }
 
 // "the remainder has the dividend's sign"
+// Kept, plainer: it shares with `div` two tests of a line each; a function for both would take the two operations and, for the first alone, the stop.
 pub fn rem(s: u64, sign: bool, a: u64, b: u64) -> Result<u64, Stop>
     requires { (s < 64) × (a < 2 ^ (64 - s)) × (b < 2 ^ (64 - s)) }
     ensures { (t : ℕ) → StandFor s sign t → result_of result ≡ rem_of t a b }

@@ -6,6 +6,7 @@ ghost use Rattle.machine.specs.Phis.{Readable, Taken, phis_written};
 use table::{MAX_REGISTERS, phi_count, phi_entry, phi_first, row_target};
 
 // The places of a run's scratch: so few that clearing them costs a short run little, and more than the phi of nearly every block.
+// Kept, rule: `run_from` and `run_on` take scratch of any length above 0 (docs/PROMISES.md), so it is lent as a slice, with a clause, and not as an array of so many.
 pub const STAGED: usize = 128;
 
 // What entry k of each phi holds, in row order. Every phi of a block has as many entries as the block has predecessors, so those of the next one
