@@ -4,16 +4,20 @@ ghost use Rattle.laws.specs.Lists.{all, below};
 ghost use Rattle.language.specs.Programs.{max_blocks, max_rows};
 ghost use Rattle.language.specs.Table.{block_count, block_first, block_rows, predecessor_count, predecessors_kept, InTable};
 ghost use Rattle.predecessors.specs.Comparing.{next_agrees, next_seen};
+ghost use Rattle.predecessors.specs.Ends.{number_of};
 
 use crate::ends::ends;
 use table::{MAX_BLOCKS, predecessor, predecessor_count};
 
-// Block x goes to block y, one of n, and is the next of the predecessors that y keeps. Those seen so far are counted; whether y keeps as many
+// Block x goes to block y, if that is one of n, and is the next of the predecessors that y keeps. Those seen so far are counted; whether y keeps as many
 // is asked at the end.
-fn agrees(t: &[u8], a: usize, n: usize, seen: &mut [u8], y: usize, x: usize) -> bool
-    requires { (InTable t.now a) × (n ≤ max_blocks) × (length seen.old ≡ max_blocks) × (y < n → get_or seen.old y 0 < max_blocks) }
-    ensures { (result ≡ next_agrees t.now a n seen.old y x) × (seen.new ≡ next_seen n seen.old y) }
+fn agrees(t: &[u8], a: usize, n: usize, seen: &mut [u8], y: Option<usize>, x: usize) -> bool
+    requires { (InTable t.now a) × (n ≤ max_blocks) × (length seen.old ≡ max_blocks) × (number_of y < n → get_or seen.old (number_of y) 0 < max_blocks) }
+    ensures { (result ≡ next_agrees t.now a n seen.old (number_of y) x) × (seen.new ≡ next_seen n seen.old (number_of y)) }
 {
+    let Some(y) = y else {
+        return true;
+    };
     if n <= y {
         return true;
     }
@@ -27,12 +31,10 @@ fn counted(t: &[u8], a: usize, n: usize, seen: &[u8]) -> bool
     requires { (InTable t.now a) × (n ≤ max_blocks) × (length seen.now ≡ max_blocks) }
     ensures { result ≡ all (λ b. eqb (predecessor_count t.now a b) (get_or seen.now b 0)) (below n) }
 {
-    let mut b = 0;
-    while b < n {
+    for b in 0..n {
         if predecessor_count(t, a, b) != usize::from(seen[b]) {
             return false;
         }
-        b += 1;
     }
     true
 }
@@ -44,8 +46,7 @@ pub fn predecessors_kept(t: &[u8], a: usize, n: usize) -> bool
     ensures { result ≡ predecessors_kept t.now a }
 {
     let mut seen = [0u8; MAX_BLOCKS];
-    let mut x = 0;
-    while x < n {
+    for x in 0..n {
         let e = ends(t, a, x);
         if !agrees(t, a, n, &mut seen, e.first, x) {
             return false;
@@ -53,7 +54,6 @@ pub fn predecessors_kept(t: &[u8], a: usize, n: usize) -> bool
         if !agrees(t, a, n, &mut seen, e.second, x) {
             return false;
         }
-        x += 1;
     }
     counted(t, a, n, &seen)
 }

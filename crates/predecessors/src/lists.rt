@@ -4,6 +4,7 @@ ghost use Rattle.language.specs.Programs.{Func, max_blocks};
 ghost use Rattle.language.specs.Table.{block_count, predecessor_lists, InTable};
 ghost use Rattle.predecessors.specs.Ranked.{lists_before};
 ghost use Rattle.predecessors.specs.Listing.{FunctionStands, no_lists, next_listed};
+ghost use Rattle.predecessors.specs.Ends.{number_of};
 
 use crate::ends::ends;
 use table::{
@@ -11,11 +12,14 @@ use table::{
     predecessor_count,
 };
 
-// Block x goes to block y, one of n: it is the next of y's predecessors. A list that is full stays so.
-fn list(t: &mut [u8], a: usize, n: usize, y: usize, x: usize)
+// Block x goes to block y, if that is one of n: it is the next of y's predecessors. A list that is full stays so.
+fn list(t: &mut [u8], a: usize, n: usize, y: Option<usize>, x: usize)
     requires { (InTable t.old a) × (n ≤ max_blocks) × (x < max_blocks) }
-    ensures { t.new ≡ next_listed t.old a n y x }
+    ensures { t.new ≡ next_listed t.old a n (number_of y) x }
 {
+    let Some(y) = y else {
+        return;
+    };
     if n <= y {
         return;
     }
@@ -49,9 +53,7 @@ pub fn put_predecessors(t: &mut [u8], a: usize)
     ensures { (g : Func) (before behind : List ℕ) → FunctionStands t.old a (no_lists g) g before behind → FunctionStands t.new a (predecessor_lists g) g before behind }
 {
     let n = block_count(t, a);
-    let mut x = 0;
-    while x < n {
+    for x in 0..n {
         list_block(t, a, n, x);
-        x += 1;
     }
 }

@@ -30,18 +30,17 @@ fn skipped(t: &[u8], a: usize, b: usize, x: usize, n: usize) -> usize
 }
 
 // The place of block x among the predecessors that block b keeps, or their number.
+// Kept, plainer: a run comes from a block that is kept there, so an Option would give each caller a branch for None that is never taken.
 pub fn rank(t: &[u8], a: usize, b: usize, x: usize) -> usize
     requires in_table { (InTable t.now a) × (b < max_blocks) }
     requires ascending { Ascending (stored_predecessors t.now a b) }
     ensures { (result ≡ position (λ z. eqb z x) (stored_predecessors t.now a b)) × (result < 256) }
 {
     let n = predecessor_count(t, a, b);
-    let mut k = skipped(t, a, b, x, n);
-    while k < n {
+    for k in skipped(t, a, b, x, n)..n {
         if predecessor(t, a, b, k) == x {
             return k;
         }
-        k += 1;
     }
     n
 }

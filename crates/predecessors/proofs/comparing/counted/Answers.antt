@@ -20,12 +20,6 @@ returns-then-predecessor_count-from c =
     sym (all_below_not _ c.args.n c.loop-b.b (omega arith)
     (ne_eqb _ _ (λ d. let e : c.predecessor_count.result ≡ c.from.result = c.predecessor_count.ensures.0 ∙ d ∙ sym c.from.ensures in omega arith)))
 
-pub overflow_add-b : goal.overflow_add-b
-overflow_add-b c = omega arith
-
-pub loop-b-smaller : goal.loop-b-smaller
-loop-b-smaller c = omega arith
-
 pub loop-b-preserved : goal.loop-b-preserved
 loop-b-preserved c =
     let e : c.predecessor_count.result ≡ c.from.result = omega arith in

@@ -42,12 +42,6 @@ pub returns-then-not-agrees-2 : goal.returns-then-not-agrees-2
 returns-then-not-agrees-2 c =
     second_wrong _ _ _ c.requires.in_table c.shared_slice_known-1.given c.loop-x.invariant.1 c.loop-x-test.true c.ends-e.ensures c.agrees.ensures.1 c.agrees-in-loop-x.ensures.0 c.if-not-agrees-2.true-raw
 
-pub overflow_add-x : goal.overflow_add-x
-overflow_add-x c = omega arith
-
-pub loop-x-smaller : goal.loop-x-smaller
-loop-x-smaller c = omega arith
-
 pub loop-x-preserved : goal.loop-x-preserved
 loop-x-preserved c =
     (omega arith, agreed_more _ _ _ c.requires.in_table c.shared_slice_known-1.given c.loop-x.invariant.1 c.loop-x-test.true c.ends-e.ensures c.agrees.ensures.1 c.agrees.ensures.0 c.if-not-agrees.false-raw c.agrees-in-loop-x.ensures.0 c.if-not-agrees-2.false-raw c.agrees-in-loop-x.ensures.1)

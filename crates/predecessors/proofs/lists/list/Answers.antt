@@ -23,14 +23,17 @@ more : (t : List ℕ) (a n y x c : ℕ) (u : List ℕ) → y < n → c ≡ prede
 unfolding next_listed
 more t a n y x c u h e l q = q ∙ rw (lt-leb n y h, e, lt-leb max_blocks (predecessor_count t a y) (omega arith))
 
+pub returns-in_default : goal.returns-in_default
+returns-in_default c = rw c.in_default.is (none c.args.t.now c.args.a c.args.n 255 c.args.x (omega arith))
+
 pub returns-then-n-y : goal.returns-then-n-y
-returns-then-n-y c = search none
+returns-then-n-y c = rw c.in-Some.is (search none)
 
 pub returns-then-c-ge-MAX_BLOCKS : goal.returns-then-c-ge-MAX_BLOCKS
-returns-then-c-ge-MAX_BLOCKS c = search full
+returns-then-c-ge-MAX_BLOCKS c = rw c.in-Some.is (search full)
 
 pub bounds-t-k-2 : goal.bounds-t-k-2
 bounds-t-k-2 c = simp length-set (omega arith)
 
 pub returns : goal.returns
-returns c = search more
+returns c = rw c.in-Some.is (search more)

@@ -5,6 +5,7 @@ use Prim.Native.Nat.{ℕ}
 use native.Mathlib.Omega.{arith}
 use Rattle.language.specs.Table.{block_count}
 use Rattle.predecessors.specs.Listing.{next_listed}
+use Rattle.predecessors.specs.Ends.{number_of}
 use Rattle.predecessors.proofs.ListingLaws.{next_count, rows_right, block_listed}
 use Rattle.predecessors.proofs.lists.list_block.Goals as goal
 
@@ -23,4 +24,4 @@ returns-then-block_first-block_rows-gt-MAX_ROWS c =
 
 pub returns : goal.returns
 returns c =
-    record { a_unchanged = count_kept c.args.t.now c.args.a c.args.n c.ends-e.result.first c.ends-e.result.second c.args.x _ _ c.list.ensures c.list-2.ensures; function_stands = λ g before behind s. block_listed s c.requires.1 c.requires.2 c.requires.3 c.ends-e.ensures c.list.ensures c.list-2.ensures }
+    record { a_unchanged = count_kept c.args.t.now c.args.a c.args.n (number_of c.ends-e.result.first) (number_of c.ends-e.result.second) c.args.x _ _ c.list.ensures c.list-2.ensures; function_stands = λ g before behind s. block_listed s c.requires.1 c.requires.2 c.requires.3 c.ends-e.ensures c.list.ensures c.list-2.ensures }

@@ -30,12 +30,6 @@ pub list_block-requires : goal.list_block-requires
 list_block-requires c =
     (omega (arith, c.requires.0, c.loop-x.invariant.1), sym c.loop-x.invariant.2, omega (arith, c.requires.1, c.block_count-n.ensures.0), omega arith)
 
-pub overflow_add-x : goal.overflow_add-x
-overflow_add-x c = omega arith
-
-pub loop-x-smaller : goal.loop-x-smaller
-loop-x-smaller c = omega arith
-
 pub loop-x-preserved : goal.loop-x-preserved
 loop-x-preserved c = (
   omega arith,

@@ -1,7 +1,7 @@
 -- The loop's invariant: every function that stood there without lists stands there with what the blocks before x give.
 use mathlib.Core.Path.{◌≡◌}
 use mathlib.Core.List.{List}
-use Prim.Native.Nat.{ℕ, ◌-◌, ◌≤◌}
+use Prim.Native.Nat.{ℕ, ◌≤◌}
 use lib.ListN.{length}
 use Rattle.language.specs.Programs.{Func}
 use Rattle.language.specs.Table.{block_count}
@@ -13,6 +13,3 @@ abbrev pub invariant-loop-x : goal.invariant-loop-x
 invariant-loop-x l =
     (l.x ≤ l.n) × (length l.t ≡ length l.initial.t) × (block_count l.t l.a ≡ l.n)
     × ((g : Func) (before behind : List ℕ) → FunctionStands l.initial.t l.a (no_lists g) g before behind → FunctionStands l.t l.a (lists_before g l.x) g before behind)
-
-abbrev pub decreases-loop-x : goal.decreases-loop-x
-decreases-loop-x l = l.n - l.x

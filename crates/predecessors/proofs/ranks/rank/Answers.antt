@@ -15,9 +15,6 @@ smaller y x l = ne_eqb y x (λ d. absurd (omega arith))
 pub predecessor_count-n-requires : goal.predecessor_count-n-requires
 predecessor_count-n-requires c = c.requires.in_table
 
-pub skipped-k-requires : goal.skipped-k-requires
-skipped-k-requires c = record { in_table = (c.requires.in_table.0, c.requires.in_table.1, c.predecessor_count-n.ensures.0, c.predecessor_count-n.ensures.1); ascending = c.requires.ascending }
-
 pub loop-k-init : goal.loop-k-init
 loop-k-init c =
     (c.skipped-k.ensures.0, λ i l. smaller (predecessor_at c.args.t.now c.args.a c.args.b i) c.args.x (c.skipped-k.ensures.1 i l))
@@ -28,12 +25,6 @@ predecessor-requires c = (c.requires.in_table.0, c.requires.in_table.1, omega (a
 pub returns-then-predecessor-x : goal.returns-then-predecessor-x
 returns-then-predecessor-x c =
     (place_is c.args.t.now c.args.a c.args.b c.requires.in_table.0 c.requires.in_table.1 _ c.predecessor_count-n.ensures.0 c.predecessor_count-n.ensures.1 _ _ c.loop-k.invariant.0 c.loop-k.invariant.1 (λ l. eq-eqb _ _ (sym c.predecessor.ensures.0 ∙ c.if-predecessor-x.true)), omega arith)
-
-pub overflow_add-k : goal.overflow_add-k
-overflow_add-k c = omega arith
-
-pub loop-k-smaller : goal.loop-k-smaller
-loop-k-smaller c = omega arith
 
 pub loop-k-preserved : goal.loop-k-preserved
 loop-k-preserved c =
