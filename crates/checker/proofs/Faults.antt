@@ -15,7 +15,7 @@ use Rattle.language.specs.Checking.{Spot, spot_at, in_range, spots_from, spots_i
 use Rattle.theorems.proofs.AcceptanceCheck.{passes, no_faults, no_rows, no_faults10, no_10, all_in_range}
 use Rattle.rules.specs.Tests.{form_fault}
 use Rattle.paths.specs.Formed.{Formed}
-use Rattle.checker.specs.declared.forms.Lowest.{Lowest}
+use Rattle.checker.specs.Notes.{Lowest}
 use Rattle.checker.specs.Notes.{unbroken, noted, noted_row, noted_in, noted_of}
 use Rattle.checker.proofs.Notes.{column, note, answer, first_noted}
 

@@ -13,14 +13,15 @@ use lib.Seq.{take-suc, take_all}
 use Rattle.laws.specs.Lists.{below, empty}
 use Rattle.laws.proofs.Ranges.{foldl_below_suc}
 use Rattle.language.specs.Programs.{Row, Func, rows_at, first_row, max_rows}
-use Rattle.language.specs.Checking.{spot_at, spots_from, spots_in, row_number}
+use Rattle.checker.proofs.Notes.{lowest_below}
+use Rattle.language.specs.Checking.{Spot, spot_at, breaks10, spots_from, spots_in, row_number}
 use Rattle.language.specs.Table.{block_count, block_first, block_rows, row_count, decode_function}
 use Rattle.language.proofs.TableView.{first_row_is, block_rows_count}
 use Rattle.theorems.proofs.Spots.{length_from_place, spot_from_place}
-use Rattle.rules.specs.Tests.{form_fault}
+use Rattle.rules.specs.Tests.{form_fault, later_tests}
 use Rattle.flow.specs.Sized.{Sized}
 use Rattle.flow.proofs.Standing.{block_within}
-use Rattle.checker.specs.declared.forms.Lowest.{Lowest}
+use Rattle.checker.specs.Notes.{Lowest}
 use Rattle.checker.specs.Notes.{unbroken, noted, noted_row, noted_in, noted_of}
 
 module _ (f : Func) (b : ℕ) (s : Lowest) where
@@ -91,6 +92,11 @@ module _ (f : Func) where
   pub blocks_all : {x : Lowest} {b : ℕ} → x ≡ noted_blocks b → b ≡ length f.blocks → x ≡ noted_of f
   unfolding noted_blocks noted_of
   blocks_all p e = p ∙ ap noted_blocks e
+
+-- A row's number is one of 10 to 16.
+pub form_fault_below : (f : Func) (s : Spot) → form_fault f s < 17
+unfolding form_fault later_tests
+form_fault_below f s = lowest_below 10 (breaks10 f s ∷ later_tests f s) (omega arith)
 
 -- What is noted at rows up to n stays there.
 pub noted_row_law : (s : Lowest) (k r n : ℕ) → s.row ≤ n → r ≤ n → (noted s k r).row ≤ n

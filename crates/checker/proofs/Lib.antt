@@ -9,3 +9,4 @@ pub mod Parts
 pub mod FormsLaws
 pub mod RowsLaws
 pub mod SoundLaws
+pub mod Reasons

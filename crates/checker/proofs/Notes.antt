@@ -14,7 +14,7 @@ use Rattle.laws.specs.Lists.{keep}
 use Rattle.language.specs.Programs.{row_place}
 use Rattle.language.specs.Checking.{Verdict, first_fault}
 use Rattle.rules.specs.Tests.{lowest}
-use Rattle.checker.specs.declared.forms.Lowest.{Lowest}
+use Rattle.checker.specs.Notes.{Lowest}
 use Rattle.checker.specs.Notes.{noted}
 
 -- ---- one number
@@ -25,8 +25,14 @@ lowest_low k [] = inl refl
 lowest_low k (true ∷ bs) = inr (omega arith)
 lowest_low k (false ∷ bs) = ⊎_elim (λ e. inl e) (λ h. inr (omega arith)) (lowest_low (suc k) bs)
 
+-- It is one of the tests' numbers.
+pub lowest_below : (k : ℕ) (bs : List Bool) → 0 < k → lowest k bs < k + length bs
+lowest_below k [] l = omega arith
+lowest_below k (true ∷ bs) l = omega arith
+lowest_below k (false ∷ bs) l = omega (arith, lowest_below (suc k) bs (omega arith))
+
 -- A number that is not lower is not noted.
-not_noted : (s : Lowest) (n r : ℕ) → (n ≡ 0) ⊎ (s.number ≤ n) → noted s n r ≡ s
+pub not_noted : (s : Lowest) (n r : ℕ) → (n ≡ 0) ⊎ (s.number ≤ n) → noted s n r ≡ s
 unfolding noted
 not_noted s n r h = elim h [ inl e ↦ rw e | inr l ↦ by (eqb n 0) l ]
   where
@@ -34,7 +40,7 @@ not_noted s n r h = elim h [ inl e ↦ rw e | inr l ↦ by (eqb n 0) l ]
     by true l = refl
     by false l = rw (le-ltb n s.number l)
 
-is_noted : (s : Lowest) (n r : ℕ) → 0 < n → n < s.number → noted s n r ≡ record { number = n; row = r }
+pub is_noted : (s : Lowest) (n r : ℕ) → 0 < n → n < s.number → noted s n r ≡ record { number = n; row = r }
 unfolding noted
 is_noted s n r p l = rw (ne_eqb n 0 (λ e. omega arith), lt-ltb n s.number l)
 

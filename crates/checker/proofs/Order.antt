@@ -13,7 +13,7 @@ use Rattle.language.specs.Table.{table_length, function_count, function_at, deco
 use Rattle.language.specs.Checking.{Verdict, breaks17, rows_that, first_fault, judge, judge_from, check}
 use Rattle.language.specs.Answers.{check_answer}
 use Rattle.language.proofs.TableView.{function_count_law, function_is}
-use Rattle.checker.specs.declared.forms.Lowest.{Lowest}
+use Rattle.checker.specs.Notes.{Lowest}
 use Rattle.checker.specs.Notes.{noted_of}
 use Rattle.checker.specs.Parts.{table_names_before, sound_at}
 use Rattle.checker.proofs.Faults.{first_fault_law}

@@ -9,7 +9,11 @@ use Rattle.language.specs.Checking.{Spot, spots_in, row_number, in_range}
 use Rattle.flow.specs.Sized.{Sized}
 use Rattle.rules.specs.Cells.{SsaPrepared}
 use Rattle.rules.specs.Tests.{form_fault}
-use Rattle.checker.specs.declared.forms.Lowest.{Lowest}
+
+-- The lowest number noted so far and its earliest row.
+pub record Lowest : Type 0 where
+  pub number : ℕ
+  pub row : ℕ
 
 -- Nothing noted yet: 17 is the number after those of a row.
 abbrev pub unbroken : Lowest

@@ -4,9 +4,12 @@ ghost use Rattle.language.specs.Table.{block_count, decode_function};
 ghost use Rattle.flow.specs.Layout.{flow_length};
 ghost use Rattle.flow.specs.Sized.{Preparable};
 ghost use Rattle.rules.specs.Cells.{SsaPrepared};
-ghost use Rattle.checker.specs.Notes.{RowsRanged, noted as notedᴸ, noted_in, noted_of};
+ghost use Rattle.checker.specs.Notes.{RowsRanged, noted, noted_in, noted_of};
 ghost use Rattle.language.specs.Programs.{max_rows};
+ghost use Rattle.answers.specs.Reasons.{reason_number};
+ghost use Rattle.checker.specs.Lows.{low_of, IsOfRow};
 
+use answers::Reason;
 use flow::prepare;
 use rules::form_fault;
 use table::{block_first, block_rows, function_ssa};
@@ -22,64 +25,57 @@ pub fn prepare_ssa(t: &[u8], a: usize, m: &mut [u16])
     prepare(t, a, m);
 }
 
-// The lowest number noted so far and its earliest row; 17 while none of 10 to 16 is.
+// What of 10 to 16 is broken, and by which row.
 #[derive(Clone, Copy)]
-pub struct Lowest {
-    pub number: u8,
+pub struct Fault {
+    pub reason: Reason,
     pub row: usize,
 }
 
-impl Lowest {
-    // With number k at this row; 0 is no number.
-    pub fn noted(self, k: u8, row: usize) -> Lowest
-        ensures { result ≡ notedᴸ self k row }
-    {
-        if k == 0 {
-            return self;
-        }
-        if k < self.number {
-            return Lowest { number: k, row };
-        }
-        self
+// The lowest fault noted so far, and one more in a later row: the former, unless this is lower.
+fn noted(low: Option<Fault>, reason: Reason, row: usize) -> Option<Fault>
+    requires { (reason_number reason < 17) × (row ≤ max_rows) × IsOfRow low }
+    ensures { (low_of result ≡ noted (low_of low) (reason_number reason) row) × IsOfRow result }
+{
+    let Some(fault) = low else {
+        return Some(Fault { reason, row });
+    };
+    if u8::from(reason) < u8::from(fault.reason) {
+        return Some(Fault { reason, row });
     }
+    low
 }
 
 // What is noted of the rows of block b. "A block with no rows is placed at the row where it would begin": 10.
-fn note_block(t: &[u8], a: usize, m: &[u16], b: usize, low: Lowest) -> Lowest
+fn note_block(t: &[u8], a: usize, m: &[u16], b: usize, low: Option<Fault>) -> Option<Fault>
     requires rows_ranged { RowsRanged t.now a m.now }
-    requires b_bound { (b < block_count t.now a) × (low.row ≤ max_rows) }
-    ensures { (result ≡ noted_in (decode_function t.now a) low b) × (result.row ≤ max_rows) }
+    requires b_bound { (b < block_count t.now a) × IsOfRow low }
+    ensures { (low_of result ≡ noted_in (decode_function t.now a) (low_of low) b) × IsOfRow result }
 {
     let first = block_first(t, a, b);
     let rows = block_rows(t, a, b);
     if rows == 0 {
-        return low.noted(10, first);
+        return noted(low, Reason::TerminatorMisplaced, first);
     }
     let mut x = low;
-    let mut j = 0;
-    while j < rows {
-        let k = form_fault(t, a, m, b, j, first + j);
-        if k == 0 {
-            j += 1;
+    for j in 0..rows {
+        let Some(reason) = form_fault(t, a, m, b, j, first + j) else {
             continue;
-        }
-        x = x.noted(k, first + j);
-        j += 1;
+        };
+        x = noted(x, reason, first + j);
     }
     x
 }
 
 // What is noted of all rows.
-pub fn note_blocks(t: &[u8], a: usize, m: &[u16], blocks: usize) -> Lowest
+pub fn note_blocks(t: &[u8], a: usize, m: &[u16], blocks: usize) -> Option<Fault>
     requires rows_ranged { RowsRanged t.now a m.now }
     requires blocks_value { blocks ≡ block_count t.now a }
-    ensures { (result ≡ noted_of (decode_function t.now a)) × (result.row ≤ max_rows) }
+    ensures { (low_of result ≡ noted_of (decode_function t.now a)) × IsOfRow result }
 {
-    let mut x = Lowest { number: 17, row: 0 };
-    let mut b = 0;
-    while b < blocks {
+    let mut x = None;
+    for b in 0..blocks {
         x = note_block(t, a, m, b, x);
-        b += 1;
     }
     x
 }

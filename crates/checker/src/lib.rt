@@ -21,9 +21,7 @@ use flow::FLOW_LENGTH;
 use forms::{note_blocks, prepare_ssa};
 use paths::first_late;
 use sound::sound_rows;
-use table::{
-    MAX_FUNCTIONS, MAX_ROWS, TABLE_LENGTH, block_count, function_at, function_count, function_ssa,
-};
+use table::{MAX_FUNCTIONS, TABLE_LENGTH, block_count, function_at, function_count, function_ssa};
 
 // 17 of function i, where it breaks none of 9 to 16.
 fn check_paths(t: &[u8], i: usize, a: usize, m: &[u16], rows: usize) -> Verdict
@@ -47,14 +45,13 @@ fn check_function(t: &[u8], i: usize, m: &mut [u16]) -> Verdict
     ensures { verdict_of result ≡ judge (table_names_before t.now i) i (decode_function t.now (function_at i)) }
 {
     let a = function_at(i);
-    let rows = sound_rows(t, i, a);
-    if MAX_ROWS < rows {
+    let Some(rows) = sound_rows(t, i, a) else {
         return Verdict::Refused(9, i);
-    }
+    };
     prepare_ssa(t, a, m);
     let low = note_blocks(t, a, m, block_count(t, a));
-    if low.number != 17 {
-        return Verdict::Refused(low.number, row_place(i, low.row));
+    if let Some(fault) = low {
+        return Verdict::Refused(u8::from(fault.reason), row_place(i, fault.row));
     }
     check_paths(t, i, a, m, rows)
 }
@@ -71,10 +68,8 @@ pub fn check_table(t: &[u8]) -> Verdict
         return Verdict::Refused(9, 0);
     }
     let mut m = [0u16; FLOW_LENGTH];
-    let mut i = 0;
-    while i < n {
+    for i in 0..n {
         let Verdict::Refused(k, p) = check_function(t, i, &mut m) else {
-            i += 1;
             continue;
         };
         return Verdict::Refused(k, p);

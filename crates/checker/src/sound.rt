@@ -1,9 +1,9 @@
 // 9 of one function, in parts: each looks only at cells that the parts before it have found to be there.
-ghost use Rattle.std.specs.Prelude.{◌≡◌, ◌<◌, ◌≤◌, length};
+ghost use Rattle.std.specs.Prelude.{◌≡◌, ◌+◌, ◌<◌, ◌≤◌, IfSome, MatchOption, length, unwrap_or};
 ghost use Rattle.laws.specs.Lists.{any, same};
 ghost use Rattle.language.specs.Table.{register_count, block_count, function_name, row_count, InTable, table_length};
 ghost use Rattle.checker.specs.Parts.{table_names_before, head_right, types_right, placed_rows, entries_after, rows_right, listed_right, all_names_right, sound_rows};
-ghost use Rattle.language.specs.Programs.{max_rows, max_blocks, max_registers, max_functions};
+ghost use Rattle.language.specs.Programs.{max_rows, max_entries, max_blocks, max_registers, max_functions};
 ghost use Rattle.table.specs.Named.{NamesWithin};
 
 use instructions::{ops, types};
@@ -44,7 +44,7 @@ fn head_right(t: &[u8], a: usize) -> bool
     if blocks <= entry {
         return false;
     }
-    block_name(t, a, entry).len() == 0
+    block_name(t, a, entry).is_empty()
 }
 
 // Every register's type.
@@ -52,49 +52,49 @@ fn types_right(t: &[u8], a: usize, registers: usize) -> bool
     requires { (InTable t.now a) × (registers ≡ register_count t.now a) × (registers ≤ max_registers) }
     ensures { result ≡ types_right t.now a }
 {
-    let mut i = 0;
-    while i < registers {
+    for i in 0..registers {
         if types::COUNT <= register_type(t, a, i) {
             return false;
         }
-        i += 1;
     }
     true
 }
 
-// How many rows there are, if the blocks' rows are in sequence and not too many; else one more than there may be.
-fn placed_rows(t: &[u8], a: usize, blocks: usize) -> usize
+// How many rows there are, if the blocks' rows are in sequence and not too many.
+fn placed_rows(t: &[u8], a: usize, blocks: usize) -> Option<usize>
     requires { (InTable t.now a) × (blocks ≡ block_count t.now a) × (blocks ≤ max_blocks) }
-    ensures { result ≡ placed_rows t.now a }
+    ensures rows { unwrap_or result (max_rows + 1) ≡ placed_rows t.now a }
+    ensures few { IfSome result (λ n. n ≤ max_rows) }
 {
     let mut n = 0;
-    let mut b = 0;
-    while b < blocks {
+    for b in 0..blocks {
         if block_first(t, a, b) != n {
-            return MAX_ROWS + 1;
+            return None;
         }
         n += block_rows(t, a, b);
         if MAX_ROWS < n {
-            return MAX_ROWS + 1;
+            return None;
         }
-        b += 1;
     }
-    n
+    Some(n)
 }
 
-// How many phi entries there are up to row k and with it, n being those before it; one more than there may be, if they are too many
-// or the row's do not begin at n.
-fn entries_after(t: &[u8], a: usize, k: usize, n: usize) -> usize
+// How many phi entries there are up to row k and with it, n being those before it, if they are not too many and the row's begin at n.
+fn entries_after(t: &[u8], a: usize, k: usize, n: usize) -> Option<usize>
     requires { (InTable t.now a) × (k < max_rows) × (n ≤ max_rows) }
-    ensures { result ≡ entries_after t.now a k n }
+    ensures { MatchOption result (max_entries < entries_after t.now a k n) (λ e. (e ≡ entries_after t.now a k n) × (e ≤ max_entries)) }
 {
     if row_op(t, a, k) != ops::PHI {
-        return n;
+        return Some(n);
     }
     if phi_first(t, a, k) != n {
-        return MAX_ENTRIES + 1;
+        return None;
     }
-    n + phi_count(t, a, k)
+    let entries = n + phi_count(t, a, k);
+    if MAX_ENTRIES < entries {
+        return None;
+    }
+    Some(entries)
 }
 
 // Every row's numbers, and where its phi entries stand.
@@ -104,16 +104,14 @@ fn rows_right(t: &[u8], a: usize, registers: usize, blocks: usize, rows: usize) 
     ensures { result ≡ rows_right t.now a }
 {
     let mut entries = 0;
-    let mut k = 0;
-    while k < rows {
-        entries = entries_after(t, a, k, entries);
-        if MAX_ENTRIES < entries {
+    for k in 0..rows {
+        let Some(after) = entries_after(t, a, k, entries) else {
             return false;
-        }
+        };
         if !in_range(t, a, registers, blocks, k) {
             return false;
         }
-        k += 1;
+        entries = after;
     }
     true
 }
@@ -156,31 +154,29 @@ fn names_right(t: &[u8], i: usize, a: usize, registers: usize, blocks: usize) ->
     listed_right(t, a + BLOCK_NAMES_OFFSET, BLOCK_LENGTH, blocks)
 }
 
-// How many rows the function has, if 9 does not hold of it; else one more than it may have.
-pub fn sound_rows(t: &[u8], i: usize, a: usize) -> usize
+// How many rows the function has, if 9 does not hold of it.
+pub fn sound_rows(t: &[u8], i: usize, a: usize) -> Option<usize>
     requires { (length t.now ≡ table_length) × (i < max_functions) × (InTable t.now a) }
-    ensures { result ≡ sound_rows t.now i a }
+    ensures rows { unwrap_or result (max_rows + 1) ≡ sound_rows t.now i a }
+    ensures few { IfSome result (λ n. n ≤ max_rows) }
 {
     if !head_right(t, a) {
-        return MAX_ROWS + 1;
+        return None;
     }
     let registers = register_count(t, a);
     let blocks = block_count(t, a);
     if !types_right(t, a, registers) {
-        return MAX_ROWS + 1;
+        return None;
     }
-    let rows = placed_rows(t, a, blocks);
-    if MAX_ROWS < rows {
-        return MAX_ROWS + 1;
-    }
+    let rows = placed_rows(t, a, blocks)?;
     if !rows_right(t, a, registers, blocks, rows) {
-        return MAX_ROWS + 1;
+        return None;
     }
     if !predecessors_kept(t, a, blocks) {
-        return MAX_ROWS + 1;
+        return None;
     }
     if !names_right(t, i, a, registers, blocks) {
-        return MAX_ROWS + 1;
+        return None;
     }
-    rows
+    Some(rows)
 }

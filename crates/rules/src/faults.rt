@@ -9,11 +9,14 @@ ghost use Rattle.language.specs.Table.{InTable};
 ghost use Rattle.language.specs.Checking.{in_range, spot_at};
 ghost use Rattle.flow.specs.Layout.{flow_length};
 ghost use Rattle.rules.specs.Tests.{lowest, later_tests, form_fault};
+ghost use Rattle.rules.specs.Faults.{fault_number};
 ghost use Rattle.rules.specs.Cells.{RowStands, Judged, spot, retaken as retaken_by, unset as unset_by, binary_typed};
 ghost use Rattle.instructions.specs.Shapes.{is_terminator_op};
 ghost use Rattle.language.specs.Programs.{max_rows, max_entries, max_blocks, max_registers};
 
+use crate::entries::entries_pass;
 use crate::ranges::form_of;
+use answers::Reason;
 use flow::{assignment, phis};
 use instructions::{forms, is_terminator, load_type, ops, types};
 use table::{
@@ -44,29 +47,52 @@ fn unset(t: &[u8], a: usize, m: &[u16], u: usize) -> bool
     (function_params(t, a) <= u) & (assignment(m, u) == 0)
 }
 
-// The lowest number of those from 11 on whose test holds. A row that is right is tested for all of them, so none is spared.
-fn pick(b11: bool, b12: bool, b13: bool, b14: bool, b15: bool, b16: bool) -> u8
-    ensures { result ≡ lowest 11 (b11 ∷ b12 ∷ b13 ∷ b14 ∷ b15 ∷ b16 ∷ []) }
-{
-    if b11 {
-        return 11;
+// Which of 11 to 16 a row breaks.
+#[derive(Clone, Copy)]
+struct Broken {
+    types: bool,
+    target: bool,
+    mark: bool,
+    place: bool,
+    count: bool,
+    sources: bool,
+}
+
+// None of them.
+const UNBROKEN: Broken = Broken {
+    types: false,
+    target: false,
+    mark: false,
+    place: false,
+    count: false,
+    sources: false,
+};
+
+impl Broken {
+    // The lowest of them. A row that is right is tested for all, so none is spared.
+    fn lowest(self) -> Option<Reason>
+        ensures { fault_number result ≡ lowest 11 (self.types ∷ self.target ∷ self.mark ∷ self.place ∷ self.count ∷ self.sources ∷ []) }
+    {
+        if self.types {
+            return Some(Reason::TypesWrong);
+        }
+        if self.target {
+            return Some(Reason::AssignedTwice);
+        }
+        if self.mark {
+            return Some(Reason::MarkMismatched);
+        }
+        if self.place {
+            return Some(Reason::PhiMisplaced);
+        }
+        if self.count {
+            return Some(Reason::PhiMiscounted);
+        }
+        if self.sources {
+            return Some(Reason::NeverAssigned);
+        }
+        None
     }
-    if b12 {
-        return 12;
-    }
-    if b13 {
-        return 13;
-    }
-    if b14 {
-        return 14;
-    }
-    if b15 {
-        return 15;
-    }
-    if b16 {
-        return 16;
-    }
-    0
 }
 
 // The types of a row with two sources are as "The 36 instructions" say.
@@ -82,36 +108,6 @@ fn binary_typed(op: u8, target: u8, left: u8, right: u8) -> bool
     (left == right) & (target == types::UINT)
 }
 
-// Every one of `count` phi entries from `first` on is a register of this type.
-fn entries_typed(t: &[u8], a: usize, first: usize, count: usize, kind: u8) -> bool
-    requires { (InTable t.now a) × (first + count ≤ max_entries) }
-    ensures { result ≡ all (λ u. eqb (register_type t.now a u) kind) (map (phi_entry t.now a) (from first count)) }
-{
-    let mut i = 0;
-    while i < count {
-        if register_type(t, a, phi_entry(t, a, first + i)) != kind {
-            return false;
-        }
-        i += 1;
-    }
-    true
-}
-
-// None of them breaks 16.
-fn entries_set(t: &[u8], a: usize, m: &[u16], first: usize, count: usize) -> bool
-    requires { (InTable t.now a) × (length m.now ≡ flow_length) × (first + count ≤ max_entries) }
-    ensures { result ≡ all (λ u. not (unset_by t.now a m.now u)) (map (phi_entry t.now a) (from first count)) }
-{
-    let mut i = 0;
-    while i < count {
-        if unset(t, a, m, phi_entry(t, a, first + i)) {
-            return false;
-        }
-        i += 1;
-    }
-    true
-}
-
 // 10: a terminator anywhere but at the end, or none there.
 fn misended(op: u8, last: bool) -> bool
     ensures { result ≡ not (beq (is_terminator_op op) last) }
@@ -121,44 +117,42 @@ fn misended(op: u8, last: bool) -> bool
 
 // The lowest of 11 to 16 that a row of each form breaks.
 
-fn load_fault(t: &[u8], a: usize, m: &[u16], k: usize) -> u8
+fn load_fault(t: &[u8], a: usize, m: &[u16], k: usize) -> Option<Reason>
     requires { (InTable t.now a) × (length m.now ≡ flow_length) × (k < max_rows) }
-    ensures { (b j : ℕ) → Judged Form.load t.now a m.now b j k result }
+    ensures { (b j : ℕ) → Judged Form.load t.now a m.now b j k (fault_number result) }
 {
     let target = row_target(t, a, k);
     let wrong = register_type(t, a, target) != load_type(row_op(t, a, k));
-    pick(
-        wrong,
-        retaken(t, a, m, target, k),
-        false,
-        false,
-        false,
-        false,
-    )
+    let broken = Broken {
+        types: wrong,
+        target: retaken(t, a, m, target, k),
+        ..UNBROKEN
+    };
+    broken.lowest()
 }
 
-fn unary_fault(t: &[u8], a: usize, m: &[u16], k: usize) -> u8
+fn unary_fault(t: &[u8], a: usize, m: &[u16], k: usize) -> Option<Reason>
     requires { (InTable t.now a) × (length m.now ≡ flow_length) × (k < max_rows) }
-    ensures { (b j : ℕ) → Judged Form.unary t.now a m.now b j k result }
+    ensures { (b j : ℕ) → Judged Form.unary t.now a m.now b j k (fault_number result) }
 {
     let op = row_op(t, a, k);
     let target = row_target(t, a, k);
     let source = row_left(t, a, k);
     let wrong = (op != ops::CONV) & (register_type(t, a, target) != register_type(t, a, source));
     let copied = (function_ssa(t, a) == 1) & (op == ops::COPY);
-    pick(
-        wrong,
-        retaken(t, a, m, target, k),
-        copied,
-        false,
-        false,
-        unset(t, a, m, source),
-    )
+    let broken = Broken {
+        types: wrong,
+        target: retaken(t, a, m, target, k),
+        mark: copied,
+        sources: unset(t, a, m, source),
+        ..UNBROKEN
+    };
+    broken.lowest()
 }
 
-fn binary_fault(t: &[u8], a: usize, m: &[u16], k: usize) -> u8
+fn binary_fault(t: &[u8], a: usize, m: &[u16], k: usize) -> Option<Reason>
     requires { (InTable t.now a) × (length m.now ≡ flow_length) × (k < max_rows) }
-    ensures { (b j : ℕ) → Judged Form.binary t.now a m.now b j k result }
+    ensures { (b j : ℕ) → Judged Form.binary t.now a m.now b j k (fault_number result) }
 {
     let target = row_target(t, a, k);
     let left = row_left(t, a, k);
@@ -171,97 +165,101 @@ fn binary_fault(t: &[u8], a: usize, m: &[u16], k: usize) -> u8
         right_type,
     );
     let never = unset(t, a, m, left) | unset(t, a, m, right);
-    pick(
-        !fits,
-        retaken(t, a, m, target, k),
-        false,
-        false,
-        false,
-        never,
-    )
+    let broken = Broken {
+        types: !fits,
+        target: retaken(t, a, m, target, k),
+        sources: never,
+        ..UNBROKEN
+    };
+    broken.lowest()
 }
 
-fn phi_fault(t: &[u8], a: usize, m: &[u16], b: usize, j: usize, k: usize) -> u8
+fn phi_fault(t: &[u8], a: usize, m: &[u16], b: usize, j: usize, k: usize) -> Option<Reason>
     requires in_table { (InTable t.now a) × (length m.now ≡ flow_length) × (b < max_blocks) × (k < max_rows) }
     requires k_bound { phi_first t.now a k + phi_count t.now a k ≤ max_entries }
-    ensures { Judged Form.phi t.now a m.now b j k result }
+    ensures { Judged Form.phi t.now a m.now b j k (fault_number result) }
 {
     let target = row_target(t, a, k);
     let first = phi_first(t, a, k);
     let count = phi_count(t, a, k);
-    let fits = entries_typed(t, a, first, count, register_type(t, a, target));
+    let kind = register_type(t, a, target);
+    let fits = entries_pass(t, a, first, count, |u| register_type(t, a, u) == kind);
     let misplaced = (b == function_entry(t, a)) | (phis(m, b) < j);
     let miscounted = (count == 0) | (count != predecessor_count(t, a, b));
-    let assigned = entries_set(t, a, m, first, count);
-    pick(
-        !fits,
-        retaken(t, a, m, target, k),
-        function_ssa(t, a) != 1,
-        misplaced,
-        miscounted,
-        !assigned,
-    )
+    let assigned = entries_pass(t, a, first, count, |u| !unset(t, a, m, u));
+    let broken = Broken {
+        types: !fits,
+        target: retaken(t, a, m, target, k),
+        mark: function_ssa(t, a) != 1,
+        place: misplaced,
+        count: miscounted,
+        sources: !assigned,
+    };
+    broken.lowest()
 }
 
 // A terminator with a source, which must be of type `kind`.
-fn source_fault(t: &[u8], a: usize, m: &[u16], k: usize, kind: u8) -> u8
+fn source_fault(t: &[u8], a: usize, m: &[u16], k: usize, kind: u8) -> Option<Reason>
     requires { (InTable t.now a) × (length m.now ≡ flow_length) × (k < max_rows) }
-    ensures { result ≡ lowest 11 (not (eqb (register_type t.now a (row_left t.now a k)) kind) ∷ false ∷ false ∷ false ∷ false ∷ unset_by t.now a m.now (row_left t.now a k) ∷ []) }
+    ensures { fault_number result ≡ lowest 11 (not (eqb (register_type t.now a (row_left t.now a k)) kind) ∷ false ∷ false ∷ false ∷ false ∷ unset_by t.now a m.now (row_left t.now a k) ∷ []) }
 {
     let source = row_left(t, a, k);
-    pick(
-        register_type(t, a, source) != kind,
-        false,
-        false,
-        false,
-        false,
-        unset(t, a, m, source),
-    )
+    let broken = Broken {
+        types: register_type(t, a, source) != kind,
+        sources: unset(t, a, m, source),
+        ..UNBROKEN
+    };
+    broken.lowest()
 }
 
-fn leave_fault(t: &[u8], a: usize) -> u8
+fn leave_fault(t: &[u8], a: usize) -> Option<Reason>
     requires { InTable t.now a }
-    ensures { result ≡ lowest 11 (not (eqb (function_result t.now a) void) ∷ false ∷ false ∷ false ∷ false ∷ false ∷ []) }
+    ensures { fault_number result ≡ lowest 11 (not (eqb (function_result t.now a) void) ∷ false ∷ false ∷ false ∷ false ∷ false ∷ []) }
 {
-    pick(
-        function_result(t, a) != types::VOID,
-        false,
-        false,
-        false,
-        false,
-        false,
-    )
+    let broken = Broken {
+        types: function_result(t, a) != types::VOID,
+        ..UNBROKEN
+    };
+    broken.lowest()
 }
 
 // The lowest of 11 to 16 that row k breaks; `op` is its instruction.
-fn later_fault(t: &[u8], a: usize, m: &[u16], b: usize, j: usize, k: usize, op: u8) -> u8
+fn later_fault(
+    t: &[u8],
+    a: usize,
+    m: &[u16],
+    b: usize,
+    j: usize,
+    k: usize,
+    op: u8,
+) -> Option<Reason>
     requires in_table { (InTable t.now a) × (length m.now ≡ flow_length) × (b < max_blocks) × (k < max_rows) × (op ≡ row_op t.now a k) }
     requires row_stands { RowStands t.now a m.now b j k × T (in_range (decode_function t.now a) (decode_row t.now a k)) }
-    ensures { result ≡ lowest 11 (later_tests (decode_function t.now a) (spot b j (decode_row t.now a k))) }
+    ensures { fault_number result ≡ lowest 11 (later_tests (decode_function t.now a) (spot b j (decode_row t.now a k))) }
 {
     let form = form_of(op);
     match form {
-        forms::NOP => 0,
+        forms::NOP => None,
         forms::LOAD => load_fault(t, a, m, k),
         forms::UNARY => unary_fault(t, a, m, k),
         forms::BINARY => binary_fault(t, a, m, k),
         forms::PHI => phi_fault(t, a, m, b, j, k),
-        forms::JUMP => 0,
+        forms::JUMP => None,
         forms::BRANCH => source_fault(t, a, m, k, types::UINT),
         forms::RETURN => source_fault(t, a, m, k, function_result(t, a)),
         forms::LEAVE => leave_fault(t, a),
-        _ => 9,
+        _ => Some(Reason::TableUnsound),
     }
 }
 
-// The lowest of 10 to 16 that row k breaks, which stands at place j of block b, or 0. Its numbers are in their ranges.
-pub fn form_fault(t: &[u8], a: usize, m: &[u16], b: usize, j: usize, k: usize) -> u8
+// The lowest of 10 to 16 that row k breaks, which stands at place j of block b, if any. Its numbers are in their ranges.
+pub fn form_fault(t: &[u8], a: usize, m: &[u16], b: usize, j: usize, k: usize) -> Option<Reason>
     requires { RowStands t.now a m.now b j k × T (in_range (decode_function t.now a) (decode_row t.now a k)) }
-    ensures { result ≡ form_fault (decode_function t.now a) (spot_at (decode_function t.now a) b j) }
+    ensures { fault_number result ≡ form_fault (decode_function t.now a) (spot_at (decode_function t.now a) b j) }
 {
     let op = row_op(t, a, k);
     if misended(op, j + 1 == block_rows(t, a, b)) {
-        return 10;
+        return Some(Reason::TerminatorMisplaced);
     }
     later_fault(t, a, m, b, j, k, op)
 }

@@ -1,6 +1,7 @@
 // The rules of a row, 9 to 16, over what is prepared of its function once (`flow`).
 #![tactic(auto)]
 
+mod entries;
 mod faults;
 mod ranges;
 

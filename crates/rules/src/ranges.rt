@@ -6,10 +6,11 @@ ghost use Rattle.language.specs.Table.{register_count, block_count, row_op, phi_
 ghost use Rattle.language.specs.Checking.{in_range};
 ghost use Rattle.language.specs.Programs.{max_rows, max_entries};
 
+use crate::entries::entries_pass;
 use instructions::{forms, load_type, number_fits, shape_of};
 use table::{
-    jump_first, jump_second, load_number, phi_count, phi_entry, phi_first, row_left, row_op,
-    row_right, row_target,
+    jump_first, jump_second, load_number, phi_count, phi_first, row_left, row_op, row_right,
+    row_target,
 };
 
 // The number of the form in which an instruction is written.
@@ -18,21 +19,6 @@ pub fn form_of(op: u8) -> u8
 {
     let shape = shape_of(op);
     shape.form
-}
-
-// Every one of `count` phi entries from `first` on is a register.
-fn entries_in_range(t: &[u8], a: usize, registers: usize, first: usize, count: usize) -> bool
-    requires { (InTable t.now a) × (first + count ≤ max_entries) }
-    ensures { result ≡ all (λ u. ltb u registers) (map (phi_entry t.now a) (from first count)) }
-{
-    let mut i = 0;
-    while i < count {
-        if registers <= phi_entry(t, a, first + i) {
-            return false;
-        }
-        i += 1;
-    }
-    true
 }
 
 // The same test of a row of each form.
@@ -69,7 +55,13 @@ fn phi_in_range(t: &[u8], a: usize, registers: usize, k: usize) -> bool
     ensures { result ≡ in_range (decode_function t.now a) (decode_as Form.phi t.now a k) }
 {
     (row_target(t, a, k) < registers)
-        & entries_in_range(t, a, registers, phi_first(t, a, k), phi_count(t, a, k))
+        & entries_pass(
+            t,
+            a,
+            phi_first(t, a, k),
+            phi_count(t, a, k),
+            |u| u < registers,
+        )
 }
 
 fn jump_in_range(t: &[u8], a: usize, blocks: usize, k: usize) -> bool

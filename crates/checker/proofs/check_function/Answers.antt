@@ -1,13 +1,12 @@
 -- 9, then the lowest of 10 to 16, then 17.
 use Prim.Native.Nat.{ℕ, ◌≤◌}
-use mathlib.Core.Path.{◌≡◌, sym, ap, ◌∙◌}
+use mathlib.Core.Path.{◌≡◌, refl, sym, ap, ◌∙◌}
 use mathlib.Core.Bool.{true}
 use mathlib.Core.List.{List}
 use native.Mathlib.Omega.{arith}
-use Rattle.language.specs.Checking.{Verdict}
 use Rattle.language.specs.Table.{function_at, row_count}
 use Rattle.laws.proofs.Tests.{of_true}
-use Rattle.checker.specs.declared.forms.Lowest.{Lowest}
+use Rattle.checker.specs.Notes.{Lowest}
 use Rattle.checker.specs.Parts.{sound_at, sound_rows}
 use Rattle.checker.proofs.Order.{judged_9, judged_form, judged_17}
 use Rattle.checker.proofs.Parts.{Right, right_parts, sized_right, preparable_right, ready_right, formed_right}
@@ -25,15 +24,15 @@ module _ (t : List ℕ) (i : ℕ) {rows : ℕ} (e : rows ≡ sound_rows t i (fun
 pub function_at-a-requires : goal.function_at-a-requires
 function_at-a-requires c = omega arith
 
-pub sound_rows-rows-requires : goal.sound_rows-rows-requires
-sound_rows-rows-requires c = (c.requires.0, c.requires.1, omega (arith, c.function_at-a.ensures))
+pub sound_rows-requires : goal.sound_rows-requires
+sound_rows-requires c = (c.requires.0, c.requires.1, omega (arith, c.function_at-a.ensures))
 
-pub returns-then-rows-gt-MAX_ROWS : goal.returns-then-rows-gt-MAX_ROWS
-returns-then-rows-gt-MAX_ROWS c =
+pub returns-in_default : goal.returns-in_default
+returns-in_default c =
     let t = c.args.t.now in
     let i = c.args.i in
     let here = c.function_at-a.ensures in
-    let rows = rw here at c.sound_rows-rows.ensures in
+    let rows = rw here at c.in_default.ensures.rows in
     judged_9 t i (not_sound t i (function_at i) (omega (arith, rows)))
 
 pub prepare_ssa-requires : goal.prepare_ssa-requires
@@ -41,8 +40,8 @@ prepare_ssa-requires c =
     let t = c.args.t.now in
     let i = c.args.i in
     let here = c.function_at-a.ensures in
-    let rows = rw here at c.sound_rows-rows.ensures in
-    (rw here (preparable_right t (function_at i) i (omega arith) (right t i rows (omega arith))), c.requires.2)
+    let rows = rw here at c.in-Some.ensures.rows in
+    (rw here (preparable_right t (function_at i) i (omega arith) (right t i rows c.in-Some.ensures.few)), c.requires.2)
 
 pub block_count-requires : goal.block_count-requires
 block_count-requires c = omega (arith, c.function_at-a.ensures)
@@ -52,36 +51,36 @@ note_blocks-low-requires c =
     let t = c.args.t.now in
     let i = c.args.i in
     let here = c.function_at-a.ensures in
-    let rows = rw here at c.sound_rows-rows.ensures in
-    record { rows_ranged = rw here (ready_right t (function_at i) i (omega arith) (right t i rows (omega arith)) (rw here at c.prepare_ssa.ensures)); blocks_value = c.block_count.ensures.0 }
+    let rows = rw here at c.in-Some.ensures.rows in
+    record { rows_ranged = rw here (ready_right t (function_at i) i (omega arith) (right t i rows c.in-Some.ensures.few) (rw here at c.prepare_ssa.ensures)); blocks_value = c.block_count.ensures.0 }
 
 pub row_place-requires : goal.row_place-requires
 row_place-requires c =
-    (c.requires.1, omega (arith, c.note_blocks-low.ensures.1))
+    (c.requires.1, omega (arith, c.in-Some-low.ensures.1.1))
 
-pub returns-then-low-ne17 : goal.returns-then-low-ne17
-returns-then-low-ne17 c =
+pub returns-in-Some-low : goal.returns-in-Some-low
+returns-in-Some-low c =
     let t = c.args.t.now in
     let i = c.args.i in
     let here = c.function_at-a.ensures in
-    let rows = rw here at c.sound_rows-rows.ensures in
-    ap (Verdict.refused c.note_blocks-low.result.number) c.row_place.ensures
-    ∙ judged_form t i (sounds t i rows (omega arith)).0 (rw here at c.note_blocks-low.ensures.0) c.if-low-ne17.true
+    let rows = rw here at c.in-Some.ensures.rows in
+    rw (c.from.ensures, c.row_place.ensures)
+    (judged_form t i (sounds t i rows c.in-Some.ensures.few).0 (rw here at c.in-Some-low.ensures.0) (λ e. omega (arith, c.in-Some-low.ensures.1.0)))
 
 pub check_paths-requires : goal.check_paths-requires
 check_paths-requires c =
     let t = c.args.t.now in
     let i = c.args.i in
     let here = c.function_at-a.ensures in
-    let rows = rw here at c.sound_rows-rows.ensures in
-    let r = right t i rows (omega arith) in
-    let none = ap (λ (x : Lowest). x.number) (sym (rw here at c.note_blocks-low.ensures.0)) ∙ c.if-low-ne17.false in
-    record { sized = (rw here (sized_right t (function_at i) i (omega arith) r), c.prepare_ssa.ensures, c.requires.1, rw here (sounds t i rows (omega arith)).1); formed = rw here (formed_right t (function_at i) i r none) }
+    let rows = rw here at c.in-Some.ensures.rows in
+    let r = right t i rows c.in-Some.ensures.few in
+    let none = ap (λ (x : Lowest). x.number) (sym (rw here at c.in_default-low.ensures.0)) in
+    record { sized = (rw here (sized_right t (function_at i) i (omega arith) r), c.prepare_ssa.ensures, c.requires.1, rw here (sounds t i rows c.in-Some.ensures.few).1); formed = rw here (formed_right t (function_at i) i r none) }
 
 pub returns : goal.returns
 returns c =
     let t = c.args.t.now in
     let i = c.args.i in
     let here = c.function_at-a.ensures in
-    let rows = rw here at c.sound_rows-rows.ensures in
-    (rw here at c.check_paths.ensures) ∙ judged_17 t i (sounds t i rows (omega arith)).0 (rw here at c.note_blocks-low.ensures.0) c.if-low-ne17.false
+    let rows = rw here at c.in-Some.ensures.rows in
+    (rw here at c.check_paths.ensures) ∙ judged_17 t i (sounds t i rows c.in-Some.ensures.few).0 (rw here at c.in_default-low.ensures.0) refl

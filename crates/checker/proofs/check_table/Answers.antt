@@ -26,12 +26,6 @@ slice_bounds-check_function-end c = sym c.loop-i.invariant.1
 pub check_function-requires : goal.check_function-requires
 check_function-requires c = (c.if-t-ne-TABLE_LENGTH.false, omega arith, c.loop-i.invariant.1)
 
-pub overflow_add-i : goal.overflow_add-i
-overflow_add-i c = omega arith
-
-pub loop-i-smaller : goal.loop-i-smaller
-loop-i-smaller c = omega arith
-
 pub loop-i-preserved : goal.loop-i-preserved
 loop-i-preserved c =
     let t = c.args.t.now in (

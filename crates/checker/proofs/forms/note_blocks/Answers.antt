@@ -5,16 +5,10 @@ use Rattle.checker.proofs.FormsLaws.{blocks_none, blocks_more, blocks_all}
 use Rattle.checker.proofs.forms.note_blocks.Goals as goal
 
 pub loop-b-init : goal.loop-b-init
-loop-b-init c = let args = c.args in (omega arith, blocks_none (decode_function args.t.now args.a), omega arith)
+loop-b-init c = let args = c.args in (omega arith, blocks_none (decode_function args.t.now args.a), tt)
 
 pub note_block-x-requires : goal.note_block-x-requires
 note_block-x-requires c = record { rows_ranged = c.requires.rows_ranged; b_bound = (omega arith, c.loop-b.invariant.2) }
-
-pub overflow_add-b : goal.overflow_add-b
-overflow_add-b c = omega arith
-
-pub loop-b-smaller : goal.loop-b-smaller
-loop-b-smaller c = omega arith
 
 pub loop-b-preserved : goal.loop-b-preserved
 loop-b-preserved c =

@@ -29,5 +29,5 @@ block_name-requires c = (omega arith, omega arith)
 pub returns : goal.returns
 returns c =
     let args = c.args in
-    entry_unnamed args.t.now args.a (omega arith) (omega arith) (omega arith) (omega arith) (omega arith) (omega arith) c.block_name.result.now
+    c.is_empty.ensures ∙ entry_unnamed args.t.now args.a (omega arith) (omega arith) (omega arith) (omega arith) (omega arith) (omega arith) c.block_name.result.now
     (c.block_name.ensures ∙ ap (block_name args.t.now args.a) c.function_entry-entry.ensures.0)

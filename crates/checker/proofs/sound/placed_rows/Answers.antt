@@ -10,8 +10,8 @@ loop-b-init c = let args = c.args in no_blocks args.t.now args.a
 pub block_first-requires : goal.block_first-requires
 block_first-requires c = (omega arith, omega arith)
 
-pub returns-then-block_first-n : goal.returns-then-block_first-n
-returns-then-block_first-n c =
+pub returns-then-block_first-n-clause-rows : goal.returns-then-block_first-n-clause-rows
+returns-then-block_first-n-clause-rows c =
     let args = c.args in
     block_misplaced args.t.now args.a c.loop-b.invariant (omega arith) (λ e. c.if-block_first-n.true (c.block_first.ensures.0 ∙ e))
 
@@ -21,16 +21,10 @@ block_rows-n-requires c = (omega arith, omega arith)
 pub overflow_add-n : goal.overflow_add-n
 overflow_add-n c = omega arith
 
-pub returns-then-n-gt-MAX_ROWS : goal.returns-then-n-gt-MAX_ROWS
-returns-then-n-gt-MAX_ROWS c =
+pub returns-then-n-gt-MAX_ROWS-clause-rows : goal.returns-then-n-gt-MAX_ROWS-clause-rows
+returns-then-n-gt-MAX_ROWS-clause-rows c =
     let args = c.args in
     rows_too_many args.t.now args.a c.loop-b.invariant (omega arith) (omega arith)
-
-pub overflow_add-b : goal.overflow_add-b
-overflow_add-b c = omega arith
-
-pub loop-b-smaller : goal.loop-b-smaller
-loop-b-smaller c = omega arith
 
 pub loop-b-preserved : goal.loop-b-preserved
 loop-b-preserved c =
@@ -41,7 +35,7 @@ loop-b-preserved c =
     subst (λ m. Blocks args.t.now args.a (b + 1) (n + m)) (sym rows)
     (block_more args.t.now args.a c.loop-b.invariant (omega arith) (sym c.block_first.ensures.0 ∙ c.if-block_first-n.false) (omega arith))
 
-pub returns : goal.returns
-returns c =
+pub returns-clause-rows : goal.returns-clause-rows
+returns-clause-rows c =
     let args = c.args in
     blocks_placed_law args.t.now args.a c.loop-b.invariant (omega arith)

@@ -1,10 +1,6 @@
 -- The loop's invariant: the rows passed have right numbers, and `entries` phi entries.
-use Prim.Native.Nat.{◌-◌}
 use Rattle.checker.proofs.RowsLaws.{Rows}
 use Rattle.checker.proofs.sound.rows_right.Given as goal
 
 abbrev pub invariant-loop-k : goal.invariant-loop-k
 invariant-loop-k l = Rows l.t l.a l.k l.entries
-
-abbrev pub decreases-loop-k : goal.decreases-loop-k
-decreases-loop-k l = l.rows - l.k

@@ -5,8 +5,8 @@ use Rattle.checker.proofs.TestLaws.{fell, held}
 use Rattle.checker.proofs.SoundLaws.{head_counts, placed_right, rows_among, head_fails, types_fail, blocks_fail, rows_fail, lists_fail, names_fail, none_fails}
 use Rattle.checker.proofs.sound.sound_rows.Goals as goal
 
-pub returns-then-not-head_right : goal.returns-then-not-head_right
-returns-then-not-head_right c =
+pub returns-then-not-head_right-clause-rows : goal.returns-then-not-head_right-clause-rows
+returns-then-not-head_right-clause-rows c =
     let args = c.args in
     head_fails args.t.now args.i args.a (fell c.head_right.ensures c.if-not-head_right.true-raw)
 
@@ -15,41 +15,42 @@ types_right-requires c =
     let counts = head_counts c.args.t.now c.args.a (held c.head_right.ensures c.if-not-head_right.false-raw) in
     (omega arith, omega arith, omega arith)
 
-pub returns-then-not-types_right : goal.returns-then-not-types_right
-returns-then-not-types_right c =
+pub returns-then-not-types_right-clause-rows : goal.returns-then-not-types_right-clause-rows
+returns-then-not-types_right-clause-rows c =
     let args = c.args in
     types_fail args.t.now args.i args.a (held c.head_right.ensures c.if-not-head_right.false-raw) (fell c.types_right.ensures c.if-not-types_right.true-raw)
 
-pub placed_rows-rows-requires : goal.placed_rows-rows-requires
-placed_rows-rows-requires c =
+pub placed_rows-requires : goal.placed_rows-requires
+placed_rows-requires c =
     let counts = head_counts c.args.t.now c.args.a (held c.head_right.ensures c.if-not-head_right.false-raw) in
     (omega arith, omega arith, omega arith)
 
-pub returns-then-rows-gt-MAX_ROWS : goal.returns-then-rows-gt-MAX_ROWS
-returns-then-rows-gt-MAX_ROWS c =
+pub returns-in_err-rows-clause-rows : goal.returns-in_err-rows-clause-rows
+returns-in_err-rows-clause-rows c =
     let args = c.args in
-    blocks_fail args.t.now args.i args.a (held c.head_right.ensures c.if-not-head_right.false-raw) (held c.types_right.ensures c.if-not-types_right.false-raw) (omega arith)
+    rw c.from_residual.ensures
+    (blocks_fail args.t.now args.i args.a (held c.head_right.ensures c.if-not-head_right.false-raw) (held c.types_right.ensures c.if-not-types_right.false-raw) (omega (arith, c.in_err-rows.ensures.rows)))
 
 pub rows_right-requires : goal.rows_right-requires
 rows_right-requires c =
-    let rows = placed_right c.args.t.now c.args.a (omega arith) in
-    record { in_table = (omega arith, omega arith, omega arith); rows_value = (c.placed_rows-rows.ensures ∙ rows.1, omega arith) }
+    let rows = placed_right c.args.t.now c.args.a (omega (arith, c.in_ok-rows.ensures.rows, c.in_ok-rows.ensures.few)) in
+    record { in_table = (omega arith, omega arith, omega arith); rows_value = (c.in_ok-rows.ensures.rows ∙ rows.1, c.in_ok-rows.ensures.few) }
 
-pub returns-then-not-rows_right : goal.returns-then-not-rows_right
-returns-then-not-rows_right c =
+pub returns-then-not-rows_right-clause-rows : goal.returns-then-not-rows_right-clause-rows
+returns-then-not-rows_right-clause-rows c =
     let args = c.args in
-    rows_fail args.t.now args.i args.a (held c.head_right.ensures c.if-not-head_right.false-raw) (held c.types_right.ensures c.if-not-types_right.false-raw) (omega arith)
+    rows_fail args.t.now args.i args.a (held c.head_right.ensures c.if-not-head_right.false-raw) (held c.types_right.ensures c.if-not-types_right.false-raw) (omega (arith, c.in_ok-rows.ensures.rows, c.in_ok-rows.ensures.few))
     (fell c.rows_right.ensures c.if-not-rows_right.true-raw)
 
 pub predecessors_kept-requires : goal.predecessors_kept-requires
 predecessors_kept-requires c =
     let counts = head_counts c.args.t.now c.args.a (held c.head_right.ensures c.if-not-head_right.false-raw) in
-    record { in_table = (omega arith, omega arith, omega arith); by_index = λ b l. rows_among c.args.t.now c.args.a (omega arith) b (omega arith) }
+    record { in_table = (omega arith, omega arith, omega arith); by_index = λ b l. rows_among c.args.t.now c.args.a (omega (arith, c.in_ok-rows.ensures.rows, c.in_ok-rows.ensures.few)) b (omega arith) }
 
-pub returns-then-not-predecessors_kept : goal.returns-then-not-predecessors_kept
-returns-then-not-predecessors_kept c =
+pub returns-then-not-predecessors_kept-clause-rows : goal.returns-then-not-predecessors_kept-clause-rows
+returns-then-not-predecessors_kept-clause-rows c =
     let args = c.args in
-    lists_fail args.t.now args.i args.a (held c.head_right.ensures c.if-not-head_right.false-raw) (held c.types_right.ensures c.if-not-types_right.false-raw) (omega arith)
+    lists_fail args.t.now args.i args.a (held c.head_right.ensures c.if-not-head_right.false-raw) (held c.types_right.ensures c.if-not-types_right.false-raw) (omega (arith, c.in_ok-rows.ensures.rows, c.in_ok-rows.ensures.few))
     (held c.rows_right.ensures c.if-not-rows_right.false-raw)
     (fell c.predecessors_kept.ensures c.if-not-predecessors_kept.true-raw)
 
@@ -58,19 +59,19 @@ names_right-requires c =
     let counts = head_counts c.args.t.now c.args.a (held c.head_right.ensures c.if-not-head_right.false-raw) in
     record { t_len = c.requires; registers_value = (omega arith, omega arith, omega arith, omega arith) }
 
-pub returns-then-not-names_right : goal.returns-then-not-names_right
-returns-then-not-names_right c =
+pub returns-then-not-names_right-clause-rows : goal.returns-then-not-names_right-clause-rows
+returns-then-not-names_right-clause-rows c =
     let args = c.args in
-    names_fail args.t.now args.i args.a (held c.head_right.ensures c.if-not-head_right.false-raw) (held c.types_right.ensures c.if-not-types_right.false-raw) (omega arith)
+    names_fail args.t.now args.i args.a (held c.head_right.ensures c.if-not-head_right.false-raw) (held c.types_right.ensures c.if-not-types_right.false-raw) (omega (arith, c.in_ok-rows.ensures.rows, c.in_ok-rows.ensures.few))
     (held c.rows_right.ensures c.if-not-rows_right.false-raw)
     (held c.predecessors_kept.ensures c.if-not-predecessors_kept.false-raw)
     (fell c.names_right.ensures c.if-not-names_right.true-raw)
 
-pub returns : goal.returns
-returns c =
+pub returns-clause-rows : goal.returns-clause-rows
+returns-clause-rows c =
     let args = c.args in
-    c.placed_rows-rows.ensures
-    ∙ none_fails args.t.now args.i args.a (held c.head_right.ensures c.if-not-head_right.false-raw) (held c.types_right.ensures c.if-not-types_right.false-raw) (omega arith)
+    c.in_ok-rows.ensures.rows
+    ∙ none_fails args.t.now args.i args.a (held c.head_right.ensures c.if-not-head_right.false-raw) (held c.types_right.ensures c.if-not-types_right.false-raw) (omega (arith, c.in_ok-rows.ensures.rows, c.in_ok-rows.ensures.few))
     (held c.rows_right.ensures c.if-not-rows_right.false-raw)
     (held c.predecessors_kept.ensures c.if-not-predecessors_kept.false-raw)
     (held c.names_right.ensures c.if-not-names_right.false-raw)

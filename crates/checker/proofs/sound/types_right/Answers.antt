@@ -23,12 +23,6 @@ returns-then-register_type-ge-COUNT c =
     (all_below_not (λ r. ltb (register_type args.t.now args.a r) 10) (register_count args.t.now args.a) i (omega arith)
     (le-ltb (register_type args.t.now args.a i) 10 (omega arith)))
 
-pub overflow_add-i : goal.overflow_add-i
-overflow_add-i c = omega arith
-
-pub loop-i-smaller : goal.loop-i-smaller
-loop-i-smaller c = omega arith
-
 pub loop-i-preserved : goal.loop-i-preserved
 loop-i-preserved c =
     let args = c.args in
