@@ -12,7 +12,7 @@ use Rattle.laws.proofs.Tests.{of_true}
 use Rattle.laws.proofs.Sums.{sum_below_le}
 use Rattle.language.specs.Table.{register_count, block_count, block_first, block_rows, row_count, blocks_placed, predecessors_kept}
 use Rattle.language.proofs.TableView.{sequence_first}
-use Rattle.checker.specs.Parts.{head_right, types_right, blocks_right, placed_rows, rows_right, all_names_right, sound_at, sound_rows}
+use Rattle.checker.specs.Parts.{head_right, types_right, blocks_right, placed_rows, rows_right, all_names_right, sound_at}
 use Rattle.language.specs.Programs.{max_rows, max_blocks, max_registers}
 
 -- the counts that the head allows
@@ -51,55 +51,31 @@ rows_among t a h b l =
     omega (arith, sequence_first t a placed b l, sum_below_le (block_rows t a) b (block_count t a) l)
 
 module _ (t : List ℕ) (i a : ℕ) where
-  pub head_fails : head_right t a ≡ false → suc max_rows ≡ sound_rows t i a
-  unfolding sound_rows sound_at
+  pub head_fails : head_right t a ≡ false → false ≡ sound_at t i a
+  unfolding sound_at
   head_fails e = rw e
 
   module _ (head : head_right t a ≡ true) where
-    pub types_fail : types_right t a ≡ false → suc max_rows ≡ sound_rows t i a
-    unfolding sound_rows sound_at
+    pub types_fail : types_right t a ≡ false → false ≡ sound_at t i a
+    unfolding sound_at
     types_fail e = rw (head, e)
 
     module _ (types : types_right t a ≡ true) where
-      pub blocks_fail : max_rows < placed_rows t a → suc max_rows ≡ sound_rows t i a
-      unfolding sound_rows sound_at
+      pub blocks_fail : max_rows < placed_rows t a → false ≡ sound_at t i a
+      unfolding sound_at
       blocks_fail h = rw (head, types, placed_wrong t a h)
 
       module _ (placed : placed_rows t a ≤ max_rows) where
-        pub rows_fail : rows_right t a ≡ false → suc max_rows ≡ sound_rows t i a
-        unfolding sound_rows sound_at
+        pub rows_fail : rows_right t a ≡ false → false ≡ sound_at t i a
+        unfolding sound_at
         rows_fail e = rw (head, types, (placed_right t a placed).0, e)
 
         module _ (rows : rows_right t a ≡ true) where
-          pub lists_fail : predecessors_kept t a ≡ false → suc max_rows ≡ sound_rows t i a
-          unfolding sound_rows sound_at
+          pub lists_fail : predecessors_kept t a ≡ false → false ≡ sound_at t i a
+          unfolding sound_at
           lists_fail e = rw (head, types, (placed_right t a placed).0, rows, e)
 
           module _ (lists : predecessors_kept t a ≡ true) where
-            pub names_fail : all_names_right t i a ≡ false → suc max_rows ≡ sound_rows t i a
-            unfolding sound_rows sound_at
-            names_fail e = rw (head, types, (placed_right t a placed).0, rows, lists, e)
-
-            pub none_fails : all_names_right t i a ≡ true → placed_rows t a ≡ sound_rows t i a
-            unfolding sound_rows sound_at
-            none_fails e = rw (head, types, (placed_right t a placed).0, rows, lists, e) (placed_right t a placed).1
-
-  -- 9 does not hold, or it does
-  pub is_sound : sound_rows t i a ≤ max_rows → (sound_at t i a ≡ true) × (sound_rows t i a ≡ row_count t a)
-  unfolding sound_rows
-  is_sound h = by (sound_at t i a) h
-    where
-      by : (b : Bool) → cond b (row_count t a) (suc max_rows) ≤ max_rows → (b ≡ true) × (cond b (row_count t a) (suc max_rows) ≡ row_count t a)
-      by true h = (refl, refl)
-      by false h = absurd (omega arith)
-
-  pub not_sound : max_rows < sound_rows t i a → sound_at t i a ≡ false
-  unfolding sound_rows sound_at blocks_right
-  not_sound h = by (sound_at t i a) few h
-    where
-      few : T (sound_at t i a) → row_count t a ≤ max_rows
-      few w = search (and_l, and_r, leb→le) depth 9
-
-      by : (b : Bool) → (T b → row_count t a ≤ max_rows) → max_rows < cond b (row_count t a) (suc max_rows) → b ≡ false
-      by true w h = absurd (let l = w tt in omega arith)
-      by false w h = refl
+            pub none_fails : all_names_right t i a ≡ sound_at t i a
+            unfolding sound_at
+            none_fails = rw (head, types, (placed_right t a placed).0, rows, lists)

@@ -62,7 +62,3 @@ all_names_right t i a =
 -- All of it.
 unfoldable pub sound_at : List ℕ → ℕ → ℕ → Bool
 sound_at t i a = head_right t a && (types_right t a && (blocks_right t a && (rows_right t a && (predecessors_kept t a && all_names_right t i a))))
-
--- How many rows the function has if so; else one more than there may be.
-unfoldable pub sound_rows : List ℕ → ℕ → ℕ → ℕ
-sound_rows t i a = cond (sound_at t i a) (row_count t a) (suc max_rows)

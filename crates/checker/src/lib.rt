@@ -3,7 +3,7 @@
 
 ghost use Rattle.std.specs.Prelude.{◌≡◌, [], ◌∷◌, ◌<◌, T, length};
 ghost use Rattle.language.specs.Programs.{is_ssa, max_functions};
-ghost use Rattle.language.specs.Table.{function_at, row_count, decode_function, table_length};
+ghost use Rattle.language.specs.Table.{function_at, decode_function, table_length};
 ghost use Rattle.language.specs.Checking.{breaks17, rows_that, first_fault, judge};
 ghost use Rattle.language.specs.Answers.{check_answer};
 ghost use Rattle.flow.specs.Layout.{flow_length};
@@ -20,20 +20,19 @@ use answers::{Verdict, row_place};
 use flow::FLOW_LENGTH;
 use forms::{note_blocks, prepare_ssa};
 use paths::first_late;
-use sound::sound_rows;
+use sound::sound_at;
 use table::{MAX_FUNCTIONS, TABLE_LENGTH, block_count, function_at, function_count, function_ssa};
 
 // 17 of function i, where it breaks none of 9 to 16.
-fn check_paths(t: &[u8], i: usize, a: usize, m: &[u16], rows: usize) -> Verdict
-    requires sized { Sized t.now a × SsaPrepared (decode_function t.now a) m.now × (i < max_functions) × (rows ≡ row_count t.now a) }
+fn check_paths(t: &[u8], i: usize, a: usize, m: &[u16]) -> Verdict
+    requires sized { Sized t.now a × SsaPrepared (decode_function t.now a) m.now × (i < max_functions) }
     requires formed { T (is_ssa (decode_function t.now a)) → Formed (decode_function t.now a) }
     ensures { verdict_of result ≡ first_fault i 17 (rows_that (decode_function t.now a) (breaks17 (decode_function t.now a)) ∷ []) }
 {
     if function_ssa(t, a) != 1 {
         return Verdict::Accepted;
     }
-    let row = first_late(t, a, m);
-    if row < rows {
+    if let Some(row) = first_late(t, a, m) {
         return Verdict::Refused(17, row_place(i, row));
     }
     Verdict::Accepted
@@ -45,15 +44,15 @@ fn check_function(t: &[u8], i: usize, m: &mut [u16]) -> Verdict
     ensures { verdict_of result ≡ judge (table_names_before t.now i) i (decode_function t.now (function_at i)) }
 {
     let a = function_at(i);
-    let Some(rows) = sound_rows(t, i, a) else {
+    if !sound_at(t, i, a) {
         return Verdict::Refused(9, i);
-    };
+    }
     prepare_ssa(t, a, m);
     let low = note_blocks(t, a, m, block_count(t, a));
     if let Some(fault) = low {
         return Verdict::Refused(u8::from(fault.reason), row_place(i, fault.row));
     }
-    check_paths(t, i, a, m, rows)
+    check_paths(t, i, a, m)
 }
 
 // The check of any lent table: 9 at 0 for another length or too many functions, then each function.

@@ -2,7 +2,7 @@
 ghost use Rattle.std.specs.Prelude.{◌≡◌, ◌+◌, ◌<◌, ◌≤◌, IfSome, MatchOption, length, unwrap_or};
 ghost use Rattle.laws.specs.Lists.{any, same};
 ghost use Rattle.language.specs.Table.{register_count, block_count, function_name, row_count, InTable, table_length};
-ghost use Rattle.checker.specs.Parts.{table_names_before, head_right, types_right, placed_rows, entries_after, rows_right, listed_right, all_names_right, sound_rows};
+ghost use Rattle.checker.specs.Parts.{table_names_before, head_right, types_right, placed_rows, entries_after, rows_right, listed_right, all_names_right, sound_at};
 ghost use Rattle.language.specs.Programs.{max_rows, max_entries, max_blocks, max_registers, max_functions};
 ghost use Rattle.table.specs.Named.{NamesWithin};
 
@@ -154,29 +154,27 @@ fn names_right(t: &[u8], i: usize, a: usize, registers: usize, blocks: usize) ->
     listed_right(t, a + BLOCK_NAMES_OFFSET, BLOCK_LENGTH, blocks)
 }
 
-// How many rows the function has, if 9 does not hold of it.
-pub fn sound_rows(t: &[u8], i: usize, a: usize) -> Option<usize>
+// 9 does not hold of the function.
+pub fn sound_at(t: &[u8], i: usize, a: usize) -> bool
     requires { (length t.now ≡ table_length) × (i < max_functions) × (InTable t.now a) }
-    ensures rows { unwrap_or result (max_rows + 1) ≡ sound_rows t.now i a }
-    ensures few { IfSome result (λ n. n ≤ max_rows) }
+    ensures { result ≡ sound_at t.now i a }
 {
     if !head_right(t, a) {
-        return None;
+        return false;
     }
     let registers = register_count(t, a);
     let blocks = block_count(t, a);
     if !types_right(t, a, registers) {
-        return None;
+        return false;
     }
-    let rows = placed_rows(t, a, blocks)?;
+    let Some(rows) = placed_rows(t, a, blocks) else {
+        return false;
+    };
     if !rows_right(t, a, registers, blocks, rows) {
-        return None;
+        return false;
     }
     if !predecessors_kept(t, a, blocks) {
-        return None;
+        return false;
     }
-    if !names_right(t, i, a, registers, blocks) {
-        return None;
-    }
-    Some(rows)
+    names_right(t, i, a, registers, blocks)
 }

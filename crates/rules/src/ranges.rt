@@ -64,6 +64,7 @@ fn phi_in_range(t: &[u8], a: usize, registers: usize, k: usize) -> bool
         )
 }
 
+// Kept, plainer: `jump_in_range` and `return_in_range` are a comparison each, of another cell with another count, and promise it of another form.
 fn jump_in_range(t: &[u8], a: usize, blocks: usize, k: usize) -> bool
     requires { (InTable t.now a) × (blocks ≡ block_count t.now a) × (k < max_rows) }
     ensures { result ≡ in_range (decode_function t.now a) (decode_as Form.jump t.now a k) }
