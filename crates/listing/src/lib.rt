@@ -77,12 +77,9 @@ pub fn list_program(t: &[u8], out: &mut [u8]) -> usize
     requires { (length t.now ≡ table_length) × (check (decode t.now) ≡ Verdict.accepted) × (listing_most ≤ length out.old) }
     ensures { Written out.old 0 (listing_of (decode t.now)) out.new result × (result ≤ listing_most) }
 {
-    let n = function_count(t);
     let mut at = 0;
-    let mut i = 0;
-    while i < n {
+    for i in 0..function_count(t) {
         at = put_line(t, function_at(i), out, at);
-        i += 1;
     }
     at
 }

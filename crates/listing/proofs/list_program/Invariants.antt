@@ -6,7 +6,4 @@ use Rattle.listing.specs.Lines.{line_most}
 use Rattle.listing.proofs.list_program.Given as goal
 
 abbrev pub invariant-loop-i : goal.invariant-loop-i
-invariant-loop-i l = (l.i ≤ l.n) × (l.at ≤ line_most * l.i) × Written l.initial.out 0 (lines_of l.t l.i) l.out l.at
-
-abbrev pub decreases-loop-i : goal.decreases-loop-i
-decreases-loop-i l = l.n - l.i
+invariant-loop-i l = (l.at ≤ line_most * l.i) × Written l.initial.out 0 (lines_of l.t l.i) l.out l.at
