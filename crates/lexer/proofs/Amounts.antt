@@ -2,51 +2,41 @@
 -- Assumes nothing.
 use mathlib.Core.Bool.{Bool, true, false, cond}
 use mathlib.Core.Path.{◌≡◌, refl, ap}
-use Prim.Native.Nat.{ℕ, ◌+◌, ◌-◌, ◌*◌, ◌/◌, ◌≤◌, ◌<◌}
-use native.Mathlib.Nat.{le-div_iff_mul-le, div-lt_iff_lt-mul, mul_comm, mul-le-mul_right}
+use Prim.Native.Nat.{ℕ, ◌+◌, ◌*◌, ◌≤◌, ◌<◌}
+use native.Mathlib.Nat.{mul_comm, mul-le-mul_right}
 use native.Mathlib.Omega.{arith}
 use lib.Dec.{ltb}
-use borrow.Author.Tests.{lt-ltb, le-ltb, ltb-true, ltb-false}
+use borrow.Author.Tests.{lt-ltb, le-ltb, ltb-false}
+use Rattle.std.specs.Prelude.{Option, Some, None, unwrap_or, is_some, IfSome, SomeIff}
 use Rattle.instructions.specs.Ranges.{beyond}
-use Rattle.lexer.specs.Numbers.{amount_from, amount_of, grown_at}
-use Rattle.lexer.specs.declared.values.Amount.{Amount}
-
-module _ (base v d : ℕ) (pos : 0 < base) (small : d < 256) where
-  -- below the quotient the sum fits
-  pub sum_fits : v ≤ (18446744073709551615 - d) / base → base * v + d < 18446744073709551616
-  sum_fits h =
-      let k : v * base ≤ 18446744073709551615 - d = (le-div_iff_mul-le pos).0 h in
-      omega (arith, mul_comm base v)
-
-  pub sum_over : (18446744073709551615 - d) / base < v → 18446744073709551616 ≤ base * v + d
-  sum_over h =
-      let k : 18446744073709551615 - d < v * base = (div-lt_iff_lt-mul pos).0 h in
-      omega (arith, mul_comm base v)
+use Rattle.lexer.specs.Numbers.{amount_of, grown_at}
 
 -- one digit more
-pub grown_amount : (v : ℕ) (o : Bool) (n base d : ℕ) → 0 < base → d < 256 → amount_from v o ≡ amount_of n
-    → grown_at v o base d ≡ amount_of (base * n + d)
-unfolding amount_of grown_at
-grown_amount v o n base d pos small e = by (ltb n beyond) refl e
+pub grown_amount : (v : Option ℕ) (n base d : ℕ) → 0 < base → v ≡ amount_of n → grown_at v base d ≡ amount_of (base * n + d)
+unfolding amount_of
+grown_amount v n base d pos e = rw e (by (ltb n beyond) refl)
   where
-    over : Amount → Bool
-    over x = x.over
-
     many : 18446744073709551616 ≤ n → 18446744073709551616 ≤ base * n + d
     many h = omega (arith, mul-le-mul_right n pos)
 
-    small_sum : (t : Bool) → ltb ((18446744073709551615 - d) / base) n ≡ t
-        → cond t (amount_from 0 true) (amount_from (base * n + d) false) ≡ cond (ltb (base * n + d) beyond) (amount_from (base * n + d) false) (amount_from 0 true)
-    small_sum true q = rw (le-ltb (base * n + d) beyond (sum_over base n d pos small (ltb-true _ _ q)))
-    small_sum false q = rw (lt-ltb (base * n + d) beyond (sum_fits base n d pos small (ltb-false _ _ q)))
+    by : (t : Bool) → ltb n beyond ≡ t
+        → grown_at (cond t (Some n) None) base d ≡ cond (ltb (base * n + d) beyond) (Some (base * n + d)) None
+    by true q = refl
+    by false q = rw (le-ltb (base * n + d) beyond (many (ltb-false n beyond q)))
 
-    by : (t : Bool) → ltb n beyond ≡ t → amount_from v o ≡ cond t (amount_from n false) (amount_from 0 true)
-        → cond o (amount_from 0 true) (cond (ltb ((18446744073709551615 - d) / base) v) (amount_from 0 true) (amount_from (base * v + d) false))
-        ≡ cond (ltb (base * n + d) beyond) (amount_from (base * n + d) false) (amount_from 0 true)
-    by true q f =
-        let a : o ≡ false = ap (λ (x : Amount). x.over) f in
-        let b : v ≡ n = ap (λ (x : Amount). x.value) f in
-        rw (a, b) (small_sum (ltb ((18446744073709551615 - d) / base) n) refl)
-    by false q f =
-        let a : o ≡ true = ap (λ (x : Amount). x.over) f in
-        rw (a, le-ltb (base * n + d) beyond (many (ltb-false n beyond q)))
+-- a digit's value is below 16, and another byte's is 16
+pub hex_test : (o : Option ℕ) (n : ℕ) → unwrap_or o 16 ≡ n → IfSome o (λ d. d < 16) → ltb n 16 ≡ is_some o
+hex_test None n e h = rw (← e)
+hex_test (Some d) n e h = rw (← e, lt-ltb d 16 h)
+
+-- one digit more, as the code computes it: the product is too large, or the sum is kept if it is not
+module _ (v base d : ℕ) where
+  pub product_over : (v * base < 18446744073709551616 → ⊥) → None ≡ amount_of (base * v + d)
+  unfolding amount_of
+  product_over h = rw (le-ltb (base * v + d) beyond (omega (arith, mul_comm base v, h)))
+
+  pub sum_kept : (m : ℕ) (r : Option ℕ) → (v * base < 18446744073709551616) × (m ≡ v * base) → SomeIff r (m + d < 18446744073709551616) (m + d)
+      → r ≡ amount_of (base * v + d)
+  unfolding amount_of
+  sum_kept m None p h = rw (le-ltb (base * v + d) beyond (omega (arith, mul_comm base v, p.1, h)))
+  sum_kept m (Some x) p h = rw (lt-ltb (base * v + d) beyond (omega (arith, mul_comm base v, p.1, h.0))) (ap Some (omega (arith, mul_comm base v, p.1, h.1)))

@@ -1,5 +1,4 @@
 pub mod Amounts
-pub mod Gathering
 pub mod Acting
 pub mod Standing
 pub mod Stepping

@@ -1,8 +1,10 @@
--- What the lexer's numbers stand for: the definition's lexer and what it finds (document 01, "The text"). Assumes nothing.
-use Rattle.std.specs.Prelude.{Bool, false, cond, List, [], ◌∷◌, ◌++◌, ◌≡◌, ℕ, ◌+◌, ◌-◌, ◌*◌, ◌≤◌, ◌<◌, eqb, length, take, drop}
+-- What the code's lexer stands for: the definition's lexer and what it finds (document 01, "The text"). Assumes nothing.
+use Rattle.std.specs.Prelude.{Bool, false, List, [], ◌∷◌, ◌++◌, ◌≡◌, ℕ, ◌+◌, ◌-◌, ◌*◌, ◌≤◌, ◌<◌, length, take, drop, Option, Some, unwrap_or}
 use Rattle.language.specs.Programs.{max_name}
 use Rattle.language.specs.Tokens as meaning
 use Rattle.language.specs.Tokens.{name_or_word, tokens_from}
+use Rattle.lexer.specs.declared.modes.Mode.{Mode}
+use Rattle.lexer.specs.declared.modes.Mode.TheVariants as modes
 use Rattle.lexer.specs.declared.Lexer.{Lexer}
 use Rattle.text_place.specs.declared.TextPlace.{TextPlace}
 use Rattle.lexer.specs.declared.Lexeme.{Lexeme}
@@ -10,16 +12,20 @@ use Rattle.lexer.specs.declared.Lexeme.TheVariants as lexemes
 use Rattle.lexer.specs.declared.Found.{Found}
 use Rattle.lexer.specs.declared.Found.TheVariants as founds
 use Rattle.lexer.specs.declared.Lexed.{Lexed}
-use Rattle.lexer.specs.Numbers.{amount_from, amount_of}
+use Rattle.lexer.specs.Numbers.{amount_of}
 use Rattle.lexer.specs.Contents.{gathered_place, contents_in}
-use Rattle.lexer.specs.Actions.{mode_number}
+use Rattle.lexer.specs.Actions.{mode_as}
 
-abbrev pub lexer_from : (mode next start : ℕ) (negative : Bool) (value : ℕ) (over : Bool) → Lexer
-lexer_from m n s g v o = record { mode = m; next = n; start = s; negative = g; value = v; over = o }
+abbrev pub lexer_from : Mode → (next start : ℕ) (negative : Bool) (value : Option ℕ) → Lexer
+lexer_from m n s g v = record { mode = m; next = n; start = s; negative = g; value = v }
 
 -- Between tokens or in a comment, before the byte at p.
-abbrev pub idle_at : (mode place : ℕ) → Lexer
-idle_at m p = lexer_from m p p false 0 false
+abbrev pub idle_at : Mode → (place : ℕ) → Lexer
+idle_at m p = lexer_from m p p false (Some 0)
+
+-- How many bytes of a name's contents are gathered.
+abbrev pub kept_of : Option ℕ → ℕ
+kept_of v = unwrap_or v 0
 
 abbrev pub lexed_from : Lexer → Found → Lexed
 lexed_from l f = record { lexer = l; found = f }
@@ -27,7 +33,7 @@ lexed_from l f = record { lexer = l; found = f }
 abbrev pub place_at : ℕ → TextPlace
 place_at p = record { byte = p }
 
--- ---- what the numbers stand for
+-- ---- what it stands for
 
 -- The contents of a name; in another mode there are none.
 abbrev pub held : meaning.Mode → List ℕ → List ℕ
@@ -62,35 +68,35 @@ Sized meaning.Mode.prefix n = Unit {0}
 Sized meaning.Mode.hexadecimal n = Unit {0}
 
 -- What is kept of a number's value; a name has none.
-abbrev pub Valued : meaning.Mode → (value : ℕ) (over : Bool) → ℕ → Type 0
-Valued meaning.Mode.between v o n = amount_from v o ≡ amount_of n
-Valued meaning.Mode.plain v o n = Unit {0}
-Valued meaning.Mode.quoted v o n = Unit {0}
-Valued meaning.Mode.escaping v o n = Unit {0}
-Valued meaning.Mode.slash v o n = amount_from v o ≡ amount_of n
-Valued meaning.Mode.comment v o n = amount_from v o ≡ amount_of n
-Valued meaning.Mode.sign v o n = amount_from v o ≡ amount_of n
-Valued meaning.Mode.leading_zero v o n = amount_from v o ≡ amount_of n
-Valued meaning.Mode.decimal v o n = amount_from v o ≡ amount_of n
-Valued meaning.Mode.prefix v o n = amount_from v o ≡ amount_of n
-Valued meaning.Mode.hexadecimal v o n = amount_from v o ≡ amount_of n
+abbrev pub Valued : meaning.Mode → (value : Option ℕ) → ℕ → Type 0
+Valued meaning.Mode.between v n = v ≡ amount_of n
+Valued meaning.Mode.plain v n = Unit {0}
+Valued meaning.Mode.quoted v n = Unit {0}
+Valued meaning.Mode.escaping v n = Unit {0}
+Valued meaning.Mode.slash v n = v ≡ amount_of n
+Valued meaning.Mode.comment v n = v ≡ amount_of n
+Valued meaning.Mode.sign v n = v ≡ amount_of n
+Valued meaning.Mode.leading_zero v n = v ≡ amount_of n
+Valued meaning.Mode.decimal v n = v ≡ amount_of n
+Valued meaning.Mode.prefix v n = v ≡ amount_of n
+Valued meaning.Mode.hexadecimal v n = v ≡ amount_of n
 
 -- The lexer c stands for the definition's l, with the contents of a name that is open in h.
 pub record Stands (h : List ℕ) (l : meaning.Lexer) (c : Lexer) : Type 0 where
   pub room : length h ≡ max_name
-  pub mode : c.mode ≡ mode_number l.mode
+  pub mode : c.mode ≡ mode_as l.mode
   pub next : c.next ≡ l.next
   pub start : c.start ≡ l.start
-  pub bytes : l.bytes ≡ held l.mode (take c.value h)
-  pub size : Sized l.mode c.value
+  pub bytes : l.bytes ≡ held l.mode (take (kept_of c.value) h)
+  pub size : Sized l.mode (kept_of c.value)
   pub negative : c.negative ≡ l.negative
-  pub amount : Valued l.mode c.value c.over l.value
+  pub amount : Valued l.mode c.value l.value
 
 -- A lexeme, with contents in the text or in h, and the definition's token: a number that is kept as this one. The end is found in no bytes.
 pub data Means (text h : List ℕ) : Lexeme → meaning.Token → Type 0 where
   plain : (s n : ℕ) → Means text h (lexemes.Plain s n) (name_or_word (contents_in text h s n))
   quoted : (s n : ℕ) → Means text h (lexemes.Quoted s n) (meaning.Token.name (contents_in text h s n))
-  number : (g : Bool) (v : ℕ) (o : Bool) (n : ℕ) → amount_from v o ≡ amount_of n → Means text h (lexemes.Number g v o) (meaning.Token.number g n)
+  number : (g : Bool) (v : Option ℕ) (n : ℕ) → v ≡ amount_of n → Means text h (lexemes.Number g v) (meaning.Token.number g n)
   mark : (b : ℕ) → Means text h (lexemes.Mark b) (meaning.Token.mark b)
 
 -- The contents lie in the text or in h, and are a name's by their size.
@@ -102,7 +108,7 @@ pub record Lies (text h : List ℕ) (s n : ℕ) : Type 0 where
 abbrev pub Within : (text h : List ℕ) → Lexeme → Type 0
 Within text h (lexemes.Plain s n) = Lies text h s n
 Within text h (lexemes.Quoted s n) = Lies text h s n
-Within text h (lexemes.Number g v o) = Unit {0}
+Within text h (lexemes.Number g v) = Unit {0}
 Within text h (lexemes.Mark b) = Unit {0}
 Within text h lexemes.End = Unit {0}
 
@@ -141,9 +147,13 @@ pub record Lexes (text : List ℕ) (c : Lexer) (h : List ℕ) (r : Lexed) (h' : 
   pub order : r.lexer.start ≤ r.lexer.next
   pub gives : (l : meaning.Lexer) → Stands h l c → Gives text l c r h'
 
+abbrev pub open_count : Mode → ℕ
+open_count modes.Between = 0
+open_count _ = 1
+
 -- What is left to do: a byte counts two, and one more if something is open, which a byte may end without being passed.
 unfoldable pub left : List ℕ → Lexer → ℕ
-left text c = 2 * (length text - c.next) + cond (eqb c.mode 0) 0 1
+left text c = 2 * (length text - c.next) + open_count c.mode
 
 -- After a scan less is left.
 pub record Scanned (text : List ℕ) (c : Lexer) (h : List ℕ) (r : Lexed) (h' : List ℕ) : Type 0 where
@@ -159,7 +169,7 @@ pub record FindsEnd (l : meaning.Lexer) (c : Lexer) (r : Lexed) : Type 0 where
 pub record FindsLast (text h : List ℕ) (l : meaning.Lexer) (c : Lexer) (r : Lexed) : Type 0 where
   pub one : List meaning.Found
   pub finds : Finds text h r.found one
-  pub idle : r.lexer ≡ idle_at 0 c.next
+  pub idle : r.lexer ≡ idle_at modes.Between c.next
   pub less : left text r.lexer < left text c
   pub after : meaning.Lexer
   pub stands : Stands h after r.lexer

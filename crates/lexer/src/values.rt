@@ -1,76 +1,31 @@
 // Values of digits, and numbers of any length.
-ghost use Rattle.std.specs.Prelude.{◌≡◌, ◌-◌, ◌<◌};
+ghost use Rattle.std.specs.Prelude.{◌≡◌, ◌-◌, ◌<◌, unwrap_or, IfSome};
 ghost use Rattle.language.specs.Bytes.{hex_value};
 ghost use Rattle.lexer.specs.Numbers.{grown_at};
 
-// A number of any size: `over` says that it is 2^64 or more, and then `value` is 0.
-#[derive(Clone, Copy)]
-pub struct Amount {
-    pub value: u64,
-    pub over: bool,
+// The number with one digit more; none for one that is 2^64 or more.
+pub fn grown(value: Option<u64>, base: u64, digit: u64) -> Option<u64>
+    ensures { result ≡ grown_at value base digit }
+{
+    value?.checked_mul(base)?.checked_add(digit)
 }
 
-// The number with one digit more.
-pub fn grown(value: u64, over: bool, base: u64, digit: u64) -> Amount
-    requires { (0 < base) × (digit < 256) }
-    ensures { result ≡ grown_at value over base digit }
+// The value of a hexadecimal digit.
+pub fn hex_value(b: u8) -> Option<u8>
+    ensures value { unwrap_or result 16 ≡ hex_value b }
+    ensures small { IfSome result (λ d. d < 16) }
 {
-    if over {
-        return Amount {
-            value: 0,
-            over: true,
-        };
+    match b {
+        b'0'..=b'9' => Some(b - b'0'),
+        b'A'..=b'F' => Some(b - b'A' + 10),
+        b'a'..=b'f' => Some(b - b'a' + 10),
+        _ => None,
     }
-    if (18446744073709551615 - digit) / base < value {
-        return Amount {
-            value: 0,
-            over: true,
-        };
-    }
-    Amount {
-        value: base * value + digit,
-        over: false,
-    }
-}
-
-// The value of a hexadecimal digit, or 16 for another byte.
-pub fn hex_value(b: u8) -> u8
-    ensures { result ≡ hex_value b }
-{
-    if b < 48 {
-        return 16;
-    }
-    if b < 58 {
-        return b - 48;
-    }
-    if b < 65 {
-        return 16;
-    }
-    if b < 71 {
-        return b - 55;
-    }
-    if b < 97 {
-        return 16;
-    }
-    if b < 103 {
-        return b - 87;
-    }
-    16
 }
 
 // The value of a decimal digit.
-pub fn digit(b: u8) -> u8
+pub fn digit(b: u8) -> u64
     ensures { result ≡ b - 48 }
 {
-    if b < 48 {
-        return 0;
-    }
-    b - 48
-}
-
-// A byte as a number of 64 bits.
-pub fn wide(x: u8) -> u64
-    ensures { (result ≡ x) × (result < 256) }
-{
-    x as u64
+    u64::from(b.saturating_sub(b'0'))
 }

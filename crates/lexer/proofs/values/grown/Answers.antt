@@ -1,31 +1,14 @@
--- `lexer::values::grown`: the quotient's test says whether the sum fits.
-use native.Mathlib.Omega.{arith}
-use Rattle.laws.proofs.Branches.{branches}
-use Rattle.lexer.specs.Numbers.{grown_at}
-use Rattle.lexer.proofs.Amounts.{sum_fits}
+-- `lexer::values::grown`: the product or the sum is 2^64 or more, or the sum is kept.
+use Rattle.lexer.proofs.Amounts.{product_over, sum_kept}
 use Rattle.lexer.proofs.values.grown.Goals as goal
 
-pub returns-then-over : goal.returns-then-over
-unfolding grown_at
-returns-then-over c = search branches
-
-pub returns-then-digit-base : goal.returns-then-digit-base
-unfolding grown_at
-returns-then-digit-base c = search branches
-
-pub overflow_mul-result : goal.overflow_mul-result
-unfolding grown_at
-overflow_mul-result c =
+pub returns-in_err-checked_mul : goal.returns-in_err-checked_mul
+returns-in_err-checked_mul c =
     let a = c.args in
-    let s = sum_fits a.base a.value a.digit c.requires.0 c.requires.1 c.if-digit-base.false in
-    record { fits = omega arith }
-
-pub overflow_add-result : goal.overflow_add-result
-unfolding grown_at
-overflow_add-result c =
-    let a = c.args in
-    record { fits = sum_fits a.base a.value a.digit c.requires.0 c.requires.1 c.if-digit-base.false }
+    rw (c.from_residual-in_err-checked_mul.ensures, c.in_ok-value.was) (product_over c.in_ok-value.field-0 a.base a.digit c.in_err-checked_mul.ensures)
 
 pub returns : goal.returns
-unfolding grown_at
-returns c = search branches
+returns c =
+    let a = c.args in
+    rw c.in_ok-value.was
+    (sum_kept c.in_ok-value.field-0 a.base a.digit c.in_ok-checked_mul.field-0 c.checked_add.result c.in_ok-checked_mul.ensures c.checked_add.ensures)
