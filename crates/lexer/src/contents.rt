@@ -3,6 +3,7 @@ ghost use Rattle.std.specs.Prelude.{◌≡◌, ◌+◌, ◌≤◌, length, set};
 ghost use Rattle.lexer.specs.Contents.{gathered_place, contents_in, counted_at};
 
 // Stands for the place of contents that are no part of the text but gathered beside it. No text has a byte there.
+// Kept, speed: with a flag beside the place, which an Option of it is too, reading was 3 to 10 % slower (docs/DECISIONS.md, 131).
 pub const GATHERED: usize = 18446744073709551615;
 
 // The n bytes of contents that begin at this place of the text, or are gathered.

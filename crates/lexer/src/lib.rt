@@ -269,6 +269,7 @@ impl Lexer {
         ensures { Scanned text.now self held.old result held.new }
     {
         let mut l = self;
+        // Kept, plainer: no index is counted here, the lexer moves itself on.
         while l.next < text.len() {
             let next = l.next;
             let b = text[next];

@@ -107,7 +107,7 @@ module _ (text : List ℕ) where
         of_means : {x : Lexeme} {t : Tokenᴸ} → lexing.Means text h x t → is_end_lexeme x ≡ false
         of_means (lexing.Means.plain s n) = refl
         of_means (lexing.Means.quoted s n) = refl
-        of_means (lexing.Means.number g v o n k) = refl
+        of_means (lexing.Means.number g v n k) = refl
         of_means (lexing.Means.mark b) = refl
     not_end (Finds.stray p) = refl
 

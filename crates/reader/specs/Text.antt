@@ -19,6 +19,7 @@ use Rattle.grammar.specs.declared.Token.{Token}
 use Rattle.lexer.specs.Contents.{gathered_place, contents_in}
 use Rattle.lexer.specs.Lexing as lexing
 use Rattle.lexer.specs.Lexing.{Finds, Scanned, LexerFinished, left, idle_at}
+use Rattle.lexer.specs.declared.modes.Mode.TheVariants as modes
 use Rattle.lexer.specs.declared.Lexer.{Lexer}
 use Rattle.lexer.specs.declared.Lexeme.{Lexeme}
 use Rattle.lexer.specs.declared.Lexeme.TheVariants as lexemes
@@ -42,7 +43,7 @@ use Rattle.reader.specs.declared.reading.Progress.{Progress}
 abbrev pub is_end_lexeme : Lexeme → Bool
 is_end_lexeme (lexemes.Plain s n) = false
 is_end_lexeme (lexemes.Quoted s n) = false
-is_end_lexeme (lexemes.Number g v o) = false
+is_end_lexeme (lexemes.Number g v) = false
 is_end_lexeme (lexemes.Mark b) = false
 is_end_lexeme lexemes.End = true
 
@@ -91,7 +92,7 @@ pub data Nexts (text : List ℕ) (c : Lexer) (h : List ℕ) (r : Lexed) (h' : Li
 
 -- Before the first byte.
 abbrev pub progress_start : Progress
-progress_start = record { lexer = idle_at 0 0; reader = reader_at 0 }
+progress_start = record { lexer = idle_at modes.Between 0; reader = reader_at 0 }
 
 -- What is gathered of an open name is in h.
 pub record LexerAt (text h : List ℕ) (l : Lexerᴸ) (c : Lexer) : Type 0 where
