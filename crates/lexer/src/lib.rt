@@ -182,6 +182,7 @@ impl Lexer {
     {
         let value = match mode {
             Mode::Prefix => Some(0),
+            // Kept, rule: the definition's `hex_value` is 16 for a byte that is no digit (`counted_by`); none comes here.
             Mode::Hexadecimal => {
                 values::grown(
                     self.value,
