@@ -21,7 +21,7 @@ use Rattle.drafts.specs.Mentions.{kept}
 use Rattle.drafts.specs.Cells.{operand_cell, instruction_cells}
 use Rattle.drafts.specs.State.{fault_at, Bounded, Counts, Stands, Lent, lent_of, ActsOn, ActsAlone, Always, NoParts, WholeRow, KeptAs, operand_at, row_at}
 use Rattle.drafts.specs.declared.state.Draft.{Draft}
-use Rattle.std.specs.Prelude.{Ok, Err}
+use Rattle.std.specs.Prelude.{Option, Some, None, Ok, Err}
 use Rattle.answers.specs.declared.reasons.Reason.TheVariants as reasons
 use Rattle.text_place.specs.declared.TextPlace.{TextPlace}
 use Rattle.drafts.proofs.FirstTwo.{Firsts, Pushed, no_firsts}
@@ -175,45 +175,46 @@ module _ {s : Draft} (b : Bounded s) (name : List ℕ) (p : TextPlace) (f last b
 
 -- ---- a load's number
 
-value_exact : {n v : ℕ} {o : Bool} → KeptAs n v o → o ≡ false → v ≡ n
-value_exact KeptAs.exact e = refl
-value_exact (KeptAs.large v h) e = absurd (true≢false e)
+value_exact : {n v : ℕ} {m : Option ℕ} → KeptAs n m → m ≡ Some v → v ≡ n
+value_exact {n} {v} KeptAs.exact e = sym cc
+value_exact (KeptAs.large h) e = absurd cc
 
-value_over : {n v : ℕ} {o : Bool} → KeptAs n v o → o ≡ true → beyond ≤ n
-value_over KeptAs.exact e = absurd (false≢true e)
-value_over (KeptAs.large v h) e = h
+value_over : {n : ℕ} {m : Option ℕ} → KeptAs n m → ((v : ℕ) → m ≡ Some v → ⊥) → beyond ≤ n
+value_over {n} KeptAs.exact e = absurd (e n refl)
+value_over (KeptAs.large h) e = h
 
 -- the low byte of the instruction's number is all of it
 pub kind_known : {s : Draft} → Bounded s → {i k : ℕ} → i ≡ s.parts.op % 256 → k ≡ load_type i → k ≡ load_type s.parts.op
 kind_known b low e = e ∙ ap load_type (low ∙ mod-eq_of_lt b.op)
 
-module _ {s : Draft} (b : Bounded s) (neg : Bool) {v : ℕ} {o : Bool} (p : TextPlace) {k : ℕ} (kind : k ≡ load_type s.parts.op) (n : ℕ) (a : KeptAs n v o) where
-  kind_is : {d : Draftᴸ} {y : Lent} → Stands d s y → k ≡ load_type d.parts.op
-  kind_is h = kind ∙ ap load_type h.counts.parts.op
-
-  pub number_over : o ≡ true → ActsAlone Always (set_number neg n p.byte) s (Err (fault_at reasons.NumberOutOfRange p))
+module _ {s : Draft} (b : Bounded s) (neg : Bool) {m : Option ℕ} (p : TextPlace) (n : ℕ) (a : KeptAs n m) where
+  pub number_over : ((v : ℕ) → m ≡ Some v → ⊥) → ActsAlone Always (set_number neg n p.byte) s (Err (fault_at reasons.NumberOutOfRange p))
   unfolding set_number
   number_over q y = refusing reasons.NumberOutOfRange p (λ d h fit. rw (range_large (load_type d.parts.op) neg n (value_over a q)))
 
-  pub number_refused : o ≡ false → number_in_range k neg v ≡ false → ActsAlone Always (set_number neg n p.byte) s (Err (fault_at reasons.NumberOutOfRange p))
-  unfolding set_number
-  number_refused e q y = refusing reasons.NumberOutOfRange p (λ d h fit. rw (← kind_is h, ← value_exact a e, q))
+  module _ {v k : ℕ} (e : m ≡ Some v) (kind : k ≡ load_type s.parts.op) where
+    kind_is : {d : Draftᴸ} {y : Lent} → Stands d s y → k ≡ load_type d.parts.op
+    kind_is h = kind ∙ ap load_type h.counts.parts.op
 
-  pub number_proceeds : o ≡ false → number_in_range k neg v ≡ true → {r : ℕ} → r ≡ bits_of k neg v
-      → ActsAlone Always (set_number neg n p.byte) s
-      (Ok
-      (held s s.blocks.rows s.blocks.entries s.blocks.names s.parts.op s.parts.target s.parts.left s.parts.right s.parts.sources r s.parts.entries
-      s.parts.one s.parts.other s.parts.mentions))
-  unfolding set_number
-  number_proceeds e q {r} is =
-      changing (bounded b (omega arith) b.rows b.entries b.names b.op b.target b.left b.right b.own b.one b.other)
-      (λ d y h fit.
-      let c = h.counts in
-      let x = d.parts in
-      let z = parts_of x.op x.target x.sources (bits_of (load_type x.op) neg n) x.entries x.mentions in
-      let m : r ≡ bits_of (load_type x.op) neg n = is ∙ ap (λ (i : ℕ). bits_of k neg i) (value_exact a e) ∙ ap (λ (j : ℕ). bits_of j neg n) (kind_is h) in
-      step_parts c h z refl refl (rw (← kind_is h, ← value_exact a e, q))
-      (counts_parts c z refl refl c.parts.op c.parts.target (sources_in c) m))
+    pub number_refused : number_in_range k neg v ≡ false → ActsAlone Always (set_number neg n p.byte) s (Err (fault_at reasons.NumberOutOfRange p))
+    unfolding set_number
+    number_refused q y = refusing reasons.NumberOutOfRange p (λ d h fit. rw (← kind_is h, ← value_exact a e, q))
+
+    pub number_proceeds : number_in_range k neg v ≡ true → {r : ℕ} → r ≡ bits_of k neg v
+        → ActsAlone Always (set_number neg n p.byte) s
+        (Ok
+        (held s s.blocks.rows s.blocks.entries s.blocks.names s.parts.op s.parts.target s.parts.left s.parts.right s.parts.sources r s.parts.entries
+        s.parts.one s.parts.other s.parts.mentions))
+    unfolding set_number
+    number_proceeds q {r} is =
+        changing (bounded b (omega arith) b.rows b.entries b.names b.op b.target b.left b.right b.own b.one b.other)
+        (λ d y h fit.
+        let c = h.counts in
+        let x = d.parts in
+        let z = parts_of x.op x.target x.sources (bits_of (load_type x.op) neg n) x.entries x.mentions in
+        let m : r ≡ bits_of (load_type x.op) neg n = is ∙ ap (λ (i : ℕ). bits_of k neg i) (value_exact a e) ∙ ap (λ (j : ℕ). bits_of j neg n) (kind_is h) in
+        step_parts c h z refl refl (rw (← kind_is h, ← value_exact a e, q))
+        (counts_parts c z refl refl c.parts.op c.parts.target (sources_in c) m))
 
 -- ---- a row is put down
 

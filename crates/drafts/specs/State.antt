@@ -1,5 +1,5 @@
 -- What a draft's numbers stand for: a draft of the definition, whose cells and names are lent. Assumes nothing.
-use Rattle.std.specs.Prelude.{◌≡◌, Bool, true, false, cond, List, [], ◌∷◌, ◌++◌, map, ℕ, ◌+◌, ◌-◌, ◌*◌, ◌≤◌, ◌<◌, min, ltb, length, get_or, Result, Ok, Err}
+use Rattle.std.specs.Prelude.{◌≡◌, Bool, true, false, cond, List, [], ◌∷◌, ◌++◌, map, ℕ, ◌+◌, ◌-◌, ◌*◌, ◌≤◌, ◌<◌, min, ltb, length, get_or, Option, Some, None, Result, Ok, Err}
 use Rattle.language.specs.Programs.{Func, max_rows, max_entries, max_blocks, max_registers, max_functions, max_name}
 use Rattle.language.specs.Instructions.{Operand, form_of, has_target, source_count, operand_of}
 use Rattle.language.specs.Table.{name_at, four, eight_bytes, name_length, function_length, register_length, register_names_offset, function_cells}
@@ -213,10 +213,10 @@ ActsOn Fit act s f last before r f' = (n p : List ℕ) → Acts Fit act s (lent_
 abbrev pub ActsAlone : (Draftᴸ → Type 0) → (Draftᴸ → ActOutcome) → Draft → Result Draft Fault → Type 0
 ActsAlone Fit act s r = (x : Lent) → Acts Fit act s x r x
 
--- A number as the lexer keeps it: its value and false, or any value and true if it is 2^64 or more.
-pub data KeptAs (n : ℕ) : (value : ℕ) (over : Bool) → Type 0 where
-  exact : KeptAs n n false
-  large : (v : ℕ) → beyond ≤ n → KeptAs n v true
+-- A number as the lexer keeps it: its value, or none if it is 2^64 or more.
+pub data KeptAs (n : ℕ) : Option ℕ → Type 0 where
+  exact : KeptAs n (Some n)
+  large : beyond ≤ n → KeptAs n None
 
 -- A name looked for among the n that are kept, r being its number: it is kept too if it is new and there is room.
 pub record NameKept (n : ℕ) (name : List ℕ) (p : ℕ) (pend pend' : List ℕ) (r : ℕ) : Type 0 where

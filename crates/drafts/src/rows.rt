@@ -217,24 +217,23 @@ impl Draft {
         d
     }
 
-    // A load's number: 4 outside the instruction's range. `over`: its magnitude is 2^64 or more.
+    // A load's number: 4 outside the instruction's range, as each magnitude of 2^64 or more is.
     pub fn set_number(
         mut self,
         negative: bool,
-        value: u64,
-        over: bool,
+        magnitude: Option<u64>,
         p: TextPlace,
     ) -> Result<Draft, Fault>
         requires { Bounded self }
-        ensures { (n : ℕ) → KeptAs n value over → ActsAlone Always (set_number negative n p.byte) self result }
+        ensures { (n : ℕ) → KeptAs n magnitude → ActsAlone Always (set_number negative n p.byte) self result }
     {
-        let kind = load_type(low(self.parts.op));
-        if over {
+        let Some(value) = magnitude else {
             return Err(Fault {
                 reason: Reason::NumberOutOfRange,
                 at: p,
             });
-        }
+        };
+        let kind = load_type(low(self.parts.op));
         if !number_in_range(kind, negative, value) {
             return Err(Fault {
                 reason: Reason::NumberOutOfRange,

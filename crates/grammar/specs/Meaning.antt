@@ -11,19 +11,19 @@ use Rattle.grammar.specs.declared.Stage.{Stage}
 use Rattle.grammar.specs.declared.Act.{Act}
 use Rattle.grammar.specs.declared.Move.{Move}
 
--- What a token does not hold itself: the bytes of a name, and the magnitude of a number that is 2^64 or more, by the value kept of it.
+-- What a token does not hold itself: the bytes of a name, and the magnitude of a number that is 2^64 or more.
 pub record TokenSpot : Type 0 where
   pub name : List ℕ
-  pub large : ℕ → ℕ
+  pub large : ℕ
 
-abbrev pub magnitude_of : (large : ℕ → ℕ) → ℕ → Bool → ℕ
-magnitude_of f v true = f v
-magnitude_of f v false = v
+abbrev pub magnitude_of : (large : ℕ) → Option ℕ → ℕ
+magnitude_of n None = n
+magnitude_of n (Some v) = v
 
 abbrev pub token_of : TokenSpot → Token → Tokenᴸ
 token_of s Name = Tokenᴸ.name s.name
 token_of s (Word w) = Tokenᴸ.word w
-token_of s (Number neg v over) = Tokenᴸ.number neg (magnitude_of s.large v over)
+token_of s (Number neg v) = Tokenᴸ.number neg (magnitude_of s.large v)
 token_of s (Mark b) = Tokenᴸ.mark b
 token_of s End = Tokenᴸ.end
 
@@ -31,7 +31,7 @@ token_of s End = Tokenᴸ.end
 abbrev pub bytes_of : Token → List ℕ → List ℕ
 bytes_of Name n = n
 bytes_of (Word w) n = []
-bytes_of (Number neg v over) n = []
+bytes_of (Number neg v) n = []
 bytes_of (Mark b) n = []
 bytes_of End n = []
 
@@ -107,7 +107,7 @@ act_of s Act.SetTarget = Actᴸ.set_target s.name
 act_of s Act.AddSource = Actᴸ.add_source s.name
 act_of s Act.AddEntry = Actᴸ.add_entry s.name
 act_of s Act.AddMention = Actᴸ.add_mention s.name
-act_of s (Act.SetNumber neg v over) = Actᴸ.set_number neg (magnitude_of s.large v over)
+act_of s (Act.SetNumber neg v) = Actᴸ.set_number neg (magnitude_of s.large v)
 act_of s Act.EndInstruction = Actᴸ.end_instruction
 act_of s Act.EndBlock = Actᴸ.end_block
 act_of s Act.EndFunction = Actᴸ.end_function
@@ -126,7 +126,7 @@ move_to x a = record { stage = x; act = a }
 abbrev pub is_mark : ℕ → Token → Bool
 is_mark c Name = false
 is_mark c (Word w) = false
-is_mark c (Number neg v over) = false
+is_mark c (Number neg v) = false
 is_mark c (Mark b) = eqb b c
 is_mark c End = false
 
@@ -134,6 +134,6 @@ is_mark c End = false
 abbrev pub names_block : Token → Bool
 names_block Name = true
 names_block (Word w) = eqb w entry_word
-names_block (Number neg v over) = false
+names_block (Number neg v) = false
 names_block (Mark b) = false
 names_block End = false

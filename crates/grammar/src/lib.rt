@@ -64,13 +64,13 @@ pub enum Stage {
     InstructionEnd,
 }
 
-// A token without the bytes of a name, which come beside it. A number: whether it is negative, its value, and whether it is
-// 2^64 or more, so that the value is not all of it.
+// A token without the bytes of a name, which come beside it. A number: whether it is negative, and its magnitude, unless that is
+// 2^64 or more.
 #[derive(Clone, Copy)]
 pub enum Token {
     Name,
     Word(u8),
-    Number(bool, u64, bool),
+    Number(bool, Option<u64>),
     Mark(u8),
     End,
 }
@@ -95,7 +95,7 @@ pub enum Act {
     AddSource,
     AddEntry,
     AddMention,
-    SetNumber(bool, u64, bool),
+    SetNumber(bool, Option<u64>),
     EndInstruction,
     EndBlock,
     EndFunction,
@@ -521,10 +521,10 @@ fn operand(token: Token, inside: Bracketed) -> Move
 fn number(token: Token) -> Move
     ensures { Moves (next_move Stageᴸ.number) token result }
 {
-    let Token::Number(negative, value, over) = token else {
+    let Token::Number(negative, magnitude) = token else {
         return Move::wrong();
     };
-    Move::to(Stage::OperandEnd, Act::SetNumber(negative, value, over))
+    Move::to(Stage::OperandEnd, Act::SetNumber(negative, magnitude))
 }
 
 // A register in the list of a phi.

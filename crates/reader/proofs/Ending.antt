@@ -27,6 +27,6 @@ end_token bytes p t c x r e h fs parse reads m means = rw (end_means e means) (h
 pub not_end : (t : Token) → (t ≡ tokens.End → ⊥) → is_end t ≡ false
 not_end tokens.Name h = refl
 not_end (tokens.Word w) h = refl
-not_end (tokens.Number g v o) h = refl
+not_end (tokens.Number g v) h = refl
 not_end (tokens.Mark b) h = refl
 not_end tokens.End h = absurd (h refl)

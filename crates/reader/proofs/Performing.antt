@@ -30,7 +30,7 @@ use Rattle.drafts.proofs.WholeRows.{own_entries, own_mentions}
 use Rattle.drafts.proofs.Sections.{open_fresh}
 use Rattle.drafts.proofs.StateLaws.{cells_indexed}
 use Rattle.drafts.specs.declared.state.Draft.{Draft as Draftᶜ}
-use Rattle.std.specs.Prelude.{Result, Ok, Err}
+use Rattle.std.specs.Prelude.{Option, Some, None, Result, Ok, Err}
 use Rattle.answers.specs.declared.reasons.Reason.TheVariants as reasons
 use Rattle.answers.specs.Reasons.{reason_number}
 use Rattle.drafts.specs.declared.state.Fault.{Fault}
@@ -138,7 +138,7 @@ module _ (s : Stage) (d : Draft) (c : Reader) (x : Lent) (f : Follows s d c x) (
   fewer k h = lt→ltb k 3 (omega (arith, ltb→lt k 2 h))
 
   performs : (z : TokenSpot) (p : TextPlace) (a : Actᶜ) → Performs z.name p c.draft x r x' a
-      → ((neg : Bool) (v : ℕ) (over : Bool) → a ≡ Actᶜ.SetNumber neg v over → KeptAs (magnitude_of z.large v over) v over)
+      → ((neg : Bool) (v : Option ℕ) → a ≡ Actᶜ.SetNumber neg v → KeptAs (magnitude_of z.large v) v)
       → T (up_to (act_of z a) (depth s)) → T (cond (in_function (act_of z a)) (not (is_top s)) true) → OnlyAt s (act_of z a)
       → Done (act_of z a) x' (perform_act (act_of z a) p.byte d) r
   unfolding perform_act meaning.begin_function meaning.begin_register meaning.begin_block
@@ -159,7 +159,7 @@ module _ (s : Stage) (d : Draft) (c : Reader) (x : Lent) (f : Follows s d c x) (
   performs z p Actᶜ.AddSource h m u i e = acts i h tt
   performs z p Actᶜ.AddEntry h m u i e = acts i h tt
   performs z p Actᶜ.AddMention h m u i e = acts i h tt
-  performs z p (Actᶜ.SetNumber neg v over) h m u i e = acts i (h (magnitude_of z.large v over) (m neg v over refl)) tt
+  performs z p (Actᶜ.SetNumber neg v) h m u i e = acts i (h (magnitude_of z.large v) (m neg v refl)) tt
   performs z p Actᶜ.EndInstruction h m u i e = acts i h (row_whole e)
   performs z p Actᶜ.EndBlock h m u i e = acts i h tt
   performs z p Actᶜ.EndFunction h m u i e =
@@ -350,64 +350,64 @@ module _ (fs : List Func) (s : Stage) (d : Draft) (same : d.functions ≡ fs) (c
 
 -- What a token does not hold itself.
 abbrev spot_for : {bytes : List ℕ} {t : Tokenᶜ} {m : Token} → Means bytes t m → TokenSpot
-spot_for {bytes} Means.named = record { name = bytes; large = λ v. v }
-spot_for {bytes} (Means.word w) = record { name = bytes; large = λ v. v }
-spot_for {bytes} (Means.number g v o n k) = record { name = bytes; large = λ v. n }
-spot_for {bytes} (Means.mark b) = record { name = bytes; large = λ v. v }
-spot_for {bytes} Means.end = record { name = bytes; large = λ v. v }
+spot_for {bytes} Means.named = record { name = bytes; large = 0 }
+spot_for {bytes} (Means.word w) = record { name = bytes; large = 0 }
+spot_for {bytes} (Means.number g v n k) = record { name = bytes; large = n }
+spot_for {bytes} (Means.mark b) = record { name = bytes; large = 0 }
+spot_for {bytes} Means.end = record { name = bytes; large = 0 }
 
-kept_large : (n v : ℕ) (o : Bool) → KeptAs n v o → magnitude_of (λ u. n) v o ≡ n
-kept_large n v o KeptAs.exact = refl
-kept_large n v o (KeptAs.large u h) = refl
+kept_large : (n : ℕ) (v : Option ℕ) → KeptAs n v → magnitude_of n v ≡ n
+kept_large n v KeptAs.exact = refl
+kept_large n v (KeptAs.large h) = refl
 
 spot_token : {bytes : List ℕ} {t : Tokenᶜ} {m : Token} (h : Means bytes t m) → token_of (spot_for h) t ≡ m
 spot_token Means.named = refl
 spot_token (Means.word w) = refl
-spot_token (Means.number g v o n k) = ap (Token.number g) (kept_large n v o k)
+spot_token (Means.number g v n k) = ap (Token.number g) (kept_large n v k)
 spot_token (Means.mark b) = refl
 spot_token Means.end = refl
 
 spot_name : {bytes : List ℕ} {t : Tokenᶜ} {m : Token} (h : Means bytes t m) → (spot_for h).name ≡ bytes
 spot_name Means.named = refl
 spot_name (Means.word w) = refl
-spot_name (Means.number g v o n k) = refl
+spot_name (Means.number g v n k) = refl
 spot_name (Means.mark b) = refl
 spot_name Means.end = refl
 
 -- two numbers that are the same whatever the large ones are stand alike
-same_kept : (v v' : ℕ) (o o' : Bool) → ((f : ℕ → ℕ) → magnitude_of f v' o' ≡ magnitude_of f v o) → (v' ≡ v) × (o' ≡ o)
-same_kept v v' true true h = (h (λ u. u), refl)
-same_kept v v' true false h = absurd (omega (arith, h (λ u. u), h (λ u. u + 1)))
-same_kept v v' false true h = absurd (omega (arith, h (λ u. u), h (λ u. u + 1)))
-same_kept v v' false false h = (h (λ u. u), refl)
+same_kept : (v v' : Option ℕ) → ((f : ℕ) → magnitude_of f v' ≡ magnitude_of f v) → v' ≡ v
+same_kept None None h = refl
+same_kept None (Some u) h = absurd (omega (arith, h u, h (u + 1)))
+same_kept (Some u) None h = absurd (omega (arith, h u, h (u + 1)))
+same_kept (Some u) (Some w) h = ap Some (h 0)
 
 -- a number in an act is the token's
-kept_same : (n v v' : ℕ) (o o' : Bool) → (v' ≡ v) × (o' ≡ o) → KeptAs n v o → KeptAs (magnitude_of (λ u. n) v' o') v' o'
-kept_same n v v' o o' e k = rw (e.0, e.1, kept_large n v o k) k
+kept_same : (n : ℕ) (v v' : Option ℕ) → v' ≡ v → KeptAs n v → KeptAs (magnitude_of n v') v'
+kept_same n v v' e k = rw (e, kept_large n v k) k
 
-module _ (t : Tokenᶜ) (m : Moveᶜ) (moved : Movesᶜ (next_move Stage.number) t m) (neg : Bool) (v : ℕ) (over : Bool) (e : m.act ≡ Actᶜ.SetNumber neg v over) where
-  act_at : (z : TokenSpot) → Act.set_number neg (magnitude_of z.large v over) ≡ (next_move Stage.number (token_of z t)).act
+module _ (t : Tokenᶜ) (m : Moveᶜ) (moved : Movesᶜ (next_move Stage.number) t m) (neg : Bool) (v : Option ℕ) (e : m.act ≡ Actᶜ.SetNumber neg v) where
+  act_at : (z : TokenSpot) → Act.set_number neg (magnitude_of z.large v) ≡ (next_move Stage.number (token_of z t)).act
   act_at z = sym (ap (act_of (spot_of t z)) e) ∙ ap (λ y. y.act) (moved z)
 
 act_kept : {bytes : List ℕ} {t : Tokenᶜ} {tok : Token} (h : Means bytes t tok) (m : Moveᶜ) → Movesᶜ (next_move Stage.number) t m
-    → (neg : Bool) (v : ℕ) (over : Bool) → m.act ≡ Actᶜ.SetNumber neg v over → KeptAs (magnitude_of (spot_for h).large v over) v over
+    → (neg : Bool) (v : Option ℕ) → m.act ≡ Actᶜ.SetNumber neg v → KeptAs (magnitude_of (spot_for h).large v) v
 unfolding next_move
-act_kept {bytes} Means.named m moved neg v over e =
-    let q = act_at tokens.Name m moved neg v over e (record { name = bytes; large = λ v. v }) in
+act_kept {bytes} Means.named m moved neg v e =
+    let q = act_at tokens.Name m moved neg v e (record { name = bytes; large = 0 }) in
     let z : ◌≡◌ {A = ℕ} 0 1 = cc in absurd (omega arith)
-act_kept {bytes} (Means.word w) m moved neg v over e =
-    let q = act_at (tokens.Word w) m moved neg v over e (record { name = bytes; large = λ v. v }) in
+act_kept {bytes} (Means.word w) m moved neg v e =
+    let q = act_at (tokens.Word w) m moved neg v e (record { name = bytes; large = 0 }) in
     let z : ◌≡◌ {A = ℕ} 0 1 = cc in absurd (omega arith)
-act_kept {bytes} (Means.number g v₀ o₀ n k) m moved neg v over e =
-    kept_same n v₀ v o₀ over
-    (same_kept v₀ v o₀ over
-    (λ f. let q = act_at (tokens.Number g v₀ o₀) m moved neg v over e (record { name = bytes; large = f }) in cc))
+act_kept {bytes} (Means.number g v₀ n k) m moved neg v e =
+    kept_same n v₀ v
+    (same_kept v₀ v
+    (λ f. let q = act_at (tokens.Number g v₀) m moved neg v e (record { name = bytes; large = f }) in cc))
     k
-act_kept {bytes} (Means.mark b) m moved neg v over e =
-    let q = act_at (tokens.Mark b) m moved neg v over e (record { name = bytes; large = λ v. v }) in
+act_kept {bytes} (Means.mark b) m moved neg v e =
+    let q = act_at (tokens.Mark b) m moved neg v e (record { name = bytes; large = 0 }) in
     let z : ◌≡◌ {A = ℕ} 0 1 = cc in absurd (omega arith)
-act_kept {bytes} Means.end m moved neg v over e =
-    let q = act_at tokens.End m moved neg v over e (record { name = bytes; large = λ v. v }) in
+act_kept {bytes} Means.end m moved neg v e =
+    let q = act_at tokens.End m moved neg v e (record { name = bytes; large = 0 }) in
     let z : ◌≡◌ {A = ℕ} 0 1 = cc in absurd (omega arith)
 
 -- ---- what the code has to show
@@ -443,7 +443,7 @@ module _ (z : TokenSpot) {d : Draft} {q : Draftᶜ} (k : Counts d q) where
   room_for x y Actᶜ.AddSource m h i = in_function_law x h (i tt)
   room_for x y Actᶜ.AddEntry m h i = in_function_law x h (i tt)
   room_for x y Actᶜ.AddMention m h i = in_function_law x h (i tt)
-  room_for x y (Actᶜ.SetNumber neg v over) m h i = in_function_law x h (i tt)
+  room_for x y (Actᶜ.SetNumber neg v) m h i = in_function_law x h (i tt)
   room_for x y Actᶜ.EndFunction m h i = in_function_law x h (i tt)
   room_for x y Actᶜ.NameBlock Moves.name_block h i = omega (arith, h, k.functions, k.head.registers, k.blocks.closed, k.blocks.rows, rows_now)
   room_for x y (Actᶜ.NameRegister true u) Moves.name_parameter h i = omega (arith, h, k.functions, k.head.registers, k.blocks.closed, k.blocks.rows, rows_now)
@@ -471,7 +471,7 @@ held_type z s d f Actᶜ.SetTarget h = tt
 held_type z s d f Actᶜ.AddSource h = tt
 held_type z s d f Actᶜ.AddEntry h = tt
 held_type z s d f Actᶜ.AddMention h = tt
-held_type z s d f (Actᶜ.SetNumber neg v over) h = tt
+held_type z s d f (Actᶜ.SetNumber neg v) h = tt
 held_type z s d f Actᶜ.EndFunction h = tt
 held_type z s d f Actᶜ.NameBlock h = tt
 held_type z s d f Actᶜ.EndInstruction h = tt
@@ -497,7 +497,7 @@ ends_function Actᶜ.SetTarget = false
 ends_function Actᶜ.AddSource = false
 ends_function Actᶜ.AddEntry = false
 ends_function Actᶜ.AddMention = false
-ends_function (Actᶜ.SetNumber neg v over) = false
+ends_function (Actᶜ.SetNumber neg v) = false
 ends_function Actᶜ.EndInstruction = false
 ends_function Actᶜ.EndBlock = false
 ends_function Actᶜ.EndFunction = true
@@ -519,7 +519,7 @@ other_act Actᶜ.SetTarget n = refl
 other_act Actᶜ.AddSource n = refl
 other_act Actᶜ.AddEntry n = refl
 other_act Actᶜ.AddMention n = refl
-other_act (Actᶜ.SetNumber neg v over) n = refl
+other_act (Actᶜ.SetNumber neg v) n = refl
 other_act Actᶜ.EndInstruction n = refl
 other_act Actᶜ.EndBlock n = refl
 other_act Actᶜ.EndFunction n = absurd (n refl)
@@ -542,7 +542,7 @@ closes_by Actᶜ.SetTarget z = refl
 closes_by Actᶜ.AddSource z = refl
 closes_by Actᶜ.AddEntry z = refl
 closes_by Actᶜ.AddMention z = refl
-closes_by (Actᶜ.SetNumber neg v over) z = refl
+closes_by (Actᶜ.SetNumber neg v) z = refl
 closes_by Actᶜ.EndInstruction z = refl
 closes_by Actᶜ.EndBlock z = refl
 closes_by Actᶜ.EndFunction z = refl
@@ -570,9 +570,9 @@ taken_by bytes p t c x m r x' own moved done fs parse reads tok means =
         rw (closes_by m.act z)
         (done_reads fs s d k c x f tok p m.stage (ap (λ y. y.stage) move) (perform_act (act_of z m.act) p.byte d) r x' (act_of z m.act) (sym act)
         (performs s d c x f r x' z p m.act (subst (λ (n : List ℕ). Performs n p c.draft x r x' m.act) named done)
-        (λ neg v over h.
+        (λ neg v h.
         let at : s ≡ Stage.number = subst (λ (a : Actᶜ). OnlyAt s (act_of z a)) h (subst (OnlyAt s) (sym act) fit.only) in
-        act_kept means m (subst (λ (u : Stage). Movesᶜ (next_move u) t m) at moved') neg v over h)
+        act_kept means m (subst (λ (u : Stage). Movesᶜ (next_move u) t m) at moved') neg v h)
         (subst (λ (a : Act). T (up_to a (depth s))) (sym act) fit.hand)
         (subst (λ (a : Act). T (cond (in_function a) (not (is_top s)) true)) (sym act) fit.inside)
         (subst (OnlyAt s) (sym act) fit.only))
@@ -585,7 +585,7 @@ enabled bytes p t c x m reached beside moved =
     by s d f
   where
     z : TokenSpot
-    z = record { name = bytes; large = λ v. v }
+    z = record { name = bytes; large = 0 }
 
     y : TokenSpot
     y = spot_of t z

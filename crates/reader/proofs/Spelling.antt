@@ -17,7 +17,7 @@ use Rattle.language.specs.Words.{word_of, word_count}
 use Rattle.lexer.specs.Lexing as lexing
 use Rattle.lexer.specs.Contents.{contents_in}
 use Rattle.lexer.specs.Numbers.{amount_of}
-use Rattle.std.specs.Prelude.{Option, Some, None, unwrap_or, is_some}
+use Rattle.std.specs.Prelude.{Option, Some, None}
 use Rattle.lexer.specs.declared.Lexeme.{Lexeme}
 use Rattle.lexer.specs.declared.Lexeme.TheVariants as lexemes
 use Rattle.lexer.specs.declared.Found.TheVariants as founds
@@ -37,18 +37,13 @@ use Rattle.reader.specs.Parse.{Means, Reads, Takes, Beside, Suits, is_end}
 use Rattle.reader.specs.Text.{nameless, SpelledAs, spelled_bytes, is_end_lexeme, FoundAs, FoundHere, TakesFound}
 
 -- a number as the lexer keeps it
-kept_as : (n : ℕ) (v : Option ℕ) → v ≡ amount_of n → KeptAs n (unwrap_or v 0) (not (is_some v))
+kept_as : (n : ℕ) (v : Option ℕ) → v ≡ amount_of n → KeptAs n v
 unfolding amount_of
 kept_as n v e = rw e (by (dec_lt n beyond))
   where
-    by : Dec (n < beyond) → KeptAs n (unwrap_or (cond (ltb n beyond) (Some n) None) 0) (not (is_some (cond (ltb n beyond) (Some n) None)))
+    by : Dec (n < beyond) → KeptAs n (cond (ltb n beyond) (Some n) None)
     by (yes q) = rw (lt-ltb n beyond q) KeptAs.exact
-    by (no q) = rw (le-ltb n beyond (omega arith)) (KeptAs.large 0 (omega arith))
-
--- what is no value has none
-pub turned : (s r : Bool) → s ≡ not r → r ≡ not s
-turned s true e = rw e
-turned s false e = rw e
+    by (no q) = rw (le-ltb n beyond (omega arith)) (KeptAs.large (omega arith))
 
 no_contents : (text h : List ℕ) → contents_in text h 0 0 ≡ []
 unfolding contents_in
@@ -94,11 +89,11 @@ module _ (text h : List ℕ) where
           by : (m : Tokenᴸ) → lexing.Means text h (lexemes.Plain s n) m → Means [] (tokens.Word w) m
           by m (lexing.Means.plain s n) = rw (← is, ne_eqb w word_count e) (Means.word w)
 
-  pub number_spelled : (g : Bool) (v : Option ℕ) → SpelledAs text h (lexemes.Number g v) (nameless (tokens.Number g (unwrap_or v 0) (not (is_some v))))
-  number_spelled g v = spelled_nameless (lexemes.Number g v) (tokens.Number g (unwrap_or v 0) (not (is_some v))) refl by refl
+  pub number_spelled : (g : Bool) (v : Option ℕ) → SpelledAs text h (lexemes.Number g v) (nameless (tokens.Number g v))
+  number_spelled g v = spelled_nameless (lexemes.Number g v) (tokens.Number g v) refl by refl
     where
-      by : (m : Tokenᴸ) → lexing.Means text h (lexemes.Number g v) m → Means [] (tokens.Number g (unwrap_or v 0) (not (is_some v))) m
-      by m (lexing.Means.number g v n e) = Means.number g (unwrap_or v 0) (not (is_some v)) n (kept_as n v e)
+      by : (m : Tokenᴸ) → lexing.Means text h (lexemes.Number g v) m → Means [] (tokens.Number g v) m
+      by m (lexing.Means.number g v n e) = Means.number g v n (kept_as n v e)
 
   pub mark_spelled : (b : ℕ) → SpelledAs text h (lexemes.Mark b) (nameless (tokens.Mark b))
   mark_spelled b = spelled_nameless (lexemes.Mark b) (tokens.Mark b) refl by refl

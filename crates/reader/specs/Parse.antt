@@ -1,5 +1,5 @@
 -- What the reader's numbers stand for between two tokens: a stage of the grammar and a draft. Assumes nothing.
-use Rattle.std.specs.Prelude.{◌≡◌, Bool, true, false, cond, List, [], ◌∷◌, ◌++◌, ℕ, ◌+◌, ◌≤◌, ◌<◌, T, ltb, length, Result, Ok, Err}
+use Rattle.std.specs.Prelude.{◌≡◌, Bool, true, false, cond, List, [], ◌∷◌, ◌++◌, ℕ, ◌+◌, ◌≤◌, ◌<◌, T, ltb, length, Option, Result, Ok, Err}
 use Rattle.language.specs.Programs.{Func, max_functions, max_registers, max_blocks, max_rows, max_name}
 use Rattle.language.specs.Answers.{zeros}
 use Rattle.language.specs.Table.{function_length, function_cells}
@@ -133,7 +133,7 @@ pub record Beside (t : Token) (name : List ℕ) (p : TextPlace) : Type 0 where
 pub data Means (bytes : List ℕ) : Token → Tokenᴸ → Type 0 where
   named : Means bytes tokens.Name (Tokenᴸ.name bytes)
   word : (w : ℕ) → Means bytes (tokens.Word w) (Tokenᴸ.word w)
-  number : (g : Bool) (v : ℕ) (o : Bool) (n : ℕ) → KeptAs n v o → Means bytes (tokens.Number g v o) (Tokenᴸ.number g n)
+  number : (g : Bool) (v : Option ℕ) (n : ℕ) → KeptAs n v → Means bytes (tokens.Number g v) (Tokenᴸ.number g n)
   mark : (b : ℕ) → Means bytes (tokens.Mark b) (Tokenᴸ.mark b)
   end : Means bytes tokens.End Tokenᴸ.end
 
@@ -141,7 +141,7 @@ pub data Means (bytes : List ℕ) : Token → Tokenᴸ → Type 0 where
 abbrev pub is_end : Token → Bool
 is_end tokens.Name = false
 is_end (tokens.Word w) = false
-is_end (tokens.Number g v o) = false
+is_end (tokens.Number g v) = false
 is_end (tokens.Mark b) = false
 is_end tokens.End = true
 
@@ -182,7 +182,7 @@ wants Act.SetTarget = begun 1 0 0 0
 wants Act.AddSource = begun 1 0 0 0
 wants Act.AddEntry = begun 1 0 0 0
 wants Act.AddMention = begun 1 0 0 0
-wants (Act.SetNumber neg v over) = begun 1 0 0 0
+wants (Act.SetNumber neg v) = begun 1 0 0 0
 wants Act.EndInstruction = begun 1 0 0 1
 wants Act.EndBlock = begun 1 0 1 0
 wants Act.EndFunction = begun 1 0 0 0
@@ -205,7 +205,7 @@ Holding Act.SetTarget = Unit {0}
 Holding Act.AddSource = Unit {0}
 Holding Act.AddEntry = Unit {0}
 Holding Act.AddMention = Unit {0}
-Holding (Act.SetNumber neg v over) = Unit {0}
+Holding (Act.SetNumber neg v) = Unit {0}
 Holding Act.EndInstruction = Unit {0}
 Holding Act.EndBlock = Unit {0}
 Holding Act.EndFunction = Unit {0}
@@ -249,7 +249,7 @@ Performs name p d x r x' Act.SetTarget = Acts NoParts (meaning.set_target name p
 Performs name p d x r x' Act.AddSource = Acts Always (meaning.add_source name p.byte) d x r x'
 Performs name p d x r x' Act.AddEntry = Acts Always (meaning.add_entry name p.byte) d x r x'
 Performs name p d x r x' Act.AddMention = Acts Always (meaning.add_mention name p.byte) d x r x'
-Performs name p d x r x' (Act.SetNumber neg v over) = (n : ℕ) → KeptAs n v over → Acts Always (meaning.set_number neg n p.byte) d x r x'
+Performs name p d x r x' (Act.SetNumber neg v) = (n : ℕ) → KeptAs n v → Acts Always (meaning.set_number neg n p.byte) d x r x'
 Performs name p d x r x' Act.EndInstruction = Acts WholeRow meaning.end_instruction d x r x'
 Performs name p d x r x' Act.EndBlock = Acts Always meaning.end_block d x r x'
 Performs name p d x r x' Act.EndFunction = EndsFunction p.byte d x r x'

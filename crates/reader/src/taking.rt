@@ -116,7 +116,7 @@ fn perform(
         Act::AddSource => d.add_source(f, last, before, name, p),
         Act::AddEntry => d.add_entry(f, last, before, name, p),
         Act::AddMention => Ok(d.add_mention(pend, name, p)),
-        Act::SetNumber(negative, value, over) => d.set_number(negative, value, over, p),
+        Act::SetNumber(negative, magnitude) => d.set_number(negative, magnitude, p),
         Act::EndInstruction => Ok(d.end_instruction(f)),
         Act::EndBlock => Ok(d.end_block(f)),
         Act::EndFunction => d.end_function(f, pend, p),

@@ -49,9 +49,7 @@ pub fn token_of<'a>(x: Lexeme, text: &'a [u8], held: &'a [u8]) -> Spelled
             from,
             bytes,
         },
-        Lexeme::Number(negative, value) => {
-            nameless(Token::Number(negative, value.unwrap_or(0), value.is_none()))
-        }
+        Lexeme::Number(negative, value) => nameless(Token::Number(negative, value)),
         Lexeme::Mark(b) => nameless(Token::Mark(b)),
         Lexeme::End => nameless(Token::End),
     }

@@ -1,7 +1,7 @@
 -- `token_of`: each lexeme is the token that the definition makes of it.
 use mathlib.Core.Path.{ap, ◌∙◌}
 use Rattle.language.specs.Words.{word_of}
-use Rattle.reader.proofs.Spelling.{plain_name, plain_word, quoted_name, number_spelled, mark_spelled, end_spelled, turned}
+use Rattle.reader.proofs.Spelling.{plain_name, plain_word, quoted_name, number_spelled, mark_spelled, end_spelled}
 use Rattle.reader.proofs.tokens.token_of.Goals as goal
 
 pub contents_of-requires : goal.contents_of-requires
@@ -21,7 +21,7 @@ pub returns-in-Quoted : goal.returns-in-Quoted
 returns-in-Quoted c = rw c.in-Quoted.is (quoted_name c.args.text.now c.args.held.now _ _ (rw c.in-Quoted.is at c.requires))
 
 pub returns-in-Number : goal.returns-in-Number
-returns-in-Number c = rw (c.in-Number.is, c.nameless-in-Number.ensures, c.unwrap_or.ensures, turned _ _ c.is_none.ensures) (number_spelled c.args.text.now c.args.held.now _ _)
+returns-in-Number c = rw (c.in-Number.is, c.nameless-in-Number.ensures) (number_spelled c.args.text.now c.args.held.now _ _)
 
 pub returns-in-Mark : goal.returns-in-Mark
 returns-in-Mark c = rw (c.in-Mark.is, c.nameless-in-Mark.ensures) (mark_spelled c.args.text.now c.args.held.now _)
