@@ -1,6 +1,6 @@
 -- Between two functions: the numbers and what is lent stand for no function in hand.
 -- Assumes nothing.
-use mathlib.Core.Path.{◌≡◌, refl, sym, ◌∙◌}
+use mathlib.Core.Path.{refl, sym}
 use mathlib.Core.List.{List, []}
 use Prim.Native.Nat.{ℕ, ◌*◌, ◌≤◌}
 use native.Mathlib.Omega.{arith}
@@ -13,15 +13,9 @@ use Rattle.language.specs.Table.{function_length, name_length}
 use Rattle.language.specs.Reading.{fresh, open_rows, phi_entries}
 use Rattle.drafts.specs.Cells.{WithinSizes}
 use Rattle.drafts.specs.Mentions.{kept, kept_of, mentions_of}
-use Rattle.drafts.specs.State.{Bounded, Counts, NamesHeld, function_names, Stands, lent_of, fresh_at, parts_from}
-use Rattle.drafts.specs.declared.state.Draft.{Draft}
-use Rattle.drafts.specs.declared.state.Parts.{Parts}
+use Rattle.drafts.specs.State.{Bounded, Counts, NamesHeld, function_names, Stands, lent_of, fresh_at}
 use Rattle.drafts.proofs.DeclaredNames.{held_none}
 use Rattle.drafts.proofs.Sections.{open_fresh}
-
-pub fresh_made : (n : ℕ) {x : Parts} → x ≡ parts_from 0 0 → {s : Draft} → s ≡ record { functions = n; head = (fresh_at n).head; blocks = (fresh_at n).blocks; parts = x }
-    → s ≡ fresh_at n
-fresh_made n e p = p ∙ rw e
 
 pub bounded_fresh : (n : ℕ) → n ≤ max_functions → Bounded (fresh_at n)
 bounded_fresh n h = omega arith

@@ -164,6 +164,7 @@ impl Draft {
     }
 
     // The number of a name among those mentioned. A new one is kept with its place, if it is one of the first 65.
+    // Kept, rule: of a new name the count is the number that it is kept under (`NameKept`, by `name_number` of specs/Mentions), and not a sign that it is missing.
     fn name_number(self, pend: &mut [u8], name: &[u8], p: TextPlace) -> usize
         requires names_le_max_names { self.blocks.names ≤ max_names }
         requires pend_len { (length pend.old ≡ pending_length) × (length name.now ≤ max_name) × (p.byte < 4294967296) }

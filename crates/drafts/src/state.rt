@@ -21,7 +21,7 @@ pub const PENDING_LENGTH: usize = MAX_NAMES * MENTION_LENGTH + 256;
 
 // Of the function in hand what stands before its blocks: its mark, its return type, how many parameters and registers.
 // Kept, speed: fields of eight bytes here and in `Parts`, and counts beside their values; narrower ones are copied apart (docs/BENCHMARKS.md, "Copies that stall").
-#[derive(Clone, Copy)]
+#[derive(Clone, Copy, Default)]
 pub struct Head {
     pub ssa: u64,
     pub result: u64,
@@ -30,7 +30,7 @@ pub struct Head {
 }
 
 // Its blocks: how many are closed; the rows of all, and the first of the block in hand; the phi entries; the names of blocks mentioned.
-#[derive(Clone, Copy)]
+#[derive(Clone, Copy, Default)]
 pub struct Blocks {
     pub closed: usize,
     pub rows: usize,
@@ -41,7 +41,7 @@ pub struct Blocks {
 
 // The instruction in hand: its number, target, up to two sources and how many there are, a load's number, how many phi entries, the
 // numbers of up to two names of blocks that it mentions, and how many there are.
-#[derive(Clone, Copy)]
+#[derive(Clone, Copy, Default)]
 pub struct Parts {
     pub op: u64,
     pub target: usize,
@@ -72,6 +72,7 @@ pub struct Fault {
 }
 
 // The low byte of a number: all of it, where it is known to be below 256.
+// Kept, speed: the fields that it is asked of are of eight bytes, as said at `Head`.
 pub fn low(x: u64) -> u8
     ensures { result ≡ x % 256 }
 {
@@ -86,14 +87,7 @@ impl Parts {
         Self {
             op,
             target,
-            left: 0,
-            right: 0,
-            sources: 0,
-            number: 0,
-            entries: 0,
-            one: 0,
-            other: 0,
-            mentions: 0,
+            ..Self::default()
         }
     }
 }
@@ -105,20 +99,9 @@ impl Draft {
     {
         Self {
             functions,
-            head: Head {
-                ssa: 0,
-                result: 0,
-                params: 0,
-                registers: 0,
-            },
-            blocks: Blocks {
-                closed: 0,
-                rows: 0,
-                first: 0,
-                entries: 0,
-                names: 0,
-            },
-            parts: Parts::new(0, 0),
+            head: Head::default(),
+            blocks: Blocks::default(),
+            parts: Parts::default(),
         }
     }
 }

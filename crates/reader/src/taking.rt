@@ -47,6 +47,8 @@ impl Reader {
     }
 
     // The token at place p, with the bytes of a name.
+    // Kept, plainer: the buffers lent, here and in `perform`, `take_found`, `advance` and `feed`. A struct of these `&mut` would ask of each function that takes it a
+    // clause more for each field, that it still lends the same buffer; and an act takes but what it reads or writes, which is what its clause says of the rest.
     pub fn take(
         self,
         f: &mut [u8],
