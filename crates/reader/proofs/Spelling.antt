@@ -125,7 +125,7 @@ found_token (FoundAs.end p l) = FoundToken.end refl
 means_end : {name : List ℕ} (t : Token) → is_end t ≡ true → Means name t Tokenᴸ.end
 means_end tokens.Name q = absurd (false≢true q)
 means_end (tokens.Word w) q = absurd (false≢true q)
-means_end (tokens.Number g v o) q = absurd (false≢true q)
+means_end (tokens.Number g v) q = absurd (false≢true q)
 means_end (tokens.Mark k) q = absurd (false≢true q)
 means_end tokens.End q = Means.end
 
