@@ -6,6 +6,7 @@ ghost use Rattle.flow.specs.Layout.{flow_length, assignment_in, home_in, phis_in
 use crate::layout::{HOMES_OFFSET, PHIS_OFFSET};
 
 // 1 and the first row that assigns register u, or 0.
+// Kept, plainer: it is compared with `k + 1`, with 0 and with a row; an Option has no `==`, so each of these would be a method of its own with a closure.
 pub fn assignment(m: &[u16], u: usize) -> usize
     requires { (length m.now ≡ flow_length) × (u < max_registers) }
     ensures { (result ≡ assignment_in m.now u) × (result < 65536) }
