@@ -2,6 +2,7 @@
 // above its own, and as whether its sign matters.
 #![tactic(auto)]
 
+mod kinds;
 mod shifts;
 mod signs;
 mod wrapping;
@@ -14,9 +15,7 @@ ghost use Rattle.arithmetic.specs.Rooms.{sign_for, Source, Sources};
 
 use answers::Stop;
 use instructions::{ops, signed, width};
-use shifts::{rol, ror, shl, shr};
-use signs::{conv, div, less, rem};
-use wrapping::{add, flip, mul, neg, sub};
+use kinds::Kind;
 
 // Whether an instruction goes by the sign of its first source's type t, and t is signed.
 pub fn sign_for(op: u8, t: u8) -> bool
@@ -43,26 +42,27 @@ pub fn binary(op: u8, s: u64, sign: bool, a: u64, b: u64) -> Result<u64, Stop>
     requires { Sources op s a b }
     ensures { (t : ℕ) → s ≡ 64 - width_of t → sign ≡ sign_for op t → result_of result ≡ binary_of op t a b }
 {
+    let kind = Kind { room: s, sign };
     // Kept, plainer: an arm an instruction; closures, one for each, would be chosen by the same match.
     match op {
-        ops::ARI_ADD => Ok(add(s, a, b)),
-        ops::ARI_SUB => Ok(sub(s, a, b)),
-        ops::ARI_MUL => Ok(mul(s, a, b)),
-        ops::ARI_DIV => div(s, sign, a, b),
-        ops::ARI_REM => rem(s, sign, a, b),
+        ops::ARI_ADD => Ok(kind.add(a, b)),
+        ops::ARI_SUB => Ok(kind.sub(a, b)),
+        ops::ARI_MUL => Ok(kind.mul(a, b)),
+        ops::ARI_DIV => kind.div(a, b),
+        ops::ARI_REM => kind.rem(a, b),
         ops::BIT_AND => Ok(a & b),
         ops::BIT_OR => Ok(a | b),
         ops::BIT_XOR => Ok(a ^ b),
-        ops::SHL => shl(s, a, b),
-        ops::SHR => shr(s, sign, a, b),
-        ops::ROL => rol(s, a, b),
-        ops::ROR => ror(s, a, b),
+        ops::SHL => kind.shl(a, b),
+        ops::SHR => kind.shr(a, b),
+        ops::ROL => kind.rol(a, b),
+        ops::ROR => kind.ror(a, b),
         ops::CMP_EQ => Ok(u64::from(a == b)),
         ops::CMP_NEQ => Ok(u64::from(a != b)),
-        ops::CMP_GT => Ok(u64::from(less(s, sign, b, a))),
-        ops::CMP_LT => Ok(u64::from(less(s, sign, a, b))),
-        ops::CMP_GTEQ => Ok(u64::from(!less(s, sign, a, b))),
-        ops::CMP_LTEQ => Ok(u64::from(!less(s, sign, b, a))),
+        ops::CMP_GT => Ok(u64::from(kind.less(b, a))),
+        ops::CMP_LT => Ok(u64::from(kind.less(a, b))),
+        ops::CMP_GTEQ => Ok(u64::from(!kind.less(a, b))),
+        ops::CMP_LTEQ => Ok(u64::from(!kind.less(b, a))),
         _ => Ok(0),
     }
 }
@@ -72,11 +72,13 @@ pub fn unary(op: u8, s: u64, r: u64, sign: bool, x: u64) -> u64
     requires { Source s r x }
     ensures { (t u : ℕ) → s ≡ 64 - width_of t → r ≡ 64 - width_of u → sign ≡ sign_for op t → result ≡ unary_of op t u x }
 {
+    let from = Kind { room: s, sign };
+    let to = Kind { room: r, sign };
     // Kept, plainer: as in `binary`.
     match op {
-        ops::ARI_NEG => neg(s, x),
-        ops::BIT_NEG => flip(s, x),
-        ops::CONV => conv(s, r, sign, x),
+        ops::ARI_NEG => from.neg(x),
+        ops::BIT_NEG => from.flip(x),
+        ops::CONV => from.conv(to, x),
         ops::COPY => x,
         _ => 0,
     }

@@ -6,57 +6,84 @@ use Rattle.arithmetic.proofs.Meanings.{width_is, same_meaning, least_or_less}
 use Rattle.arithmetic.proofs.Numbers.{stands, room_in, first_in, second_in, arm, truth_of, binary_else}
 use Rattle.arithmetic.proofs.binary.Goals as goal
 
-pub add-requires : goal.add-requires
-unfolding binary_of sign_matters
-add-requires c = room_in c.requires
+pub invariant_of-kind : goal.invariant_of-kind
+invariant_of-kind c = record { below = room_in c.requires }
+
+pub invariant_of-kind-in-10 : goal.invariant_of-kind-in-10
+invariant_of-kind-in-10 c = record { below = room_in c.requires }
+
+pub invariant_of-kind-in-11 : goal.invariant_of-kind-in-11
+invariant_of-kind-in-11 c = record { below = room_in c.requires }
+
+pub invariant_of-kind-in-12 : goal.invariant_of-kind-in-12
+invariant_of-kind-in-12 c = record { below = room_in c.requires }
+
+pub invariant_of-kind-in-13 : goal.invariant_of-kind-in-13
+invariant_of-kind-in-13 c = record { below = room_in c.requires }
+
+pub invariant_of-kind-in-19 : goal.invariant_of-kind-in-19
+invariant_of-kind-in-19 c = record { below = room_in c.requires }
+
+pub invariant_of-kind-in-20 : goal.invariant_of-kind-in-20
+invariant_of-kind-in-20 c = record { below = room_in c.requires }
+
+pub invariant_of-kind-in-21 : goal.invariant_of-kind-in-21
+invariant_of-kind-in-21 c = record { below = room_in c.requires }
+
+pub invariant_of-kind-in-22 : goal.invariant_of-kind-in-22
+invariant_of-kind-in-22 c = record { below = room_in c.requires }
+
+pub invariant_of-kind-in-25 : goal.invariant_of-kind-in-25
+invariant_of-kind-in-25 c = record { below = room_in c.requires }
+
+pub invariant_of-kind-in-26 : goal.invariant_of-kind-in-26
+invariant_of-kind-in-26 c = record { below = room_in c.requires }
+
+pub invariant_of-kind-in-27 : goal.invariant_of-kind-in-27
+invariant_of-kind-in-27 c = record { below = room_in c.requires }
+
+pub invariant_of-kind-in-28 : goal.invariant_of-kind-in-28
+invariant_of-kind-in-28 c = record { below = room_in c.requires }
 
 pub sub-requires : goal.sub-requires
 unfolding binary_of sign_matters
-sub-requires c = (room_in c.requires, second_in c.requires c.in-10.is (λ t. refl))
-
-pub mul-requires : goal.mul-requires
-unfolding binary_of sign_matters
-mul-requires c = room_in c.requires
+sub-requires c = second_in c.requires c.in-10.is (λ t. refl)
 
 pub div-requires : goal.div-requires
 unfolding binary_of sign_matters
-div-requires c = (room_in c.requires, first_in c.requires, second_in c.requires c.in-12.is (λ t. refl))
+div-requires c = (first_in c.requires, second_in c.requires c.in-12.is (λ t. refl))
 
 pub rem-requires : goal.rem-requires
 unfolding binary_of sign_matters
-rem-requires c = (room_in c.requires, first_in c.requires, second_in c.requires c.in-13.is (λ t. refl))
-
-pub shl-requires : goal.shl-requires
-unfolding binary_of sign_matters
-shl-requires c = room_in c.requires
+rem-requires c = (first_in c.requires, second_in c.requires c.in-13.is (λ t. refl))
 
 pub shr-requires : goal.shr-requires
 unfolding binary_of sign_matters
-shr-requires c = (room_in c.requires, first_in c.requires)
+shr-requires c = first_in c.requires
 
 pub rol-requires : goal.rol-requires
 unfolding binary_of sign_matters
-rol-requires c = (room_in c.requires, first_in c.requires)
+rol-requires c = first_in c.requires
 
 pub ror-requires : goal.ror-requires
 unfolding binary_of sign_matters
-ror-requires c = (room_in c.requires, first_in c.requires)
+ror-requires c = first_in c.requires
 
 pub less-requires : goal.less-requires
 unfolding binary_of sign_matters
-less-requires c = (room_in c.requires, second_in c.requires c.in-25.is (λ t. refl), first_in c.requires)
+less-requires c = (second_in c.requires c.in-25.is (λ t. refl), first_in c.requires)
 
 pub less-requires-in-26 : goal.less-requires-in-26
 unfolding binary_of sign_matters
-less-requires-in-26 c = (room_in c.requires, first_in c.requires, second_in c.requires c.in-26.is (λ t. refl))
+less-requires-in-26 c = (first_in c.requires, second_in c.requires c.in-26.is (λ t. refl))
 
 pub less-requires-in-27 : goal.less-requires-in-27
 unfolding binary_of sign_matters
-less-requires-in-27 c = (room_in c.requires, first_in c.requires, second_in c.requires c.in-27.is (λ t. refl))
+less-requires-in-27 c = (first_in c.requires, second_in c.requires c.in-27.is (λ t. refl))
 
 pub less-requires-in-28 : goal.less-requires-in-28
 unfolding binary_of sign_matters
-less-requires-in-28 c = (room_in c.requires, second_in c.requires c.in-28.is (λ t. refl), first_in c.requires)
+less-requires-in-28 c = (second_in c.requires c.in-28.is (λ t. refl), first_in c.requires)
 
 pub returns-in-9 : goal.returns-in-9
 unfolding binary_of sign_matters

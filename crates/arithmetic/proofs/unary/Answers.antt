@@ -9,18 +9,27 @@ use Rattle.arithmetic.proofs.unary.Goals as goal
 
 pub neg-requires : goal.neg-requires
 unfolding unary_of sign_matters
-neg-requires c = (room_below c.requires.kind c.requires.above, fits_in c.requires.kind c.requires.above c.requires.fits)
+neg-requires c = fits_in c.requires.kind c.requires.above c.requires.fits
 
 pub flip-requires : goal.flip-requires
 unfolding unary_of sign_matters
-flip-requires c = (room_below c.requires.kind c.requires.above, fits_in c.requires.kind c.requires.above c.requires.fits)
+flip-requires c = fits_in c.requires.kind c.requires.above c.requires.fits
 
 pub conv-requires : goal.conv-requires
 unfolding unary_of sign_matters
-conv-requires c =
-    let h = room_below c.requires.kind c.requires.above in
-    let i = room_below c.requires.target c.requires.above_target in
-    (h, omega arith, fits_in c.requires.kind c.requires.above c.requires.fits)
+conv-requires c = fits_in c.requires.kind c.requires.above c.requires.fits
+
+pub invariant_of-from : goal.invariant_of-from
+invariant_of-from c = record { below = room_below c.requires.kind c.requires.above }
+
+pub invariant_of-from-in-18 : goal.invariant_of-from-in-18
+invariant_of-from-in-18 c = record { below = room_below c.requires.kind c.requires.above }
+
+pub invariant_of-from-in-29 : goal.invariant_of-from-in-29
+invariant_of-from-in-29 c = record { below = room_below c.requires.kind c.requires.above }
+
+pub invariant_of-to : goal.invariant_of-to
+invariant_of-to c = record { below = room_below c.requires.target c.requires.above_target }
 
 pub returns-in-14 : goal.returns-in-14
 unfolding unary_of sign_matters

@@ -1,7 +1,0 @@
--- `wrapping::add`: what is right modulo 2^64 is right modulo 2^w.
-use Rattle.std.proofs.Common.{◌+◌, refl}
-use Rattle.arithmetic.proofs.Words.{reduced}
-use Rattle.arithmetic.proofs.wrapping.add.Goals as goal
-
-pub returns : goal.returns
-returns c = reduced c.args.s c.requires (c.args.a + c.args.b) refl c.keep.ensures

@@ -1,8 +1,0 @@
--- `wrapping::neg`: 0 - a, modulo 2^w.
-use Rattle.std.proofs.Common.{arith}
-use Rattle.arithmetic.proofs.Words.{taken_away, negated}
-use Rattle.arithmetic.proofs.wrapping.neg.Goals as goal
-
-pub returns : goal.returns
-returns c =
-    negated c.args.s c.requires.0 _ c.requires.1 (taken_away 0 c.args.a (omega arith) (omega arith)) c.keep.ensures
