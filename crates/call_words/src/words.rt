@@ -24,7 +24,7 @@ fn function_named(t: &[u8], word: &[u8]) -> u64
     ensures { result ≡ function_named (decode t.now) word.now }
 {
     let n = function_count(t);
-    find_name(t, FUNCTION_NAMES_OFFSET, FUNCTION_LENGTH, n, word) as u64
+    find_name(t, FUNCTION_NAMES_OFFSET, FUNCTION_LENGTH, n, word).unwrap_or(n) as u64
 }
 
 // What a word's number is, or the number of what it names.

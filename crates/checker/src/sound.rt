@@ -122,7 +122,7 @@ fn named_before(t: &[u8], i: usize, a: usize) -> bool
     ensures { result ≡ any (same (function_name t.now a)) (table_names_before t.now i) }
 {
     let name = function_name(t, a);
-    find_name(t, FUNCTION_NAMES_OFFSET, FUNCTION_LENGTH, i, name) < i
+    find_name(t, FUNCTION_NAMES_OFFSET, FUNCTION_LENGTH, i, name).is_some()
 }
 
 // Names that stand `stride` apart from cell `at` on: each is none or one that a text can spell, and none stands twice.

@@ -67,7 +67,7 @@ impl Draft {
         ensures { (m l b : List ℕ) → Acts Unnamed (name_function name.now p.byte) self (lent_of f.old names.old m l b) result (lent_of f.new names.new m l b) }
     {
         let n = self.functions;
-        if find_name(names, 0, NAME_LENGTH, n, name) < n {
+        if find_name(names, 0, NAME_LENGTH, n, name).is_some() {
             return Err(Fault {
                 reason: Reason::DeclaredTwice,
                 at: p,
@@ -112,7 +112,8 @@ impl Draft {
             name,
             last,
             before,
-        ) < n
+        )
+        .is_some()
         {
             return Err(Fault {
                 reason: Reason::DeclaredTwice,
@@ -141,7 +142,7 @@ impl Draft {
         ensures { (l b : List ℕ) → ActsOn NoBlock (name_block name.now p.byte) self f.old l b result f.new }
     {
         let n = self.blocks.closed;
-        if find_name(f, BLOCK_NAMES_OFFSET, BLOCK_LENGTH, n, name) < n {
+        if find_name(f, BLOCK_NAMES_OFFSET, BLOCK_LENGTH, n, name).is_some() {
             return Err(Fault {
                 reason: Reason::DeclaredTwice,
                 at: p,

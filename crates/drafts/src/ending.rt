@@ -31,16 +31,10 @@ fn resolve(f: &[u8], blocks: usize, pend: &[u8], names: usize, found: &mut [u8])
     ensures among { IfSome result (λ k. k < names) }
 {
     for k in 0..names {
-        let b = find_name(
-            f,
-            BLOCK_NAMES_OFFSET,
-            BLOCK_LENGTH,
-            blocks,
-            name_at(pend, MENTION_LENGTH * k),
-        );
-        if blocks <= b {
+        let name = name_at(pend, MENTION_LENGTH * k);
+        let Some(b) = find_name(f, BLOCK_NAMES_OFFSET, BLOCK_LENGTH, blocks, name) else {
             return Some(k);
-        }
+        };
         found[k] = b as u8;
     }
     None
@@ -97,13 +91,12 @@ impl Draft {
         let mut found = [0u8; FOUND];
         let n = self.blocks.closed;
         let none = &pend[0..0];
-        let entry = find_name(f, BLOCK_NAMES_OFFSET, BLOCK_LENGTH, n, none);
-        if n <= entry {
+        let Some(entry) = find_name(f, BLOCK_NAMES_OFFSET, BLOCK_LENGTH, n, none) else {
             return Err(Fault {
                 reason: Reason::NoEntry,
                 at: p,
             });
-        }
+        };
         let names = self.blocks.names;
         if let Some(k) = resolve(f, n, pend, names, &mut found) {
             let byte = four_at(pend, MENTION_LENGTH * k + MENTION_PLACE);

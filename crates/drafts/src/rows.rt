@@ -36,6 +36,7 @@ impl Draft {
             last,
             before,
         )
+        .unwrap_or(self.head.registers)
     }
 
     // An instruction that has no target: 5 at its word.
@@ -172,8 +173,7 @@ impl Draft {
         ensures upper_bound { result ≤ self.blocks.names }
     {
         let n = self.blocks.names;
-        let k = find_name(pend, 0, MENTION_LENGTH, n, name);
-        if k < n {
+        if let Some(k) = find_name(pend, 0, MENTION_LENGTH, n, name) {
             return k;
         }
         if n < MAX_NAMES {

@@ -4,7 +4,7 @@ ghost use Rattle.std.specs.Prelude.{◌≡◌, [], ◌+◌, ◌-◌, ◌*◌, �
 ghost use Rattle.laws.specs.Lists.{same as same_as};
 ghost use Rattle.language.specs.Programs.{max_registers};
 ghost use Rattle.language.specs.Table.{eight};
-ghost use Rattle.table.specs.Named.{first_named, NameWithin, NamesWithin};
+ghost use Rattle.table.specs.Named.{FindsName, NameWithin, NamesWithin};
 ghost use Rattle.name_index.specs.Chains.{Indexed, Adds, IndexedIf};
 ghost use Rattle.name_index.specs.Hashes.{heads, end_of};
 ghost use Rattle.name_index.specs.Names.{names_in};
@@ -47,22 +47,20 @@ fn same_start(a: &[u8], b: &[u8]) -> bool
     true
 }
 
-// `find` for a name of no bytes, which is in no chain: the first of `count` names that has none, or `count`.
-fn find_none(t: &[u8], at: usize, stride: usize, count: usize) -> usize
+// `find` for a name of no bytes, which is in no chain: the first of `count` names that has none.
+fn find_none(t: &[u8], at: usize, stride: usize, count: usize) -> Option<usize>
     requires { NamesWithin t.now at stride count }
-    ensures { (result ≡ first_named t.now at stride count []) × (result ≤ count) }
+    ensures { FindsName t.now at stride count [] result }
 {
-    let mut i = 0;
-    while i < count {
-        if name_at(t, at + stride * i).len() == 0 {
-            return i;
+    for i in 0..count {
+        if name_at(t, at + stride * i).is_empty() {
+            return Some(i);
         }
-        i += 1;
     }
-    count
+    None
 }
 
-// The first of `count` names that equals `name`, or `count`. Their length cells stand `stride` apart, from cell `at` on. Neither
+// The first of `count` names that equals `name`. Their length cells stand `stride` apart, from cell `at` on. Neither
 // `table::find_name` nor `table::same` is called: a call that takes slices makes the compiler keep them in memory.
 pub fn find(
     t: &[u8],
@@ -72,12 +70,12 @@ pub fn find(
     name: &[u8],
     last: &[u16],
     before: &[u16],
-) -> usize
+) -> Option<usize>
     requires names_within { NamesWithin t.now at stride count }
     requires indexed { Indexed (names_in t.now at stride count) last.now before.now }
-    ensures { (result ≡ first_named t.now at stride count name.now) × (result ≤ count) }
+    ensures { FindsName t.now at stride count name.now result }
 {
-    if name.len() == 0 {
+    if name.is_empty() {
         return find_none(t, at, stride, count);
     }
     let x = end(name);
@@ -85,11 +83,11 @@ pub fn find(
     while y != 0 {
         let j = y - 1;
         if is_name(name_at(t, at + stride * j), name, x) {
-            return j;
+            return Some(j);
         }
         y = usize::from(before[j]);
     }
-    count
+    None
 }
 
 // Name n is put at the head of its chain.
@@ -116,10 +114,10 @@ fn add_distinct(
     ensures { IndexedIf (names_in t.now at stride (i + 1)) last.new before.new result }
 {
     let name = name_at(t, at + stride * i);
-    if name.len() == 0 {
+    if name.is_empty() {
         return true;
     }
-    if find(t, at, stride, i, name, last, before) < i {
+    if find(t, at, stride, i, name, last, before).is_some() {
         return false;
     }
     add(i, name, last, before);
@@ -139,12 +137,10 @@ pub fn index(
     requires indexed { Indexed [] last.old before.old }
     ensures { IndexedIf (names_in t.now at stride count) last.new before.new result }
 {
-    let mut i = 0;
-    while i < count {
+    for i in 0..count {
         if !add_distinct(t, at, stride, i, last, before) {
             return false;
         }
-        i += 1;
     }
     true
 }

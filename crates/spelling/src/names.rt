@@ -12,24 +12,20 @@ use table::{MAX_NAME, name_at};
 pub fn spellable(name: &[u8]) -> bool
     ensures { result ≡ spellable_of name.now }
 {
-    let n = name.len();
-    if n == 0 {
+    let [.., last] = name else {
+        return false;
+    };
+    if MAX_NAME < name.len() {
         return false;
     }
-    if MAX_NAME < n {
-        return false;
-    }
-    name[n - 1] != b'\\'
+    *last != b'\\'
 }
 
 // "Registers and blocks may have a name of no bytes"; any other is one that a text can spell.
 fn spellable_or_none(name: &[u8]) -> bool
     ensures { result ≡ spellable_or_none name.now }
 {
-    if name.len() == 0 {
-        return true;
-    }
-    spellable(name)
+    name.is_empty() || spellable(name)
 }
 
 // Whether each of `count` names has no bytes or is one that a text can spell. Their length cells stand `stride` apart, from cell `at` on.
@@ -37,12 +33,10 @@ pub fn all_spellable(t: &[u8], at: usize, stride: usize, count: usize) -> bool
     requires { NamesWithin t.now at stride count }
     ensures { result ≡ all spellable_or_none (names_in t.now at stride count) }
 {
-    let mut i = 0;
-    while i < count {
+    for i in 0..count {
         if !spellable_or_none(name_at(t, at + stride * i)) {
             return false;
         }
-        i += 1;
     }
     true
 }

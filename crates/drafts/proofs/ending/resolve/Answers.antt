@@ -13,18 +13,15 @@ loop-k-init c = (omega arith, refl, below_none _)
 pub overflow_mul-k : goal.overflow_mul-k
 overflow_mul-k c = omega arith
 
-pub name_at-requires : goal.name_at-requires
-name_at-requires c = omega arith
+pub name_at-name-requires : goal.name_at-name-requires
+name_at-name-requires c = omega arith
 
-pub find_name-b-requires : goal.find_name-b-requires
-find_name-b-requires c = omega arith
+pub find_name-requires : goal.find_name-requires
+find_name-requires c = omega arith
 
-pub shape_of-found-then-blocks-b : goal.shape_of-found-then-blocks-b
-shape_of-found-then-blocks-b c = omega arith
-
-pub returns-then-blocks-b : goal.returns-then-blocks-b
-returns-then-blocks-b c =
-    let named = named_by c.args.f.now c.args.blocks c.args.pend.now c.loop-k.k c.name_at.ensures c.find_name-b.ensures.0 in
+pub returns-in_default : goal.returns-in_default
+returns-in_default c =
+    let named = named_by c.args.f.now c.args.blocks c.args.pend.now c.loop-k.k c.name_at-name.ensures c.in_default.ensures in
     let inv = c.loop-k.invariant in
     record { resolved = record { most = inv.0; named = inv.2; missing = λ h. omega (arith, named) }; among = omega arith }
 
@@ -36,12 +33,12 @@ bounds-found-k c = omega arith
 
 pub loop-k-preserved : goal.loop-k-preserved
 loop-k-preserved c =
-    let named = named_by c.args.f.now c.args.blocks c.args.pend.now c.loop-k.k c.name_at.ensures c.find_name-b.ensures.0 in
+    let named = named_by c.args.f.now c.args.blocks c.args.pend.now c.loop-k.k c.name_at-name.ensures c.in-Some.ensures.0 in
     let args = c.args in (
       omega arith,
       simp length-set (omega arith),
       found_more (block_named args.f.now args.blocks args.pend.now) args.blocks c.loop-k.found c.loop-k.k (omega arith) c.loop-k.invariant.2
-          named c.if-blocks-b.false,
+          named c.in-Some.ensures.1,
     )
 
 pub shape_of-found : goal.shape_of-found

@@ -3,9 +3,10 @@ use mathlib.Core.Bool.{Bool, true≢false}
 use mathlib.Core.List.{List}
 use mathlib.Core.Path.{◌≡◌, sym, ap, ◌∙◌}
 use native.Mathlib.Omega.{arith}
+use borrow.Author.Tests.{eqb-true, eqb-false}
 use Rattle.laws.specs.Lists.{same}
 use Rattle.language.specs.Table.{name_at}
-use Rattle.table.specs.Named.{is_named, first_named}
+use Rattle.table.specs.Named.{is_named}
 use Rattle.table.proofs.NamesLaws.{room}
 use Rattle.name_index.proofs.InTable.{no_bytes, names_length_law}
 use Rattle.name_index.proofs.ChainLaws.{chain_some, chain_next, found_chained, first_found, none_found}
@@ -23,10 +24,10 @@ named t at stride name i p q e = ap (λ (l : List ℕ). same l name) (sym p) ∙
 pub find_none-requires : goal.find_none-requires
 find_none-requires c = c.requires.names_within
 
-pub returns-then-name-eq0 : goal.returns-then-name-eq0
-returns-then-name-eq0 c =
+pub returns-then-is_empty : goal.returns-then-is_empty
+returns-then-is_empty c =
     let args = c.args in
-    (c.find_none.ensures.0 ∙ ap (first_named args.t.now args.at args.stride args.count) (sym (no_bytes args.name.now c.if-name-eq0.true)), c.find_none.ensures.1)
+    rw (no_bytes args.name.now (eqb-true _ 0 (sym c.is_empty.ensures ∙ c.if-is_empty.true))) c.find_none.ensures
 
 pub bounds-last-hash : goal.bounds-last-hash
 bounds-last-hash c = omega (arith, c.hash.ensures.1, c.requires.indexed.lasts)
@@ -36,7 +37,7 @@ loop-y-init c =
     let args = c.args in
     let t = args.t.now in (
       omega (arith, c.from-y.ensures, c.requires.indexed.within c.hash.result, names_length_law t args.at args.stride args.count),
-      found_chained t args.at args.stride args.count args.name.now c.requires.indexed c.if-name-eq0.false c.end-x.ensures
+      found_chained t args.at args.stride args.count args.name.now c.requires.indexed (eqb-false _ 0 (sym c.is_empty.ensures ∙ c.if-is_empty.false)) c.end-x.ensures
           c.hash.ensures.0 c.from-y.ensures,
     )
 
@@ -60,7 +61,7 @@ returns-then-is_name c =
     let args = c.args in
     let t = args.t.now in
     let here = named t args.at args.stride args.name.now (c.loop-y.y - 1) c.name_at.ensures c.is_name.ensures c.if-is_name.true in
-    (first_found t args.at args.stride args.count args.name.now c.requires.indexed c.if-name-eq0.false (c.loop-y.y - 1) (omega arith) here, omega arith)
+    (first_found t args.at args.stride args.count args.name.now c.requires.indexed (eqb-false _ 0 (sym c.is_empty.ensures ∙ c.if-is_empty.false)) (c.loop-y.y - 1) (omega arith) here, omega arith)
 
 pub offset_bounds-before-j : goal.offset_bounds-before-j
 offset_bounds-before-j c =
@@ -91,4 +92,4 @@ loop-y-preserved c =
 pub returns : goal.returns
 returns c =
     let args = c.args in
-    (none_found args.t.now args.at args.stride args.count args.name.now (λ j l e. let z = chain_some (c.loop-y.invariant.1 j l e) in omega arith), omega arith)
+    none_found args.t.now args.at args.stride args.count args.name.now (λ j l e. let z = chain_some (c.loop-y.invariant.1 j l e) in omega arith)

@@ -1,5 +1,7 @@
 use mathlib.Core.List.{[]}
+use mathlib.Core.Path.{sym, ◌∙◌}
 use native.Mathlib.Omega.{arith}
+use borrow.Author.Tests.{eqb-true, eqb-false}
 use borrow.Author.Count.{below_none, below_more}
 use Rattle.laws.proofs.Positions.{position_below}
 use Rattle.table.specs.Named.{is_named, first_named}
@@ -8,7 +10,7 @@ use Rattle.name_index.proofs.InTable.{named_none, named_some}
 use Rattle.name_index.proofs.chains.find_none.Goals as goal
 
 pub loop-i-init : goal.loop-i-init
-loop-i-init c = (omega arith, below_none _)
+loop-i-init c = below_none _
 
 pub overflow_mul-stride : goal.overflow_mul-stride
 overflow_mul-stride c = omega (arith, room c.args.stride c.loop-i-test.true)
@@ -19,29 +21,23 @@ overflow_add-at c = omega (arith, room c.args.stride c.loop-i-test.true)
 pub name_at-requires : goal.name_at-requires
 name_at-requires c = omega (arith, room c.args.stride c.loop-i-test.true)
 
-pub returns-then-name_at-eq0 : goal.returns-then-name_at-eq0
+pub returns-then-is_empty : goal.returns-then-is_empty
 unfolding first_named
-returns-then-name_at-eq0 c =
+returns-then-is_empty c =
     let args = c.args in
     let t = args.t.now in (
-      position_below (is_named t args.at args.stride []) args.count c.loop-i.i (omega arith) c.loop-i.invariant.1
-          (λ h. named_none t args.at args.stride c.loop-i.i c.name_at.ensures c.if-name_at-eq0.true),
+      position_below (is_named t args.at args.stride []) args.count c.loop-i.i (omega arith) c.loop-i.invariant
+          (λ h. named_none t args.at args.stride c.loop-i.i c.name_at.ensures (eqb-true _ 0 (sym c.is_empty.ensures ∙ c.if-is_empty.true))),
       omega arith,
     )
-
-pub overflow_add-i : goal.overflow_add-i
-overflow_add-i c = omega arith
-
-pub loop-i-smaller : goal.loop-i-smaller
-loop-i-smaller c = omega arith
 
 pub loop-i-preserved : goal.loop-i-preserved
 loop-i-preserved c =
     let args = c.args in
-    (omega arith, below_more _ _ c.loop-i.invariant.1 (named_some args.t.now args.at args.stride c.loop-i.i c.name_at.ensures c.if-name_at-eq0.false))
+    below_more _ _ c.loop-i.invariant (named_some args.t.now args.at args.stride c.loop-i.i c.name_at.ensures (eqb-false _ 0 (sym c.is_empty.ensures ∙ c.if-is_empty.false)))
 
 pub returns : goal.returns
 unfolding first_named
 returns c =
     let args = c.args in
-    (position_below (is_named args.t.now args.at args.stride []) args.count args.count (omega arith) (λ j h. c.loop-i.invariant.1 j (omega arith)) (λ h. absurd (omega arith)), omega arith)
+    position_below (is_named args.t.now args.at args.stride []) args.count args.count (omega arith) (λ j h. c.loop-i.invariant j (omega arith)) (λ h. absurd (omega arith))

@@ -11,7 +11,7 @@ use Rattle.spelling.proofs.names.all_spellable.Goals as goal
 
 pub loop-i-init : goal.loop-i-init
 unfolding names_in
-loop-i-init c = (omega arith, refl)
+loop-i-init c = refl
 
 pub overflow_mul-stride : goal.overflow_mul-stride
 overflow_mul-stride c = omega (arith, room c.args.stride c.loop-i-test.true)
@@ -25,25 +25,17 @@ name_at-requires c = omega (arith, room c.args.stride c.loop-i-test.true)
 pub returns-then-not-spellable_or_none : goal.returns-then-not-spellable_or_none
 returns-then-not-spellable_or_none c =
     let args = c.args in
-    all_off args.t.now args.at args.stride spellable_or_none c.loop-i.i c.loop-i.invariant.1 (c.spellable_or_none.ensures ∙ ap spellable_or_none c.name_at.ensures)
+    all_off args.t.now args.at args.stride spellable_or_none c.loop-i.i c.loop-i.invariant (c.spellable_or_none.ensures ∙ ap spellable_or_none c.name_at.ensures)
     args.count c.loop-i-test.true (not-true _ c.if-not-spellable_or_none.true-raw)
-
-pub overflow_add-i : goal.overflow_add-i
-overflow_add-i c = omega arith
-
-pub loop-i-smaller : goal.loop-i-smaller
-loop-i-smaller c = omega arith
 
 pub loop-i-preserved : goal.loop-i-preserved
 loop-i-preserved c =
-    let args = c.args in (
-      omega arith,
-      all_on args.t.now args.at args.stride spellable_or_none c.loop-i.i c.loop-i.invariant.1 (c.spellable_or_none.ensures ∙ ap spellable_or_none c.name_at.ensures)
-          (not-false _ c.if-not-spellable_or_none.false-raw),
-    )
+    let args = c.args in
+    all_on args.t.now args.at args.stride spellable_or_none c.loop-i.i c.loop-i.invariant (c.spellable_or_none.ensures ∙ ap spellable_or_none c.name_at.ensures)
+    (not-false _ c.if-not-spellable_or_none.false-raw)
 
 pub returns : goal.returns
 returns c =
     let args = c.args in
     let done : args.count ≡ c.loop-i.i = omega arith in
-    sym (ap (λ (n : ℕ). all spellable_or_none (names_in args.t.now args.at args.stride n)) done ∙ c.loop-i.invariant.1)
+    sym (ap (λ (n : ℕ). all spellable_or_none (names_in args.t.now args.at args.stride n)) done ∙ c.loop-i.invariant)

@@ -1,5 +1,4 @@
 -- The loop's invariant: every name passed has no bytes or is spellable.
-use Prim.Native.Nat.{◌-◌, ◌≤◌}
 use mathlib.Core.Bool.{true}
 use mathlib.Core.Path.{◌≡◌}
 use Rattle.laws.specs.Lists.{all}
@@ -8,7 +7,4 @@ use Rattle.name_index.specs.Names.{names_in}
 use Rattle.spelling.proofs.names.all_spellable.Given as goal
 
 abbrev pub invariant-loop-i : goal.invariant-loop-i
-invariant-loop-i l = (l.i ≤ l.count) × (all spellable_or_none (names_in l.t l.at l.stride l.i) ≡ true)
-
-abbrev pub decreases-loop-i : goal.decreases-loop-i
-decreases-loop-i l = l.count - l.i
+invariant-loop-i l = all spellable_or_none (names_in l.t l.at l.stride l.i) ≡ true

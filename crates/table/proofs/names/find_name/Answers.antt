@@ -1,27 +1,34 @@
--- Both ways to look a name up find the same.
+use mathlib.Core.Path.{sym, ◌∙◌}
 use native.Mathlib.Omega.{arith}
+use borrow.Author.Count.{below_none, below_more}
+use Rattle.laws.proofs.Positions.{position_below}
+use Rattle.table.specs.Named.{is_named, first_named}
+use Rattle.table.proofs.NamesLaws.{room}
 use Rattle.table.proofs.names.find_name.Goals as goal
 
-pub find_any-requires : goal.find_any-requires
-find_any-requires c = c.requires
+pub loop-i-init : goal.loop-i-init
+loop-i-init c = below_none _
 
-pub returns-then-n-lt8 : goal.returns-then-n-lt8
-returns-then-n-lt8 c = c.find_any.ensures
+pub overflow_mul-stride : goal.overflow_mul-stride
+overflow_mul-stride c = omega (arith, room c.args.stride c.loop-i-test.true)
 
-pub find_any-requires-then-n-gt255 : goal.find_any-requires-then-n-gt255
-find_any-requires-then-n-gt255 c = c.requires
+pub overflow_add-at : goal.overflow_add-at
+overflow_add-at c = omega (arith, room c.args.stride c.loop-i-test.true)
 
-pub returns-then-n-gt255 : goal.returns-then-n-gt255
-returns-then-n-gt255 c = c.find_any-then-n-gt255.ensures
+pub is_at-requires : goal.is_at-requires
+is_at-requires c = record { name_within = omega (arith, room c.args.stride c.loop-i-test.true); tail_value = c.tail_of-tail.ensures }
 
-pub find_any-requires-then-stride-gt65535 : goal.find_any-requires-then-stride-gt65535
-find_any-requires-then-stride-gt65535 c = c.requires
+pub returns-then-is_at : goal.returns-then-is_at
+unfolding first_named
+returns-then-is_at c =
+    let a = c.args in
+    (position_below (is_named a.t.now a.at a.stride a.name.now) a.count c.loop-i.i (omega arith) c.loop-i.invariant (λ h. sym c.is_at.ensures ∙ c.if-is_at.true), omega arith)
 
-pub returns-then-stride-gt65535 : goal.returns-then-stride-gt65535
-returns-then-stride-gt65535 c = c.find_any-then-stride-gt65535.ensures
-
-pub find_long-requires : goal.find_long-requires
-find_long-requires c = record { names_within = c.requires; in_bounds = (omega (arith, c.if-n-lt8.false), omega (arith, c.if-n-gt255.false), omega (arith, c.if-stride-gt65535.false)) }
+pub loop-i-preserved : goal.loop-i-preserved
+loop-i-preserved c = below_more _ _ c.loop-i.invariant (sym c.is_at.ensures ∙ c.if-is_at.false)
 
 pub returns : goal.returns
-returns c = c.find_long.ensures
+unfolding first_named
+returns c =
+    let a = c.args in
+    position_below (is_named a.t.now a.at a.stride a.name.now) a.count a.count (omega arith) (λ j h. c.loop-i.invariant j (omega arith)) (λ h. absurd (omega arith))
