@@ -1,6 +1,6 @@
 -- What the acts on the instruction in hand come to: the numbers of the draft after each, its cells and its names.
 -- Assumes nothing.
-use mathlib.Core.Bool.{Bool, true, false, true≢false, false≢true}
+use mathlib.Core.Bool.{Bool, true, false}
 use mathlib.Core.Path.{◌≡◌, refl, sym, ap, ◌∙◌}
 use mathlib.Core.List.{List, [], ◌∷◌, ◌++◌}
 use Prim.Native.Nat.{ℕ, ◌+◌, ◌*◌, ◌%◌, ◌≤◌, ◌<◌}
@@ -21,7 +21,7 @@ use Rattle.drafts.specs.Mentions.{kept}
 use Rattle.drafts.specs.Cells.{operand_cell, instruction_cells}
 use Rattle.drafts.specs.State.{fault_at, Bounded, Counts, Stands, Lent, lent_of, ActsOn, ActsAlone, Always, NoParts, WholeRow, KeptAs, operand_at, row_at}
 use Rattle.drafts.specs.declared.state.Draft.{Draft}
-use Rattle.std.specs.Prelude.{Option, Some, None, Ok, Err}
+use Rattle.std.specs.Prelude.{Option, Some, Ok, Err}
 use Rattle.answers.specs.declared.reasons.Reason.TheVariants as reasons
 use Rattle.text_place.specs.declared.TextPlace.{TextPlace}
 use Rattle.drafts.proofs.FirstTwo.{Firsts, Pushed, no_firsts}

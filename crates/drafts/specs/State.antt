@@ -1,5 +1,5 @@
 -- What a draft's numbers stand for: a draft of the definition, whose cells and names are lent. Assumes nothing.
-use Rattle.std.specs.Prelude.{◌≡◌, Bool, true, false, cond, List, [], ◌∷◌, ◌++◌, map, ℕ, ◌+◌, ◌-◌, ◌*◌, ◌≤◌, ◌<◌, min, ltb, length, get_or, Option, Some, None, Result, Ok, Err}
+use Rattle.std.specs.Prelude.{◌≡◌, cond, List, [], ◌∷◌, ◌++◌, map, ℕ, ◌+◌, ◌-◌, ◌*◌, ◌≤◌, ◌<◌, min, ltb, length, get_or, Option, Some, None, Result, Ok, Err}
 use Rattle.language.specs.Programs.{Func, max_rows, max_entries, max_blocks, max_registers, max_functions, max_name}
 use Rattle.language.specs.Instructions.{Operand, form_of, has_target, source_count, operand_of}
 use Rattle.language.specs.Table.{name_at, four, eight_bytes, name_length, function_length, register_length, register_names_offset, function_cells}
