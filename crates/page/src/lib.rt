@@ -32,10 +32,8 @@ fn put_each(out: &mut [u8], at: usize, s: &[u8]) -> usize
     ensures { page out.new result ≡ puts (page out.old at) s.now }
 {
     let mut p = at;
-    let mut i = 0;
-    while i < s.len() {
-        p = put_byte(out, p, s[i]);
-        i += 1;
+    for b in s {
+        p = put_byte(out, p, *b);
     }
     p
 }
@@ -62,10 +60,8 @@ pub fn put_part(out: &mut [u8], at: usize, s: &[u8]) -> usize
 pub fn zero_from(out: &mut [u8], at: usize) -> usize
     ensures { (result ≡ at) × (out.new ≡ closed out.old at) }
 {
-    let mut i = at;
-    while i < out.len() {
-        out[i] = 0;
-        i += 1;
+    if at < out.len() {
+        out[at..].fill(0);
     }
     at
 }

@@ -12,18 +12,18 @@ one_more : (p : Page) (s : List ℕ) (i : ℕ) → i < length s → puts p (take
 unfolding puts
 one_more p s i h = rw (add-one, take-suc s i 0, foldl-append)
 
-pub loop-i-init : goal.loop-i-init
+pub loop-b-init : goal.loop-b-init
 unfolding puts
-loop-i-init c = (search rules, refl, refl)
+loop-b-init c = (refl, refl)
 
-pub loop-i-preserved : goal.loop-i-preserved
-loop-i-preserved c =
+pub loop-b-preserved : goal.loop-b-preserved
+loop-b-preserved c =
     let done = c.put_byte-p.ensures in
-    let s = c.args.s.now in (
-      search rules,
-      ap (λ (q : Page). length q.bytes) done ∙ simp length-set c.loop-i.invariant.1,
-      done ∙ ap (λ (q : Page). put q (get_or s c.loop-i.i 0)) c.loop-i.invariant.2 ∙ sym (one_more _ s c.loop-i.i c.loop-i-test.true),
+    let s = c.args.s.now in
+    let i = c.loop-b.b-index in (
+      ap (λ (q : Page). length q.bytes) done ∙ simp length-set c.loop-b.invariant.0,
+      done ∙ ap (λ (q : Page). put q (get_or s i 0)) c.loop-b.invariant.1 ∙ sym (one_more _ s i c.loop-b-test.true),
     )
 
 pub returns : goal.returns
-returns c = c.loop-i.invariant.2 ∙ ap (puts _) (take_all _ _ c.loop-i-test.false)
+returns c = c.loop-b.invariant.1 ∙ ap (puts _) (take_all _ _ c.loop-b-test.false)
