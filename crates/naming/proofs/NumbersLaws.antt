@@ -73,11 +73,11 @@ is_digit l b h = by (dec_lt b l) (dec_lt 57 b)
     by (no p) (yes q) = absurd (let z : cond (ltb b l) 512 (cond (ltb 57 b) 512 (b - 48)) ≡ 512 = rw (le-ltb b l (omega arith), lt-ltb 57 b q) in omega arith)
     by (no p) (no q) = (omega arith, omega arith)
 
-bounded_is : (n : ℕ) → n < 512 → bounded n ≡ n
+pub bounded_is : (n : ℕ) → n < 512 → bounded n ≡ n
 unfolding bounded
 bounded_is n h = rw (lt-ltb n 512 h)
 
-bounded_other : (n : ℕ) → 512 ≤ n → bounded n ≡ 512
+pub bounded_other : (n : ℕ) → 512 ≤ n → bounded n ≡ 512
 unfolding bounded
 bounded_other n h = rw (le-ltb n 512 h)
 

@@ -9,7 +9,7 @@ ghost use Rattle.language.specs.Programs.{max_blocks, max_registers};
 ghost use Rattle.vocabulary.specs.Classes.{class_table};
 ghost use Rattle.table.specs.Named.{NameWithin, NamesWithin};
 
-use crate::suffixes::number;
+use crate::suffixes::{OTHER, number};
 use table::{
     BLOCK_LENGTH, BLOCK_NAMES_OFFSET, REGISTER_LENGTH, REGISTER_NAMES_OFFSET, block_count,
     function_entry, name_at, register_count,
@@ -25,6 +25,7 @@ const BLOCK_PREFIX: u8 = 101;
 pub const PLAIN: u16 = 1;
 
 // No register keeps a name of no bytes: there are 256 at most.
+// Kept, rule: `MadeNames.block_title` asks for the number of the name that stays unnamed.
 const NO_REGISTER: usize = 256;
 
 // Marks the numbers in use; cell 512 is marked for any other name.
@@ -32,11 +33,9 @@ fn mark(t: &[u8], at: usize, stride: usize, count: usize, first: u8, marks: &mut
     requires { NamesWithin t.now at stride count × (marks.old ≡ replicate 513 0) }
     ensures { Marked (prefix_of first) t.now at stride count marks.new }
 {
-    let mut i = 0;
-    while i < count {
-        let j = number(name_at(t, at + stride * i), first);
+    for i in 0..count {
+        let j = number(name_at(t, at + stride * i), first).unwrap_or(OTHER);
         marks[j] = 1;
-        i += 1;
     }
 }
 
@@ -46,6 +45,7 @@ fn free(marks: &[u8], k: usize) -> usize
     ensures { Free marks.now k result }
 {
     let mut next = k;
+    // Kept, plainer: `position` would answer an Option, and a free number is always there.
     while marks[next] != 0 {
         next += 1;
     }
@@ -57,10 +57,7 @@ fn unnamed(t: &[u8], c: usize, i: usize, kept: usize) -> bool
     requires { NameWithin t.now c }
     ensures { result ≡ (empty (name_at t.now c) && not (eqb i kept)) }
 {
-    if t[c] != 0 {
-        return false;
-    }
-    i != kept
+    t[c] == 0 && i != kept
 }
 
 // The flag of a given name.
@@ -68,10 +65,7 @@ fn plain_flag(name: &[u8], classes: &[u8; 256]) -> u16
     requires { classes.now ≡ class_table }
     ensures { result ≡ plain_flag name.now }
 {
-    if plain_name(name, classes) {
-        return PLAIN;
-    }
-    0
+    u16::from(plain_name(name, classes))
 }
 
 // The numbers of the names that are made, in order, and the flags of the others; name `kept` is not made.
@@ -91,18 +85,15 @@ fn number_names(
     let mut marks = [0u8; 513];
     mark(t, at, stride, count, first, &mut marks);
     let mut next = 0;
-    let mut i = 0;
-    while i < count {
+    for i in 0..count {
         let c = at + stride * i;
         if !unnamed(t, c, i, kept) {
             made[i] = plain_flag(name_at(t, c), &table);
-            i += 1;
             continue;
         }
         let j = free(&marks, next);
         made[i] = j as u16;
         next = j + 1;
-        i += 1;
     }
 }
 

@@ -1,65 +1,41 @@
 // The number of a name that is spelled like a made one.
-ghost use Rattle.std.specs.Prelude.{◌≡◌, ◌≤◌};
-ghost use Rattle.naming.specs.Numbers.{digit_from, bounded as bounded_of, prefix_of, Numbers};
+ghost use Rattle.std.specs.Prelude.{◌≡◌, ◌≤◌, ◌<◌, IfSome};
+ghost use Rattle.std.specs.Option.{unwrap_or};
+ghost use Rattle.naming.specs.Numbers.{digit_from, prefix_of, Numbers};
 
 // With 256 names at most, no made number reaches 512: it stands for every name that is no made one with a smaller number.
-const OTHER: usize = 512;
-
-const DOT: u8 = 46;
-
-const ZERO: u8 = 48;
-
-const ONE: u8 = 49;
-
-const NINE: u8 = 57;
+pub(crate) const OTHER: usize = 512;
 
 // The number of a digit from `least` on.
-fn digit(b: u8, least: u8) -> usize
+fn digit(b: u8, least: u8) -> Option<usize>
     requires { 48 ≤ least }
-    ensures { (result ≡ digit_from least b) × (result ≤ 512) }
+    ensures value { unwrap_or result 512 ≡ digit_from least b }
+    ensures within { IfSome result (λ d. d < 10) }
 {
-    if b < least {
-        return OTHER;
+    if b < least || b'9' < b {
+        return None;
     }
-    if NINE < b {
-        return OTHER;
-    }
-    usize::from(b - ZERO)
+    Some(usize::from(b - b'0'))
 }
 
-// No number past OTHER.
-fn bounded(n: usize) -> usize
-    ensures { result ≡ bounded_of n }
-{
-    if n < OTHER {
-        return n;
-    }
-    OTHER
-}
-
-// The number j for which the name is `first`, a dot and the shortest digits of j; there is at most one below 512. A number of two
-// or three digits has no 0 before it.
-pub fn number(name: &[u8], first: u8) -> usize
-    ensures { Numbers (prefix_of first) name.now result }
+// The number below 512 for which the name is `first`, a dot and its shortest digits; there is at most one. A number of two or three digits has no 0
+// before it.
+pub fn number(name: &[u8], first: u8) -> Option<usize>
+    ensures { Numbers (prefix_of first) name.now (unwrap_or result 512) }
 {
     let n = name.len();
-    if n < 3 {
-        return OTHER;
-    }
-    if 5 < n {
-        return OTHER;
-    }
-    if name[0] != first {
-        return OTHER;
-    }
-    if name[1] != DOT {
-        return OTHER;
+    if n < 3 || 5 < n || name[0] != first || name[1] != b'.' {
+        return None;
     }
     if n == 3 {
-        return digit(name[2], ZERO);
+        return digit(name[2], b'0');
     }
     if n == 4 {
-        return bounded(10 * digit(name[2], ONE) + digit(name[3], ZERO));
+        return Some(10 * digit(name[2], b'1')? + digit(name[3], b'0')?);
     }
-    bounded(100 * digit(name[2], ONE) + 10 * digit(name[3], ZERO) + digit(name[4], ZERO))
+    let j = 100 * digit(name[2], b'1')? + 10 * digit(name[3], b'0')? + digit(name[4], b'0')?;
+    if j < OTHER {
+        return Some(j);
+    }
+    None
 }

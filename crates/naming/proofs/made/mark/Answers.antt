@@ -3,6 +3,7 @@ use mathlib.Core.List.{List}
 use mathlib.Core.Path.{◌≡◌, sym, ap, ◌∙◌, subst}
 use native.Mathlib.Omega.{arith}
 use lib.ListN.{length, length-replicate}
+use Rattle.std.specs.Option.{unwrap_or}
 use Rattle.naming.specs.Numbers.{prefix_of, Numbers}
 use Rattle.naming.specs.Numbered.{Marked}
 use Rattle.table.proofs.NamesLaws.{room}
@@ -24,20 +25,14 @@ pub name_at-requires : goal.name_at-requires
 name_at-requires c = omega (arith, room c.args.stride c.loop-i-test.true)
 
 pub bounds-marks-j : goal.bounds-marks-j
-bounds-marks-j c = omega (arith, c.number-j.ensures.within, c.loop-i.invariant.1.size)
-
-pub overflow_add-i : goal.overflow_add-i
-overflow_add-i c = omega arith
-
-pub loop-i-smaller : goal.loop-i-smaller
-loop-i-smaller c = omega arith
+bounds-marks-j c = omega (arith, c.number.ensures.within, c.unwrap_or-j.ensures, c.loop-i.invariant.1.size)
 
 pub loop-i-preserved : goal.loop-i-preserved
 loop-i-preserved c =
     let args = c.args in (
       omega arith,
       marked_more (prefix_of args.first) args.t.now args.at args.stride c.loop-i.invariant.1
-          (subst (λ (n : List ℕ). Numbers (prefix_of args.first) n c.number-j.result) c.name_at.ensures c.number-j.ensures),
+          (rw c.unwrap_or-j.ensures (subst (λ (n : List ℕ). Numbers (prefix_of args.first) n (unwrap_or c.number.result 512)) c.name_at.ensures c.number.ensures)),
     )
 
 pub shape_of-marks : goal.shape_of-marks

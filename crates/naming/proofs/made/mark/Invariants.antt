@@ -6,6 +6,3 @@ use Rattle.naming.proofs.made.mark.Given as goal
 
 abbrev pub invariant-loop-i : goal.invariant-loop-i
 invariant-loop-i l = (l.i ≤ l.count) × Marked (prefix_of l.first) l.t l.at l.stride l.i l.marks
-
-abbrev pub decreases-loop-i : goal.decreases-loop-i
-decreases-loop-i l = l.count - l.i

@@ -33,12 +33,6 @@ plain_flag-requires c = c.classes-table.ensures
 pub bounds-made-i : goal.bounds-made-i
 bounds-made-i c = omega (arith, c.loop-i.invariant.1)
 
-pub overflow_add-i : goal.overflow_add-i
-overflow_add-i c = omega arith
-
-pub loop-i-smaller-then-not-unnamed : goal.loop-i-smaller-then-not-unnamed
-loop-i-smaller-then-not-unnamed c = omega arith
-
 pub loop-i-preserved-then-not-unnamed : goal.loop-i-preserved-then-not-unnamed
 loop-i-preserved-then-not-unnamed c =
     let args = c.args in (
@@ -60,12 +54,6 @@ bounds-made-i-in-loop-i c = omega (arith, c.loop-i.invariant.1)
 
 pub overflow_add-next : goal.overflow_add-next
 overflow_add-next c = omega (arith, c.free-j.ensures.within)
-
-pub overflow_add-i-in-loop-i : goal.overflow_add-i-in-loop-i
-overflow_add-i-in-loop-i c = omega arith
-
-pub loop-i-smaller : goal.loop-i-smaller
-loop-i-smaller c = omega arith
 
 pub loop-i-preserved : goal.loop-i-preserved
 loop-i-preserved c =

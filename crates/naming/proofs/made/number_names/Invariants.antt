@@ -9,6 +9,3 @@ use Rattle.naming.proofs.made.number_names.Given as goal
 abbrev pub invariant-loop-i : goal.invariant-loop-i
 invariant-loop-i l =
     Going (prefix_of l.first) l.t l.at l.stride l.count l.kept l.marks l.i l.next l.made × (length l.made ≡ length l.initial.made)
-
-abbrev pub decreases-loop-i : goal.decreases-loop-i
-decreases-loop-i l = l.count - l.i
