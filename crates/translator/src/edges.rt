@@ -36,11 +36,9 @@ fn copy_entries(
 {
     let p = phis(m, y);
     let first = block_first(t, a, y);
-    let mut i = 0;
-    while i < p {
+    for i in 0..p {
         let e = phi_entry(t, a, phi_first(t, a, first + i) + j);
         put_row(out, FIRST_FUNCTION, k + i, ops::COPY, n + i, e, 0, 0);
-        i += 1;
     }
 }
 
@@ -63,8 +61,7 @@ fn copy_targets(
 {
     let p = phis(m, y);
     let first = block_first(t, a, y);
-    let mut i = 0;
-    while i < p {
+    for i in 0..p {
         put_row(
             out,
             1,
@@ -75,7 +72,6 @@ fn copy_targets(
             0,
             0,
         );
-        i += 1;
     }
 }
 
@@ -124,10 +120,8 @@ fn put_edges(
 {
     let e = pairs(t, a, m, y);
     let mut r = k;
-    let mut j = 0;
-    while j < e {
+    for j in 0..e {
         r = put_edge(t, a, m, y, j, n, b + j, out, r);
-        j += 1;
     }
     r
 }
@@ -143,11 +137,9 @@ pub fn put_all_edges(t: &[u8], a: usize, m: &[u16], out: &mut [u8], k: usize)
     let mut n = register_count(t, a);
     let mut b = blocks;
     let mut r = k;
-    let mut y = 0;
-    while y < blocks {
+    for y in 0..blocks {
         r = put_edges(t, a, m, y, n, b, out, r);
         n += phis(m, y);
         b += pairs(t, a, m, y);
-        y += 1;
     }
 }

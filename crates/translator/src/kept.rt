@@ -88,10 +88,8 @@ fn keep_rows(
     requires out_value { out.old ≡ built t.now a (x + 1) k }
     ensures { out.new ≡ built t.now a (x + 1) (k + n) }
 {
-    let mut i = 0;
-    while i < n {
+    for i in 0..n {
         keep_row(t, a, m, plan, x, r + i, out, k + i);
-        i += 1;
     }
 }
 
@@ -138,10 +136,8 @@ pub fn keep_blocks(t: &[u8], a: usize, m: &[u16], plan: &[u16], out: &mut [u8]) 
 {
     let n = block_count(t, a);
     let mut k = 0;
-    let mut x = 0;
-    while x < n {
+    for x in 0..n {
         k = keep_block(t, a, m, plan, x, out, k);
-        x += 1;
     }
     k
 }

@@ -52,8 +52,7 @@ pub fn keep_registers(t: &[u8], a: usize, out: &mut [u8])
     ensures { out.new ≡ declared t.now a (register_count t.now a) }
 {
     let n = register_count(t, a);
-    let mut r = 0;
-    while r < n {
+    for r in 0..n {
         put_register(
             out,
             FIRST_FUNCTION,
@@ -61,7 +60,6 @@ pub fn keep_registers(t: &[u8], a: usize, out: &mut [u8])
             register_type(t, a, r),
             register_name(t, a, r),
         );
-        r += 1;
     }
 }
 
@@ -74,10 +72,8 @@ fn put_new(t: &[u8], a: usize, m: &[u16], y: usize, n: usize, out: &mut [u8])
 {
     let p = phis(m, y);
     let first = block_first(t, a, y);
-    let mut i = 0;
-    while i < p {
+    for i in 0..p {
         out[TYPES + REGISTER_LENGTH * (n + i)] = register_type(t, a, row_target(t, a, first + i));
-        i += 1;
     }
 }
 
@@ -90,10 +86,8 @@ pub fn put_all_new(t: &[u8], a: usize, m: &[u16], out: &mut [u8])
 {
     let blocks = block_count(t, a);
     let mut n = register_count(t, a);
-    let mut y = 0;
-    while y < blocks {
+    for y in 0..blocks {
         put_new(t, a, m, y, n, out);
         n += phis(m, y);
-        y += 1;
     }
 }

@@ -32,14 +32,12 @@ pub fn measure(t: &[u8], a: usize, m: &[u16]) -> Sizes
     let mut new = 0;
     let mut edges = 0;
     let mut rows = 0;
-    let mut b = 0;
-    while b < n {
+    for b in 0..n {
         let p = phis(m, b);
         let e = pairs(t, a, m, b);
         new += p;
         edges += e;
         rows += block_rows(t, a, b) + e * (2 * p + 1);
-        b += 1;
     }
     Sizes {
         registers: register_count(t, a) + new,
@@ -74,10 +72,8 @@ pub fn plan_edges(t: &[u8], a: usize, m: &[u16], plan: &mut [u16])
 {
     let n = block_count(t, a);
     let mut next = n;
-    let mut y = 0;
-    while y < n {
+    for y in 0..n {
         plan[y] = next as u16;
         next += pairs(t, a, m, y);
-        y += 1;
     }
 }

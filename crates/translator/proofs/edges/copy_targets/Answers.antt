@@ -53,12 +53,6 @@ put_row-requires c =
     let v = c.loop-i.invariant.5 c.loop-i.i c.loop-i-test.true in
     record { in_table = (omega (arith, c.loop-i.invariant.3, c.loop-i.invariant.4), v.onto); target_bound = (c.row_target.ensures.1, v.new, omega arith) }
 
-pub overflow_add-i : goal.overflow_add-i
-overflow_add-i c = omega arith
-
-pub loop-i-smaller : goal.loop-i-smaller
-loop-i-smaller c = omega arith
-
 pub loop-i-preserved : goal.loop-i-preserved
 loop-i-preserved c =
     let args = c.args in

@@ -13,6 +13,3 @@ invariant-loop-i l =
     (l.p ≡ phis_in l.m l.y) × (l.first ≡ block_first l.t l.a l.y) × (l.i ≤ l.p) × (length l.out ≡ length l.initial.out) × (length l.initial.out ≡ table_length)
     × ((v : ℕ) → v < l.p → Bounds l.t l.a l.j l.n l.k l.p l.first v)
     × (l.out ≡ built l.t l.a (edge_number l.t l.a l.y l.j + 1) (l.k + l.p + l.i))
-
-abbrev pub decreases-loop-i : goal.decreases-loop-i
-decreases-loop-i l = l.p - l.i

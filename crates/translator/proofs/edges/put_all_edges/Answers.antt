@@ -55,12 +55,6 @@ overflow_add-b c =
     let known : c.loop-y.y < block_count args.t.now args.a = omega arith in
     omega (arith, edges_few args.t.now args.a c.requires.translatable_at args.m.now c.requires.prepared c.loop-y.y c.loop-y.b c.pairs-b.result known c.loop-y.invariant.3 c.pairs-b.ensures.0)
 
-pub overflow_add-y : goal.overflow_add-y
-overflow_add-y c = omega arith
-
-pub loop-y-smaller : goal.loop-y-smaller
-loop-y-smaller c = omega arith
-
 pub loop-y-preserved : goal.loop-y-preserved
 loop-y-preserved c =
     let args = c.args in

@@ -12,6 +12,3 @@ abbrev pub invariant-loop-y : goal.invariant-loop-y
 invariant-loop-y l =
     (l.blocks ≡ block_count l.t l.a) × (l.y ≤ l.blocks) × (l.n ≡ new_register (decode_function l.t l.a) l.y) × (l.b ≡ block_count l.t l.a + pairs_before (decode_function l.t l.a) l.y)
     × (l.r ≡ first_row (translated l.t l.a) l.b) × (length l.out ≡ length l.initial.out) × (l.out ≡ built l.t l.a l.b l.r)
-
-abbrev pub decreases-loop-y : goal.decreases-loop-y
-decreases-loop-y l = l.blocks - l.y

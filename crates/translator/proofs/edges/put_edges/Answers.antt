@@ -38,12 +38,6 @@ put_edge-r-requires c =
     let v = c.loop-j.invariant in
     let number : args.b + c.loop-j.j ≡ edge_number t a args.y c.loop-j.j = ap (λ b. b + c.loop-j.j) w.2 in record { translatable_at = c.requires.translatable_at; prepared = c.requires.prepared; edge = record { block = w.0; pair = omega (arith, v.0, c.loop-j-test.true); new = w.1; place = v.3 ∙ ap (first_row (translated t a)) number }; b_value = (number, v.5) }
 
-pub overflow_add-j : goal.overflow_add-j
-overflow_add-j c = omega arith
-
-pub loop-j-smaller : goal.loop-j-smaller
-loop-j-smaller c = omega arith
-
 pub loop-j-preserved : goal.loop-j-preserved
 loop-j-preserved c =
     let args = c.args in

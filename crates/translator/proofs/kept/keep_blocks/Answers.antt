@@ -18,12 +18,6 @@ keep_block-k-requires c =
     let v = c.loop-x.invariant in
     record { translatable_at = c.requires.translatable_at; prepared = c.requires.prepared; planned = c.requires.planned; x_bound = (omega arith, v.2, v.4) }
 
-pub overflow_add-x : goal.overflow_add-x
-overflow_add-x c = omega arith
-
-pub loop-x-smaller : goal.loop-x-smaller
-loop-x-smaller c = omega arith
-
 pub loop-x-preserved : goal.loop-x-preserved
 loop-x-preserved c =
     let v = c.loop-x.invariant in

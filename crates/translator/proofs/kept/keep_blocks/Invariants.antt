@@ -9,6 +9,3 @@ use Rattle.translator.proofs.kept.keep_blocks.Given as goal
 
 abbrev pub invariant-loop-x : goal.invariant-loop-x
 invariant-loop-x l = (l.n ≡ block_count l.t l.a) × (l.x ≤ l.n) × (l.k ≡ first_row (translated l.t l.a) l.x) × (length l.out ≡ length l.initial.out) × (l.out ≡ built l.t l.a l.x l.k)
-
-abbrev pub decreases-loop-x : goal.decreases-loop-x
-decreases-loop-x l = l.n - l.x

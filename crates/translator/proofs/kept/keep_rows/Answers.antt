@@ -36,12 +36,6 @@ keep_row-requires c =
     let s = c.requires.kept_rows in
     let b = c.loop-i-test.true in record { in_table = (c.requires.translatable_at.sized.within, c.requires.prepared.count, c.requires.planned.count, keeps_row t a c.requires.translatable_at m plan c.requires.prepared c.requires.planned args.x args.r args.n args.k c.loop-i.i s b); naming = keeps_naming t a c.requires.translatable_at m plan c.requires.prepared c.requires.planned args.x args.r args.n args.k c.loop-i.i s b; out_len = (omega arith, keeps_place t a c.requires.translatable_at m plan c.requires.prepared c.requires.planned args.x args.r args.n args.k c.loop-i.i s b) }
 
-pub overflow_add-i : goal.overflow_add-i
-overflow_add-i c = omega arith
-
-pub loop-i-smaller : goal.loop-i-smaller
-loop-i-smaller c = omega arith
-
 pub loop-i-preserved : goal.loop-i-preserved
 loop-i-preserved c =
     let args = c.args in

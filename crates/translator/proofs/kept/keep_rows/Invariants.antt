@@ -8,6 +8,3 @@ use Rattle.translator.proofs.kept.keep_rows.Given as goal
 
 abbrev pub invariant-loop-i : goal.invariant-loop-i
 invariant-loop-i l = (l.i ≤ l.n) × (length l.out ≡ length l.initial.out) × (length l.initial.out ≡ table_length) × (l.out ≡ built l.t l.a (l.x + 1) (l.k + l.i))
-
-abbrev pub decreases-loop-i : goal.decreases-loop-i
-decreases-loop-i l = l.n - l.i

@@ -27,12 +27,6 @@ put_register-requires c =
     let known : c.loop-r.r < register_count c.args.t.now c.args.a = omega arith in
     (omega arith, omega (arith, c.requires.translatable_at.sized.registers), rw c.register_name.ensures (kept_short c.args.t.now c.args.a c.requires.translatable_at c.loop-r.r known))
 
-pub overflow_add-r : goal.overflow_add-r
-overflow_add-r c = omega arith
-
-pub loop-r-smaller : goal.loop-r-smaller
-loop-r-smaller c = omega arith
-
 pub loop-r-preserved : goal.loop-r-preserved
 loop-r-preserved c =
     let known : c.loop-r.r < register_count c.args.t.now c.args.a = omega arith in

@@ -8,6 +8,3 @@ use Rattle.translator.proofs.registers.keep_registers.Given as goal
 
 abbrev pub invariant-loop-r : goal.invariant-loop-r
 invariant-loop-r l = (l.n ≡ register_count l.t l.a) × (l.r ≤ l.n) × (length l.out ≡ length l.initial.out) × (length l.initial.out ≡ table_length) × (l.out ≡ declared l.t l.a l.r)
-
-abbrev pub decreases-loop-r : goal.decreases-loop-r
-decreases-loop-r l = l.n - l.r

@@ -46,12 +46,6 @@ overflow_add-n c =
     let known : c.loop-y.y < block_count t a = omega arith in
     omega (arith, new_most t a c.requires.translatable_at c.loop-y.y c.loop-y.n (phis_in c.args.m.now c.loop-y.y) known c.loop-y.invariant.2 (phis_here t a c.args.m.now c.requires.prepared c.requires.translatable_at.clean c.loop-y.y known), c.phis-n.ensures.0)
 
-pub overflow_add-y : goal.overflow_add-y
-overflow_add-y c = omega arith
-
-pub loop-y-smaller : goal.loop-y-smaller
-loop-y-smaller c = omega arith
-
 pub loop-y-preserved : goal.loop-y-preserved
 loop-y-preserved c =
     let t = c.args.t.now in

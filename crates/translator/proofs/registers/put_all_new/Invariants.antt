@@ -9,6 +9,3 @@ use Rattle.translator.proofs.registers.put_all_new.Given as goal
 
 abbrev pub invariant-loop-y : goal.invariant-loop-y
 invariant-loop-y l = (l.blocks ≡ block_count l.t l.a) × (l.y ≤ l.blocks) × (l.n ≡ new_register (decode_function l.t l.a) l.y) × (length l.out ≡ length l.initial.out) × (l.out ≡ declared l.t l.a l.n)
-
-abbrev pub decreases-loop-y : goal.decreases-loop-y
-decreases-loop-y l = l.blocks - l.y

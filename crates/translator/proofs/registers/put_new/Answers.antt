@@ -61,12 +61,6 @@ overflow_add-out-in-loop-i c = omega arith
 pub bounds-out-n : goal.bounds-out-n
 bounds-out-n c = omega arith
 
-pub overflow_add-i : goal.overflow_add-i
-overflow_add-i c = omega arith
-
-pub loop-i-smaller : goal.loop-i-smaller
-loop-i-smaller c = omega arith
-
 pub loop-i-preserved : goal.loop-i-preserved
 loop-i-preserved c =
     let t = c.args.t.now in

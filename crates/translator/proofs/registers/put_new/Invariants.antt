@@ -11,6 +11,3 @@ abbrev pub invariant-loop-i : goal.invariant-loop-i
 invariant-loop-i l =
     (l.p ≡ length (phis_at (decode_function l.t l.a) l.y)) × (l.first ≡ block_first l.t l.a l.y) × (l.i ≤ l.p) × (l.n + l.p ≤ 256) × (length l.out ≡ length l.initial.out) × (length l.initial.out ≡ table_length)
     × (l.out ≡ declared l.t l.a (l.n + l.i))
-
-abbrev pub decreases-loop-i : goal.decreases-loop-i
-decreases-loop-i l = l.p - l.i

@@ -38,12 +38,6 @@ overflow_add-rows-in-loop-b c = omega (arith, product_small c.phis-p.result c.pa
 pub overflow_add-rows-in-loop-b-2 : goal.overflow_add-rows-in-loop-b-2
 overflow_add-rows-in-loop-b-2 c = omega (arith, product_small c.phis-p.result c.pairs-e.result c.phis-p.ensures.1 c.pairs-e.ensures.1)
 
-pub overflow_add-b : goal.overflow_add-b
-overflow_add-b c = omega arith
-
-pub loop-b-smaller : goal.loop-b-smaller
-loop-b-smaller c = omega arith
-
 pub loop-b-preserved : goal.loop-b-preserved
 loop-b-preserved c = (
   c.loop-b.invariant.0,

@@ -7,6 +7,3 @@ use Rattle.translator.proofs.sizes.measure.Given as goal
 
 abbrev pub invariant-loop-b : goal.invariant-loop-b
 invariant-loop-b l = (l.n ≡ block_count l.t l.a) × Measured l.t l.a l.n l.new l.edges l.rows l.b
-
-abbrev pub decreases-loop-b : goal.decreases-loop-b
-decreases-loop-b l = l.n - l.b

@@ -34,12 +34,6 @@ overflow_add-next c =
     let f = decode_function c.args.t.now c.args.a in
     omega (arith, c.loop-y.invariant.1.edge, block_count_law c.args.t.now c.args.a, pairs_within f c.loop-y.y (omega (arith, c.loop-y.invariant.0, block_count_law c.args.t.now c.args.a)), blocks_fit f c.requires.translatable_at.fits)
 
-pub overflow_add-y : goal.overflow_add-y
-overflow_add-y c = omega arith
-
-pub loop-y-smaller : goal.loop-y-smaller
-loop-y-smaller c = omega arith
-
 pub loop-y-preserved : goal.loop-y-preserved
 loop-y-preserved c =
     let t = c.args.t.now in

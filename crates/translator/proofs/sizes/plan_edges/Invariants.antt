@@ -7,6 +7,3 @@ use Rattle.translator.proofs.sizes.plan_edges.Given as goal
 
 abbrev pub invariant-loop-y : goal.invariant-loop-y
 invariant-loop-y l = (l.n ≡ block_count l.t l.a) × Planning (decode_function l.t l.a) l.plan l.next l.y
-
-abbrev pub decreases-loop-y : goal.decreases-loop-y
-decreases-loop-y l = l.n - l.y
