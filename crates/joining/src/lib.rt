@@ -51,10 +51,11 @@ fn winner<'a>(s: &'a [u8], u: &'a [u8], i: usize, j: usize) -> Record
 }
 
 // The lower of record i of s and record j of u, or of two for one appliance the winner, becomes record w of out.
-fn step<'a>(s: &'a [u8], u: &'a [u8], out: &mut [u8], i: usize, j: usize, w: usize) -> Joint
-    requires { HasRoom s.now (i + 1) × HasRoom u.now (j + 1) × HasRoom out.old (w + 1) }
-    ensures { JoinStepped (record_at s.now i) (record_at u.now j) i j w out.old result out.new }
+fn step<'a>(s: &'a [u8], u: &'a [u8], out: &mut [u8], x: Joint) -> Joint
+    requires { HasRoom s.now (x.i + 1) × HasRoom u.now (x.j + 1) × HasRoom out.old (x.w + 1) }
+    ensures { JoinStepped (record_at s.now x.i) (record_at u.now x.j) x.i x.j x.w out.old result out.new }
 {
+    let Joint { i, j, w } = x;
     let a = appliance_at(s, i);
     let b = appliance_at(u, j);
     if a < b {
@@ -86,22 +87,15 @@ fn walk<'a>(s: &'a [u8], u: &'a [u8], n: usize, k: usize, out: &mut [u8]) -> Joi
     requires { HasRoom s.now n × HasRoom u.now k × (out.old ≡ zeros store_length) }
     ensures { Walked s.now u.now n k result out.new }
 {
-    let mut i = 0;
-    let mut j = 0;
-    let mut w = 0;
-    while w < CAPACITY {
-        if n <= i {
-            return Joint { i, j, w };
+    let mut x = Joint { i: 0, j: 0, w: 0 };
+    // Kept, plainer: `step` says how far each of the three places goes, which a range would say again.
+    while x.w < CAPACITY {
+        if n <= x.i || k <= x.j {
+            return x;
         }
-        if k <= j {
-            return Joint { i, j, w };
-        }
-        let x = step(s, u, out, i, j, w);
-        i = x.i;
-        j = x.j;
-        w = x.w;
+        x = step(s, u, out, x);
     }
-    Joint { i, j, w }
+    x
 }
 
 // The records of s from place i on up to n become those of out from place w on.
@@ -109,10 +103,8 @@ fn rest(s: &[u8], i: usize, n: usize, out: &mut [u8], w: usize)
     requires { (i ≤ n) × HasRoom s.now n × HasRoom out.old (w + (n - i)) }
     ensures { out.new ≡ sets out.old (record_offset w) (gather record_cells (records_from s.now i n)) }
 {
-    let mut d = 0;
-    while d < n - i {
+    for d in 0..n - i {
         put_record(out, w + d, record_at(s, i + d));
-        d += 1;
     }
 }
 

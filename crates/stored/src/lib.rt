@@ -37,12 +37,10 @@ fn all_follow(s: &[u8], n: usize) -> bool
     requires { HasRoom s.now n }
     ensures { Tells result (AllFollow s.now n) }
 {
-    let mut i = 0;
-    while i < n {
+    for i in 0..n {
         if !follows(s, i) {
             return false;
         }
-        i += 1;
     }
     true
 }

@@ -10,9 +10,6 @@ loop-d-init c =
     let args = c.args in
     (omega arith, refl, put_none args.s.now args.out.now args.i args.w)
 
-pub overflow_sub-n : goal.overflow_sub-n
-overflow_sub-n c = omega arith
-
 pub overflow_add-w : goal.overflow_add-w
 overflow_add-w c = omega arith
 
@@ -24,12 +21,6 @@ record_at-requires c = omega arith
 
 pub put_record-requires : goal.put_record-requires
 put_record-requires c = omega arith
-
-pub overflow_add-d : goal.overflow_add-d
-overflow_add-d c = omega arith
-
-pub loop-d-smaller : goal.loop-d-smaller
-loop-d-smaller c = omega arith
 
 pub loop-d-preserved : goal.loop-d-preserved
 loop-d-preserved c =

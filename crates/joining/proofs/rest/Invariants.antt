@@ -7,6 +7,3 @@ use Rattle.joining.proofs.rest.Given as goal
 
 abbrev pub invariant-loop-d : goal.invariant-loop-d
 invariant-loop-d l = (l.d ≤ l.n - l.i) × (length l.out ≡ length l.initial.out) × Put l.s l.initial.out l.i l.w l.d l.out
-
-abbrev pub decreases-loop-d : goal.decreases-loop-d
-decreases-loop-d l = l.n - l.i - l.d

@@ -7,17 +7,17 @@ use Rattle.joining.proofs.step.Goals as goal
 pub returns-then-a-b : goal.returns-then-a-b
 returns-then-a-b c =
     let args = c.args in
-    stepped_lt (record_at args.s.now args.i) (record_at args.u.now args.j) args.i args.j args.w args.out.now
+    stepped_lt (record_at args.s.now args.x.i) (record_at args.u.now args.x.j) args.x.i args.x.j args.x.w args.out.now
     c.appliance_at-a.ensures c.appliance_at-b.ensures c.put_record.ensures (omega arith) c.record_at.ensures
 
 pub returns-then-a-b-2 : goal.returns-then-a-b-2
 returns-then-a-b-2 c =
     let args = c.args in
-    stepped_eq (record_at args.s.now args.i) (record_at args.u.now args.j) args.i args.j args.w args.out.now
+    stepped_eq (record_at args.s.now args.x.i) (record_at args.u.now args.x.j) args.x.i args.x.j args.x.w args.out.now
     c.appliance_at-a.ensures c.appliance_at-b.ensures c.put_record-then-a-b-2.ensures (omega arith) c.winner.ensures
 
 pub returns : goal.returns
 returns c =
     let args = c.args in
-    stepped_gt (record_at args.s.now args.i) (record_at args.u.now args.j) args.i args.j args.w args.out.now
+    stepped_gt (record_at args.s.now args.x.i) (record_at args.u.now args.x.j) args.x.i args.x.j args.x.w args.out.now
     c.appliance_at-a.ensures c.appliance_at-b.ensures c.put_record-2.ensures (omega arith) c.record_at-2.ensures

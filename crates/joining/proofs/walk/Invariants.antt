@@ -4,8 +4,8 @@ use Rattle.joining.specs.Joints.{Joining}
 use Rattle.records.specs.Stores.{capacity}
 use Rattle.joining.proofs.walk.Given as goal
 
-abbrev pub invariant-loop-w : goal.invariant-loop-w
-invariant-loop-w l = Joining l.s l.u l.n l.k l.i l.j l.w l.out
+abbrev pub invariant-loop-x : goal.invariant-loop-x
+invariant-loop-x l = Joining l.s l.u l.n l.k l.x.i l.x.j l.x.w l.out
 
-abbrev pub decreases-loop-w : goal.decreases-loop-w
-decreases-loop-w l = capacity - l.w
+abbrev pub decreases-loop-x : goal.decreases-loop-x
+decreases-loop-x l = capacity - l.x.w
