@@ -51,10 +51,8 @@ fn put_parameters(t: &[u8], a: usize, made: &[u16], out: &mut [u8], at: usize) -
 {
     let n = function_params(t, a);
     let mut p = at;
-    let mut r = 0;
-    while r < n {
+    for r in 0..n {
         p = put_parameter(t, a, made, r, out, p);
-        r += 1;
     }
     p
 }
@@ -104,10 +102,8 @@ pub fn put_registers(t: &[u8], a: usize, made: &[u16], out: &mut [u8], at: usize
     let n = register_count(t, a);
     let first = function_params(t, a);
     let mut p = at;
-    let mut r = first;
-    while r < n {
+    for r in first..n {
         p = put_declaration(t, a, made, r, out, p);
-        r += 1;
     }
     p
 }

@@ -56,10 +56,8 @@ pub fn put_blocks(
 {
     let n = block_count(t, a);
     let mut e = at;
-    let mut b = 0;
-    while b < n {
+    for b in 0..n {
         e = put_block_lines(t, a, registers, blocks, b, out, e);
-        b += 1;
     }
     e
 }

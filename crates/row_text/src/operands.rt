@@ -68,10 +68,8 @@ fn put_later_entries(
     ensures { page out.new result ≡ puts (page out.old at) (spaced (gather (λ k. Token.mark comma ∷ register_token (titled t.now a) (phi_entry t.now a k) ∷ []) (from first count))) }
 {
     let mut e = at;
-    let mut i = 0;
-    while i < count {
+    for i in 0..count {
         e = put_entry(t, a, registers, blocks, first + i, out, e);
-        i += 1;
     }
     e
 }

@@ -100,10 +100,8 @@ pub fn put_rows(
     ensures { page out.new result ≡ puts (page out.old at) (gather (λ r. line_bytes (row_line (titled t.now a) (decode_row t.now a r))) (from first count)) }
 {
     let mut e = at;
-    let mut i = 0;
-    while i < count {
+    for i in 0..count {
         e = put_row(t, a, registers, blocks, first + i, out, e);
-        i += 1;
     }
     e
 }

@@ -56,10 +56,8 @@ pub fn put_table(out: &mut [u8], at: usize, t: &[u8]) -> usize
 {
     let n = function_count(t);
     let mut p = at;
-    let mut i = 0;
-    while i < n {
+    for i in 0..n {
         p = put_function(t, function_at(i), out, p);
-        i += 1;
     }
     p
 }

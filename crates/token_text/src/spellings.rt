@@ -15,14 +15,12 @@ fn next_quote(name: &[u8], i: usize) -> usize
     requires { i ≤ length name.now }
     ensures { Run name.now i result }
 {
-    let mut k = i;
-    while k < name.len() {
+    for k in i..name.len() {
         if name[k] == QUOTE {
             return k;
         }
-        k += 1;
     }
-    k
+    name.len()
 }
 
 // The bytes with a backslash before each quote: runs that begin with a quote, but for the first.
@@ -31,6 +29,7 @@ fn put_escaped(name: &[u8], out: &mut [u8], at: usize) -> usize
 {
     let mut i = next_quote(name, 0);
     let mut e = put_part(out, at, &name[..i]);
+    // Kept, plainer: it goes from quote to quote, and no range counts its steps.
     while i < name.len() {
         let q = next_quote(name, i + 1);
         let f = put_part(out, e, b"\\");

@@ -26,12 +26,6 @@ put_parameter-p-requires c =
     let few : r < register_count c.args.t.now c.args.a = omega (arith, c.loop-r-test.true, c.function_params-n.ensures.0, c.requires.0.params) in
     (c.requires.0, c.requires.1, c.requires.2, few)
 
-pub overflow_add-r : goal.overflow_add-r
-overflow_add-r c = omega arith
-
-pub loop-r-smaller : goal.loop-r-smaller
-loop-r-smaller c = omega arith
-
 pub loop-r-preserved : goal.loop-r-preserved
 loop-r-preserved c =
     let g = named_function (decode_function c.args.t.now c.args.a) in (

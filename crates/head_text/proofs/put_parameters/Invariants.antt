@@ -10,6 +10,3 @@ use Rattle.head_text.proofs.put_parameters.Given as goal
 
 abbrev pub invariant-loop-r : goal.invariant-loop-r
 invariant-loop-r l = (l.r ≤ l.n) × (page l.out l.p ≡ puts (page l.initial.out l.at) (gather (parameter_bytes (named_function (decode_function l.t l.a))) (below l.r)))
-
-abbrev pub decreases-loop-r : goal.decreases-loop-r
-decreases-loop-r l = l.n - l.r

@@ -38,12 +38,6 @@ put_declaration-p-requires c =
     let few : c.loop-r.r < register_count c.args.t.now c.args.a = omega (arith, c.loop-r-test.true, c.register_count-n.ensures.0) in
     (c.requires.0, c.requires.1, c.requires.2, few)
 
-pub overflow_add-r : goal.overflow_add-r
-overflow_add-r c = omega arith
-
-pub loop-r-smaller : goal.loop-r-smaller
-loop-r-smaller c = omega arith
-
 pub loop-r-preserved : goal.loop-r-preserved
 loop-r-preserved c =
     let t = c.args.t.now in

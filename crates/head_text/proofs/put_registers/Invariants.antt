@@ -16,6 +16,3 @@ up_to f k r = gather (register_bytes f) (from k (r - k))
 
 abbrev pub invariant-loop-r : goal.invariant-loop-r
 invariant-loop-r l = (function_params l.t l.a ≤ l.r) × (l.r ≤ l.n) × (page l.out l.p ≡ puts (page l.initial.out l.at) (up_to (named_function (decode_function l.t l.a)) (function_params l.t l.a) l.r))
-
-abbrev pub decreases-loop-r : goal.decreases-loop-r
-decreases-loop-r l = l.n - l.r

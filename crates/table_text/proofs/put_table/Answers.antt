@@ -29,12 +29,6 @@ put_function-p-requires c =
     let among : c.loop-i.i < function_count t = omega (arith, c.loop-i-test.true, c.function_count-n.ensures.0) in
     rw c.function_at.ensures (clean_each t c.requires.0 c.requires.1 c.loop-i.i among)
 
-pub overflow_add-i : goal.overflow_add-i
-overflow_add-i c = omega arith
-
-pub loop-i-smaller : goal.loop-i-smaller
-loop-i-smaller c = omega arith
-
 pub loop-i-preserved : goal.loop-i-preserved
 loop-i-preserved c =
     let text = rw c.function_at.ensures at c.put_function-p.ensures in (

@@ -8,6 +8,3 @@ use Rattle.table_text.proofs.put_table.Given as goal
 
 abbrev pub invariant-loop-i : goal.invariant-loop-i
 invariant-loop-i l = (l.i ≤ l.n) × (page l.out l.p ≡ puts (page l.initial.out l.at) (gather (function_text l.t) (below l.i)))
-
-abbrev pub decreases-loop-i : goal.decreases-loop-i
-decreases-loop-i l = l.n - l.i

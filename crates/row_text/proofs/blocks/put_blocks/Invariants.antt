@@ -8,6 +8,3 @@ use Rattle.row_text.proofs.blocks.put_blocks.Given as goal
 
 abbrev pub invariant-loop-b : goal.invariant-loop-b
 invariant-loop-b l = (l.b ≤ l.n) × (page l.out l.e ≡ puts (page l.initial.out l.at) (gather (lines_at l.t l.a) (below l.b)))
-
-abbrev pub decreases-loop-b : goal.decreases-loop-b
-decreases-loop-b l = l.n - l.b

@@ -15,6 +15,3 @@ use Rattle.row_text.proofs.operands.put_later_entries.Given as goal
 abbrev pub invariant-loop-i : goal.invariant-loop-i
 invariant-loop-i l =
     (l.i ≤ l.count) × (page l.out l.e ≡ puts (page l.initial.out l.at) (spaced (gather (λ k. Token.mark comma ∷ register_token (titled l.t l.a) (phi_entry l.t l.a k) ∷ []) (from l.first l.i))))
-
-abbrev pub decreases-loop-i : goal.decreases-loop-i
-decreases-loop-i l = l.count - l.i

@@ -11,6 +11,3 @@ use Rattle.row_text.proofs.rows.put_rows.Given as goal
 abbrev pub invariant-loop-i : goal.invariant-loop-i
 invariant-loop-i l =
     (l.i ≤ l.count) × (page l.out l.e ≡ puts (page l.initial.out l.at) (gather (λ r. line_bytes (row_line (titled l.t l.a) (decode_row l.t l.a r))) (from l.first l.i)))
-
-abbrev pub decreases-loop-i : goal.decreases-loop-i
-decreases-loop-i l = l.count - l.i

@@ -1,4 +1,6 @@
+use mathlib.Core.Path.{◌≡◌}
 use native.Mathlib.Omega.{arith}
+use lib.ListN.{length}
 use Rattle.token_text.proofs.Escaping.{bare_none, bare_more}
 use Rattle.token_text.proofs.spellings.next_quote.Goals as goal
 
@@ -12,12 +14,6 @@ pub returns-then-name-k-eq-QUOTE : goal.returns-then-name-k-eq-QUOTE
 returns-then-name-k-eq-QUOTE c =
     record { on = c.loop-k.invariant.0; within = c.loop-k.invariant.1; bare = c.loop-k.invariant.2; ends = λ w. c.if-name-k-eq-QUOTE.true }
 
-pub overflow_add-k : goal.overflow_add-k
-overflow_add-k c = omega arith
-
-pub loop-k-smaller : goal.loop-k-smaller
-loop-k-smaller c = omega arith
-
 pub loop-k-preserved : goal.loop-k-preserved
 loop-k-preserved c =
     let args = c.args in
@@ -25,4 +21,5 @@ loop-k-preserved c =
 
 pub returns : goal.returns
 returns c =
-    record { on = c.loop-k.invariant.0; within = c.loop-k.invariant.1; bare = c.loop-k.invariant.2; ends = λ w. absurd (omega arith) }
+    let e : c.loop-k.k ≡ length c.args.name.now = omega arith in
+    record { on = c.requires; within = omega arith; bare = rw e at c.loop-k.invariant.2; ends = λ w. absurd (omega arith) }

@@ -7,6 +7,3 @@ use Rattle.token_text.proofs.spellings.next_quote.Given as goal
 
 abbrev pub invariant-loop-k : goal.invariant-loop-k
 invariant-loop-k l = (l.i ≤ l.k) × (l.k ≤ length l.name) × (escaped (take (l.k - l.i) (drop l.i l.name)) ≡ take (l.k - l.i) (drop l.i l.name))
-
-abbrev pub decreases-loop-k : goal.decreases-loop-k
-decreases-loop-k l = length l.name - l.k
