@@ -1,6 +1,6 @@
 -- `head_text::put_parameters`: the parameters so far are put down.
 use mathlib.Core.Path.{◌≡◌}
-use Prim.Native.Nat.{◌-◌, ◌≤◌}
+use Prim.Native.Nat.{◌≤◌}
 use Rattle.laws.specs.Lists.{gather, below}
 use Rattle.language.specs.MadeNames.{named_function}
 use Rattle.language.specs.Table.{decode_function}

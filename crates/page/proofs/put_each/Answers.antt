@@ -2,7 +2,6 @@ use mathlib.Core.Path.{◌≡◌, refl, ap, sym, ◌∙◌}
 use mathlib.Core.List.{List, foldl-append}
 use Prim.Native.Nat.{ℕ, ◌<◌, ◌+◌}
 use native.Mathlib.Numerals.{add-one}
-use borrow.Author.Rules.{rules}
 use lib.ListN.{length, take, get_or, length-set}
 use lib.Seq.{take-suc, take_all}
 use Rattle.page.specs.Page.{Page, put, puts}

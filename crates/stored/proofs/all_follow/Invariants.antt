@@ -1,5 +1,5 @@
 -- `all_follow`: those passed follow.
-use Prim.Native.Nat.{◌-◌, ◌≤◌}
+use Prim.Native.Nat.{◌≤◌}
 use Rattle.stored.specs.Known.{AllFollow}
 use Rattle.stored.proofs.all_follow.Given as goal
 

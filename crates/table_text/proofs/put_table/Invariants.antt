@@ -1,6 +1,6 @@
 -- `table_text::put_table`: the text of the functions so far is put down.
 use mathlib.Core.Path.{◌≡◌}
-use Prim.Native.Nat.{◌-◌, ◌≤◌}
+use Prim.Native.Nat.{◌≤◌}
 use Rattle.laws.specs.Lists.{gather, below}
 use Rattle.page.specs.Page.{page, puts}
 use Rattle.table_text.proofs.Parts.{function_text}

@@ -1,5 +1,5 @@
 -- The loop's invariant: the numbers of the names passed are marked.
-use Prim.Native.Nat.{◌-◌, ◌≤◌}
+use Prim.Native.Nat.{◌≤◌}
 use Rattle.naming.specs.Numbers.{prefix_of}
 use Rattle.naming.specs.Numbered.{Marked}
 use Rattle.naming.proofs.made.mark.Given as goal

@@ -1,5 +1,4 @@
 -- The loop's invariant: the names before i are given or have their numbers.
-use Prim.Native.Nat.{◌-◌}
 use mathlib.Core.Path.{◌≡◌}
 use lib.ListN.{length}
 use Rattle.naming.specs.Numbers.{prefix_of}

@@ -1,6 +1,6 @@
 -- `row_text::blocks::put_blocks`: the blocks so far.
 use mathlib.Core.Path.{◌≡◌}
-use Prim.Native.Nat.{◌-◌, ◌≤◌}
+use Prim.Native.Nat.{◌≤◌}
 use Rattle.laws.specs.Lists.{below, gather}
 use Rattle.page.specs.Page.{page, puts}
 use Rattle.row_text.proofs.BlocksLaws.{lines_at}

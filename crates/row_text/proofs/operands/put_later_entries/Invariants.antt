@@ -1,7 +1,7 @@
 -- `row_text::operands::put_later_entries`: the entries so far.
 use mathlib.Core.List.{[], ◌∷◌}
 use mathlib.Core.Path.{◌≡◌}
-use Prim.Native.Nat.{◌-◌, ◌≤◌}
+use Prim.Native.Nat.{◌≤◌}
 use Rattle.laws.specs.Lists.{from, gather}
 use Rattle.language.specs.Bytes.{comma}
 use Rattle.language.specs.Table.{phi_entry}

@@ -1,6 +1,6 @@
 -- `row_text::rows::put_rows`: the lines so far.
 use mathlib.Core.Path.{◌≡◌}
-use Prim.Native.Nat.{◌-◌, ◌≤◌}
+use Prim.Native.Nat.{◌≤◌}
 use Rattle.laws.specs.Lists.{from, gather}
 use Rattle.language.specs.Table.{decode_row}
 use Rattle.language.specs.Writing.{line_bytes, row_line}

@@ -1,5 +1,5 @@
 -- The loop's invariant: the first x blocks are put down.
-use Prim.Native.Nat.{◌-◌, ◌≤◌}
+use Prim.Native.Nat.{◌≤◌}
 use mathlib.Core.Path.{◌≡◌}
 use lib.ListN.{length}
 use Rattle.language.specs.Programs.{first_row}

@@ -1,5 +1,5 @@
 -- The loop's invariant: the new registers of the first y blocks are put down.
-use Prim.Native.Nat.{◌-◌, ◌≤◌}
+use Prim.Native.Nat.{◌≤◌}
 use mathlib.Core.Path.{◌≡◌}
 use lib.ListN.{length}
 use Rattle.language.specs.Table.{block_count, decode_function}

@@ -1,5 +1,4 @@
 -- The loop's invariant: the sizes of the first b blocks are counted.
-use Prim.Native.Nat.{◌-◌}
 use mathlib.Core.Path.{◌≡◌}
 use Rattle.language.specs.Table.{block_count}
 use Rattle.translator.proofs.SizesLaws.{Measured}

@@ -1,5 +1,4 @@
 -- The loop's invariant: the first y blocks are planned.
-use Prim.Native.Nat.{◌-◌}
 use mathlib.Core.Path.{◌≡◌}
 use Rattle.language.specs.Table.{block_count, decode_function}
 use Rattle.translator.proofs.SizesLaws.{Planning}
