@@ -1,5 +1,5 @@
 -- `arithmetic::unary`: each number by its own equation, any other gives 0.
-use Rattle.std.proofs.Common.{ℕ, sym, refl, ap, ◌∙◌, arith, ne_eqb}
+use Rattle.std.proofs.Common.{ℕ, sym, refl, ap, ◌∙◌, ne_eqb}
 use Rattle.language.specs.Arithmetic.{meaning, wrap, neg, flip, unary_of}
 use Rattle.language.specs.Instructions.{ari_neg_op, bit_neg_op, conv_op, copy_op}
 use Rattle.arithmetic.specs.Rooms.{sign_matters}

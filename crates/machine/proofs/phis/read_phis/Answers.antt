@@ -36,20 +36,11 @@ pub phi_entry-requires : goal.phi_entry-requires
 phi_entry-requires c =
     (c.requires.in_table.0, omega (arith, c.loop-i.invariant.3 c.loop-i-test.true, c.requires.readable.entry c.loop-i.i c.loop-i-test.true))
 
-pub offset_bounds-registers-phi_entry : goal.offset_bounds-registers-phi_entry
-offset_bounds-registers-phi_entry c = omega (arith, c.phi_entry.ensures.1)
-
 pub bounds-registers-phi_entry : goal.bounds-registers-phi_entry
 bounds-registers-phi_entry c =
     let test = c.loop-i-test.true in
     let e = c.phi_entry.ensures.0 ∙ ap (phi_entry c.args.t.now c.args.a) (c.loop-i.invariant.3 test) in
     rw e (c.requires.readable.source c.loop-i.i test)
-
-pub offset_bounds-taken-i : goal.offset_bounds-taken-i
-offset_bounds-taken-i c = omega arith
-
-pub bounds-taken-i : goal.bounds-taken-i
-bounds-taken-i c = omega (arith, c.requires.in_table.1, c.loop-i.invariant.1)
 
 pub overflow_add-e-in-loop-i : goal.overflow_add-e-in-loop-i
 overflow_add-e-in-loop-i c =

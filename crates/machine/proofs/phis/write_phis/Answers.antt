@@ -8,21 +8,6 @@ use Rattle.machine.proofs.phis.write_phis.Goals as goal
 pub loop-i-init : goal.loop-i-init
 loop-i-init c = (omega arith, refl)
 
-pub offset_bounds-taken-i : goal.offset_bounds-taken-i
-offset_bounds-taken-i c = omega (arith, c.requires.readable.rows)
-
-pub bounds-taken-i : goal.bounds-taken-i
-bounds-taken-i c = omega (arith, c.requires.readable.rows)
-
-pub overflow_add-first : goal.overflow_add-first
-overflow_add-first c = omega (arith, c.requires.readable.rows)
-
-pub row_target-requires : goal.row_target-requires
-row_target-requires c = omega (arith, c.requires.readable.rows)
-
-pub offset_bounds-registers-row_target : goal.offset_bounds-registers-row_target
-offset_bounds-registers-row_target c = omega (arith, c.row_target.ensures.1)
-
 pub bounds-registers-row_target : goal.bounds-registers-row_target
 bounds-registers-row_target c =
     rw (c.row_target.ensures.0, c.loop-i.invariant.1, written_length c.args.t.now c.args.a c.args.first c.args.k c.args.registers.now c.loop-i.i)

@@ -8,9 +8,6 @@ use Rattle.machine.proofs.starts.first_unfit.Goals as goal
 pub loop-i-init : goal.loop-i-init
 loop-i-init c = fit_none _ _ _
 
-pub register_type-requires : goal.register_type-requires
-register_type-requires c = omega arith
-
 pub returns-then-not-number_fits-clause-place : goal.returns-then-not-number_fits-clause-place
 returns-then-not-number_fits-clause-place c =
     unfit_found c.args.t.now c.args.a c.args.args.now c.requires.args_len_bound c.loop-i.i c.loop-i-test.true c.loop-i.invariant

@@ -9,10 +9,6 @@ pub returns-then-b-eq0 : goal.returns-then-b-eq0
 unfolding div
 returns-then-b-eq0 c t k = rw (eq-eqb c.args.b 0 c.if-b-eq0.true)
 
-pub nonzero_div-result : goal.nonzero_div-result
-unfolding div
-nonzero_div-result c = omega arith
-
 pub returns-then-not-self : goal.returns-then-not-self
 unfolding div
 returns-then-not-self c t k =

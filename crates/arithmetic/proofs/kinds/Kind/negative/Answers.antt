@@ -1,11 +1,8 @@
 -- `Kind::negative`: the highest bit of a signed number.
-use Rattle.std.proofs.Common.{Bool, sym, ap, ◌∙◌, arith}
+use Rattle.std.proofs.Common.{Bool, sym, ap, ◌∙◌}
 use Rattle.arithmetic.proofs.Words.{highest_set}
 use Rattle.arithmetic.proofs.Meanings.{minus, reading_sign}
 use Rattle.arithmetic.proofs.kinds.Kind.negative.Goals as goal
-
-pub overflow_shl-result : goal.overflow_shl-result
-overflow_shl-result c = omega arith
 
 pub returns-then-self : goal.returns-then-self
 returns-then-self c =

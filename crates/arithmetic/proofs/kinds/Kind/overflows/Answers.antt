@@ -1,11 +1,8 @@
 -- `Kind::overflows` tests what the definition tests, in its order.
-use Rattle.std.proofs.Common.{sym, ◌∙◌, arith, eq-eqb, ne_eqb}
+use Rattle.std.proofs.Common.{arith}
 use Rattle.arithmetic.proofs.Words.{highest_alone}
 use Rattle.arithmetic.proofs.Meanings.{overflows_is}
 use Rattle.arithmetic.proofs.kinds.Kind.overflows.Goals as goal
-
-pub overflow_shl-a : goal.overflow_shl-a
-overflow_shl-a c = omega arith
 
 pub returns-then-a-self : goal.returns-then-a-self
 returns-then-a-self c t k =

@@ -1,10 +1,6 @@
 -- `Kind::rank`: to add the highest bit makes the halves change places.
-use Rattle.std.proofs.Common.{arith}
 use Rattle.arithmetic.proofs.Words.{ranked}
 use Rattle.arithmetic.proofs.kinds.Kind.rank.Goals as goal
-
-pub overflow_shl-result : goal.overflow_shl-result
-overflow_shl-result c = omega arith
 
 pub returns : goal.returns
 returns c = ranked c.args.self.room c.args.self.below c.requires

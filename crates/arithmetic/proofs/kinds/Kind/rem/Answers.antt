@@ -10,10 +10,6 @@ pub returns-then-b-eq0 : goal.returns-then-b-eq0
 unfolding rem
 returns-then-b-eq0 c t k = rw (eq-eqb c.args.b 0 c.if-b-eq0.true)
 
-pub nonzero_rem-result : goal.nonzero_rem-result
-unfolding rem
-nonzero_rem-result c = omega arith
-
 pub returns-then-not-self : goal.returns-then-not-self
 unfolding rem
 returns-then-not-self c t k =

@@ -4,24 +4,9 @@ use Rattle.language.proofs.Fitting.{ror_below}
 use Rattle.arithmetic.proofs.Words.{all_bits, turned_right, runs, stops}
 use Rattle.arithmetic.proofs.kinds.Kind.ror.Goals as goal
 
-pub overflow_sub-w : goal.overflow_sub-w
-overflow_sub-w c = omega arith
-
 pub returns-in_err-below_width : goal.returns-in_err-below_width
 returns-in_err-below_width c =
     stops (64 - c.args.self.room) c.args.k _ c.from_residual.result c.from_residual.ensures.1 c.in_err-below_width.ensures
-
-pub overflow_shr-result : goal.overflow_shr-result
-overflow_shr-result c = omega arith
-
-pub overflow_sub-w-2 : goal.overflow_sub-w-2
-overflow_sub-w-2 c = omega arith
-
-pub overflow_sub-w-3 : goal.overflow_sub-w-3
-overflow_sub-w-3 c = omega arith
-
-pub overflow_shl-a : goal.overflow_shl-a
-overflow_shl-a c = omega arith
 
 pub overflow_add-result : goal.overflow_add-result
 overflow_add-result c =

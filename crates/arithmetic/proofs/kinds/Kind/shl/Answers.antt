@@ -1,14 +1,11 @@
 -- `Kind::shl`: what is right modulo 2^64 is right modulo 2^w.
-use Rattle.std.proofs.Common.{◌-◌, ◌*◌, ◌^◌, refl, arith}
+use Rattle.std.proofs.Common.{◌-◌, ◌*◌, ◌^◌, refl}
 use Rattle.arithmetic.proofs.Words.{reduced, runs, stops}
 use Rattle.arithmetic.proofs.kinds.Kind.shl.Goals as goal
 
 pub returns-in_err-below_width : goal.returns-in_err-below_width
 returns-in_err-below_width c =
     stops (64 - c.args.self.room) c.args.k _ c.from_residual.result c.from_residual.ensures.1 c.in_err-below_width.ensures
-
-pub overflow_shl-a : goal.overflow_shl-a
-overflow_shl-a c = omega arith
 
 pub returns : goal.returns
 returns c =

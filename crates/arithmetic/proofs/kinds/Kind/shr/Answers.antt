@@ -8,9 +8,6 @@ pub returns-in_err-below_width : goal.returns-in_err-below_width
 returns-in_err-below_width c t k =
     stops (64 - c.args.self.room) c.args.k _ c.from_residual.result c.from_residual.ensures.1 c.in_err-below_width.ensures
 
-pub overflow_shr-flip : goal.overflow_shr-flip
-overflow_shr-flip c = omega arith
-
 pub flip-requires-then-negative : goal.flip-requires-then-negative
 flip-requires-then-negative c = let h = div-le_self c.flip.result (2 ^ c.args.k) in omega (arith, c.flip.ensures)
 
@@ -18,9 +15,6 @@ pub returns-then-negative : goal.returns-then-negative
 returns-then-negative c t k =
     runs (64 - c.args.self.room) c.args.k _ c.in_ok-below_width.ensures
     (shifted_negative k c.args.a c.requires c.args.k (sym c.negative.ensures ∙ c.if-negative.true) c.flip.ensures c.flip-then-negative.ensures)
-
-pub overflow_shr-result : goal.overflow_shr-result
-overflow_shr-result c = omega arith
 
 pub returns : goal.returns
 returns c t k =
