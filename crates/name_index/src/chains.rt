@@ -79,6 +79,7 @@ pub fn find(
         return find_none(t, at, stride, count);
     }
     let x = end(name);
+    // Kept, rule: 0 ends a chain in the definition `Chained`, and a place of a chain is one `u16`.
     let mut y = usize::from(last[hash(x)]);
     while y != 0 {
         let j = y - 1;

@@ -3,6 +3,7 @@ ghost use Rattle.std.specs.Prelude.{◌≡◌, ◌+◌, ◌<◌, ◌≤◌, leng
 ghost use Rattle.language.specs.Table.{two, four, eight};
 
 // The number of the two cells from k on.
+// Kept, plainer: `from_le_bytes` takes an array, so the cells would be read one by one into one first; so too of four and eight.
 pub fn two_at(t: &[u8], k: usize) -> usize
     requires { k + 2 ≤ length t.now }
     ensures { (result ≡ two t.now k) × (result < 65536) }

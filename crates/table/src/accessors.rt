@@ -126,6 +126,7 @@ pub fn predecessor(t: &[u8], a: usize, b: usize, k: usize) -> usize
     usize::from(t[a + (PREDECESSORS_OFFSET + 1) + BLOCK_LENGTH * b + k])
 }
 
+// Kept, plainer: each accessor is one read under the name of its definition; one function that takes the column is longer at every call.
 pub fn row_op(t: &[u8], a: usize, r: usize) -> u8
     requires { (InTable t.now a) × (r < max_rows) }
     ensures { result ≡ row_op t.now a r }

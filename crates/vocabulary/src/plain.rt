@@ -19,7 +19,8 @@ fn plain_bytes(name: &[u8], classes: &[u8; 256]) -> bool
         return false;
     }
     for b in rest {
-        if kinds::DIGIT < classes[usize::from(*b)] {
+        let class = classes[usize::from(*b)];
+        if kinds::DIGIT < class {
             return false;
         }
     }
