@@ -19,7 +19,7 @@ use Rattle.instructions.specs.Ranges.{beyond}
 use Rattle.instructions.proofs.RangesLaws.{range_large}
 use Rattle.drafts.specs.Mentions.{kept}
 use Rattle.drafts.specs.Cells.{operand_cell, instruction_cells}
-use Rattle.drafts.specs.State.{fault_at, Bounded, Counts, Stands, Lent, lent_of, ActsOn, ActsAlone, Always, NoParts, WholeRow, KeptAs, operand_at, row_at}
+use Rattle.drafts.specs.State.{NumberOf, fault_at, Bounded, Counts, Stands, Lent, lent_of, ActsOn, ActsAlone, Always, NoParts, WholeRow, KeptAs, operand_at, row_at}
 use Rattle.drafts.specs.declared.state.Draft.{Draft}
 use Rattle.std.specs.Prelude.{Option, Some, Ok, Err}
 use Rattle.answers.specs.declared.reasons.Reason.TheVariants as reasons
@@ -92,10 +92,6 @@ instruction_proceeds {s} b op small =
 
 -- ---- a name among the registers of the function in hand
 
--- r is the number of the name n, whatever the draft
-abbrev pub Numbers : Draft → (f name : List ℕ) → ℕ → Type 0
-Numbers s f name r = (d : Draftᴸ) (n m l b : List ℕ) → Stands d s (lent_of f n m l b) → r ≡ register_number d.function.registers name
-
 module _ {s : Draft} (b : Bounded s) (name : List ℕ) (p : TextPlace) (f last before : List ℕ) where
   pub target_refused : max_rows ≤ s.blocks.rows → ActsOn NoParts (set_target name p.byte) s f last before (Err (fault_at reasons.SizeExceeded p)) f
   unfolding set_target
@@ -105,7 +101,7 @@ module _ {s : Draft} (b : Bounded s) (name : List ℕ) (p : TextPlace) (f last b
   unfolding add_entry
   entry_refused full n m = refusing reasons.SizeExceeded p (λ d h fit. rw (← h.counts.blocks.entries, le-ltb s.blocks.entries max_entries full))
 
-  module _ {r : ℕ} (is : Numbers s f name r) where
+  module _ {r : ℕ} (is : NumberOf s f name r) where
     unknown : s.head.registers ≤ r → {d : Draftᴸ} {n m : List ℕ} → Stands d s (lent_of f n m last before)
         → ltb (register_number d.function.registers name) (length d.function.registers) ≡ false
     unknown out {d} {n} {m} h = rw (← is d n m last before h, ← h.counts.head.registers) (le-ltb r s.head.registers out)

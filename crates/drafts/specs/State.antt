@@ -3,7 +3,7 @@ use Rattle.std.specs.Prelude.{◌≡◌, cond, List, [], ◌∷◌, ◌++◌, ma
 use Rattle.language.specs.Programs.{Func, max_rows, max_entries, max_blocks, max_registers, max_functions, max_name}
 use Rattle.language.specs.Instructions.{Operand, form_of, has_target, source_count, operand_of}
 use Rattle.language.specs.Table.{name_at, four, eight_bytes, name_length, function_length, register_length, register_names_offset, function_cells}
-use Rattle.language.specs.Reading.{Draft as Draftᴸ, Mention, no_mention, no_open_block, ActOutcome, open_rows, phi_entries, rows_in, row_of, entries_in, mentions_in, fresh, end_function}
+use Rattle.language.specs.Reading.{Draft as Draftᴸ, Mention, no_mention, no_open_block, ActOutcome, open_rows, phi_entries, rows_in, row_of, entries_in, mentions_in, fresh, register_number, end_function}
 use Rattle.name_index.specs.Chains.{Indexed}
 use Rattle.name_index.specs.Hashes.{heads}
 use Rattle.name_index.specs.Names.{names_in}
@@ -137,6 +137,10 @@ pub record Stands (d : Draftᴸ) (s : Draft) (x : Lent) : Type 0 where
   pub names : NamesHeld (draft_names d) x.names
   pub pending : Pending (kept d) x.pending
   pub indexed : Indexed (map (λ r. r.name) d.function.registers) x.last x.before
+
+-- r is the number of this name among the registers, whatever the draft that these stand for.
+abbrev pub NumberOf : Draft → (f name : List ℕ) → (r : ℕ) → Type 0
+NumberOf s f name r = (d : Draftᴸ) (n m l b : List ℕ) → Stands d s (lent_of f n m l b) → r ≡ register_number d.function.registers name
 
 -- ---- what an act comes to
 

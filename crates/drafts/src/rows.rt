@@ -1,12 +1,12 @@
 // Instructions: target, word, sources, operand. A name that is no register's is 7; a row is put down at its semicolon.
-ghost use Rattle.std.specs.Prelude.{◌≡◌, List, ℕ, ◌+◌, ◌*◌, ◌<◌, ◌≤◌, length};
+ghost use Rattle.std.specs.Prelude.{◌≡◌, List, ℕ, ◌+◌, ◌*◌, ◌<◌, ◌≤◌, length, MatchOption};
 ghost use Rattle.language.specs.Instructions.{Operand};
 ghost use Rattle.std.proofs.lemmas.List.Edits.{sets};
 ghost use Rattle.language.specs.Programs.{max_rows, max_name};
-ghost use Rattle.language.specs.Reading.{Draft as Draftᴸ, register_number, begin_instruction, set_target, set_instruction, add_source, add_entry, add_mention, set_number, end_instruction};
+ghost use Rattle.language.specs.Reading.{begin_instruction, set_target, set_instruction, add_source, add_entry, add_mention, set_number, end_instruction};
 ghost use Rattle.language.specs.Table.{function_length, row_length, rows_offset};
 ghost use Rattle.instructions.specs.Shapes.{operand_number};
-ghost use Rattle.drafts.specs.State.{Bounded, Acts, ActsOn, ActsAlone, Stands, CellsIndexed, KeptAs, NameKept, lent_of, pending_length, Always, NoParts, WholeRow, row_at, operand_at, with_name_at};
+ghost use Rattle.drafts.specs.State.{NumberOf, Bounded, Acts, ActsOn, ActsAlone, Stands, CellsIndexed, KeptAs, NameKept, lent_of, pending_length, Always, NoParts, WholeRow, row_at, operand_at, with_name_at};
 ghost use Rattle.drafts.specs.Mentions.{max_names};
 
 use crate::state::{Draft, Fault, MAX_NAMES, MENTION_LENGTH, MENTION_PLACE, Parts, low};
@@ -21,11 +21,11 @@ use table::{
 use text_place::TextPlace;
 
 impl Draft {
-    // A register's number by its name, or the count of registers.
-    fn register_number(self, f: &[u8], last: &[u16], before: &[u16], name: &[u8]) -> usize
+    // A register's number by its name.
+    fn register_number(self, f: &[u8], last: &[u16], before: &[u16], name: &[u8]) -> Option<usize>
         requires bounded { (Bounded self) × (length f.now ≡ function_length) }
         requires cells_indexed { CellsIndexed self f.now last.now before.now }
-        ensures { (d : Draftᴸ) (n m l b : List ℕ) → Stands d self (lent_of f.now n m l b) → result ≡ register_number d.function.registers name.now }
+        ensures { MatchOption result (NumberOf self f.now name.now self.head.registers) (λ r. NumberOf self f.now name.now r × (r < self.head.registers)) }
     {
         find(
             f,
@@ -36,7 +36,6 @@ impl Draft {
             last,
             before,
         )
-        .unwrap_or(self.head.registers)
     }
 
     // An instruction that has no target: 5 at its word.
@@ -74,15 +73,14 @@ impl Draft {
                 at: p,
             });
         }
-        let r = self.register_number(f, last, before, name);
-        if r < self.head.registers {
-            self.parts = Parts::new(0, r);
-            return Ok(self);
-        }
-        Err(Fault {
-            reason: Reason::NotDeclared,
-            at: p,
-        })
+        let Some(r) = self.register_number(f, last, before, name) else {
+            return Err(Fault {
+                reason: Reason::NotDeclared,
+                at: p,
+            });
+        };
+        self.parts = Parts::new(0, r);
+        Ok(self)
     }
 
     // The word after a target.
@@ -109,13 +107,12 @@ impl Draft {
         requires cells_indexed { CellsIndexed self f.now last.now before.now }
         ensures { ActsOn Always (add_source name.now p.byte) self f.now last.now before.now result f.now }
     {
-        let r = self.register_number(f, last, before, name);
-        if self.head.registers <= r {
+        let Some(r) = self.register_number(f, last, before, name) else {
             return Err(Fault {
                 reason: Reason::NotDeclared,
                 at: p,
             });
-        }
+        };
         if self.parts.sources == 0 {
             self.parts.left = r;
             self.parts.sources = 1;
@@ -148,13 +145,12 @@ impl Draft {
                 at: p,
             });
         }
-        let r = self.register_number(f, last, before, name);
-        if self.head.registers <= r {
+        let Some(r) = self.register_number(f, last, before, name) else {
             return Err(Fault {
                 reason: Reason::NotDeclared,
                 at: p,
             });
-        }
+        };
         let n = self.blocks.entries;
         put_entry(f, 0, n, r);
         let all = n + 1;
