@@ -33,10 +33,7 @@ fn limit(text: &[u8], start: usize) -> usize
     requires { start ≤ length text.now }
     ensures { result ≡ name_limit (length text.now) start }
 {
-    if text.len() - start < MAX_NAME {
-        return text.len();
-    }
-    start + MAX_NAME
+    start + MAX_NAME.min(text.len() - start)
 }
 
 // The first place after `start` whose byte no name has, or the limit of a name that begins there.
