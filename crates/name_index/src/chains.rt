@@ -53,7 +53,9 @@ fn find_none(t: &[u8], at: usize, stride: usize, count: usize) -> Option<usize>
     ensures { FindsName t.now at stride count [] result }
 {
     for i in 0..count {
-        if name_at(t, at + stride * i).is_empty() {
+        let other = name_at(t, at + stride * i);
+        let bytes = other.len();
+        if bytes == 0 {
             return Some(i);
         }
     }

@@ -25,7 +25,10 @@ pub fn spellable(name: &[u8]) -> bool
 fn spellable_or_none(name: &[u8]) -> bool
     ensures { result ≡ spellable_or_none name.now }
 {
-    name.is_empty() || spellable(name)
+    if name.is_empty() {
+        return true;
+    }
+    spellable(name)
 }
 
 // Whether each of `count` names has no bytes or is one that a text can spell. Their length cells stand `stride` apart, from cell `at` on.

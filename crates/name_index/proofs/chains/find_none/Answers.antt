@@ -1,7 +1,5 @@
 use mathlib.Core.List.{[]}
-use mathlib.Core.Path.{sym, ◌∙◌}
 use native.Mathlib.Omega.{arith}
-use borrow.Author.Tests.{eqb-true, eqb-false}
 use borrow.Author.Count.{below_none, below_more}
 use Rattle.laws.proofs.Positions.{position_below}
 use Rattle.table.specs.Named.{is_named, first_named}
@@ -18,23 +16,23 @@ overflow_mul-stride c = omega (arith, room c.args.stride c.loop-i-test.true)
 pub overflow_add-at : goal.overflow_add-at
 overflow_add-at c = omega (arith, room c.args.stride c.loop-i-test.true)
 
-pub name_at-requires : goal.name_at-requires
-name_at-requires c = omega (arith, room c.args.stride c.loop-i-test.true)
+pub name_at-other-requires : goal.name_at-other-requires
+name_at-other-requires c = omega (arith, room c.args.stride c.loop-i-test.true)
 
-pub returns-then-is_empty : goal.returns-then-is_empty
+pub returns-then-bytes-eq0 : goal.returns-then-bytes-eq0
 unfolding first_named
-returns-then-is_empty c =
+returns-then-bytes-eq0 c =
     let args = c.args in
     let t = args.t.now in (
       position_below (is_named t args.at args.stride []) args.count c.loop-i.i (omega arith) c.loop-i.invariant
-          (λ h. named_none t args.at args.stride c.loop-i.i c.name_at.ensures (eqb-true _ 0 (sym c.is_empty.ensures ∙ c.if-is_empty.true))),
+          (λ h. named_none t args.at args.stride c.loop-i.i c.name_at-other.ensures c.if-bytes-eq0.true),
       omega arith,
     )
 
 pub loop-i-preserved : goal.loop-i-preserved
 loop-i-preserved c =
     let args = c.args in
-    below_more _ _ c.loop-i.invariant (named_some args.t.now args.at args.stride c.loop-i.i c.name_at.ensures (eqb-false _ 0 (sym c.is_empty.ensures ∙ c.if-is_empty.false)))
+    below_more _ _ c.loop-i.invariant (named_some args.t.now args.at args.stride c.loop-i.i c.name_at-other.ensures c.if-bytes-eq0.false)
 
 pub returns : goal.returns
 unfolding first_named

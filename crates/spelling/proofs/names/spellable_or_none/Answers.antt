@@ -5,7 +5,7 @@ use Rattle.spelling.proofs.NamesLaws.{none, some}
 use Rattle.spelling.proofs.names.spellable_or_none.Goals as goal
 
 pub returns-then-is_empty : goal.returns-then-is_empty
-returns-then-is_empty c = c.if-is_empty.true ∙ none c.args.name.now (eqb-true _ 0 (sym c.is_empty.ensures ∙ c.if-is_empty.true))
+returns-then-is_empty c = none c.args.name.now (eqb-true _ 0 (sym c.is_empty.ensures ∙ c.if-is_empty.true))
 
-pub returns-else-is_empty : goal.returns-else-is_empty
-returns-else-is_empty c = some c.args.name.now (eqb-false _ 0 (sym c.is_empty.ensures ∙ c.if-is_empty.false)) c.spellable.ensures
+pub returns : goal.returns
+returns c = some c.args.name.now (eqb-false _ 0 (sym c.is_empty.ensures ∙ c.if-is_empty.false)) c.spellable.ensures
