@@ -6,10 +6,8 @@ use Prim.Native.Nat.{ℕ, ◌+◌, ◌≤◌, ◌<◌}
 use native.Mathlib.Nat.{not-suc-le-zero, zero-add}
 use native.Mathlib.Decide.{ℕ_discrete}
 use native.Mathlib.Omega.{arith}
-use lib.Dec.{eqb}
 use lib.ListN.{length, get_or, set, take, length-map}
 use lib.Seq.{ext_get_or, get_or-take, length-take-le}
-use borrow.Author.Tests.{lt-ltb, le-ltb}
 use Rattle.laws.specs.Lists.{below}
 use Rattle.laws.proofs.Positions.{position_below}
 use Rattle.laws.proofs.Ranges.{get_or_map_from}
@@ -18,29 +16,18 @@ use Rattle.laws.proofs.OneMore.{fill_more}
 use Rattle.language.specs.Programs.{Func}
 use Rattle.language.specs.Table.{register_count, register_type, decode_function}
 use Rattle.language.proofs.TableView.{type_is}
-use Rattle.decimal.specs.Meanings.{bits_in}
-use Rattle.decimal.specs.declared.ranges.Bits.{Bits}
-use Rattle.decimal.specs.declared.ranges.Bits.TheVariants as bits
-use Rattle.call_words.specs.Words.{kept_bits}
+use Rattle.std.specs.Prelude.{Option, Some, None}
+use Rattle.decimal.specs.Meanings.{bits_from}
 use Rattle.call_words.specs.Arguments.{Given, is_outside, bits_held, argument_bits, first_outside, arguments_of}
 
 -- ---- one argument
 
-module _ (kind sign magnitude : ℕ) where
-  pub kept_within : {r : Bits} → sign < 2 → r ≡ bits_in kind (eqb sign 1) magnitude → r ≡ kept_bits kind sign magnitude
-  unfolding kept_bits
-  kept_within l e = rw (lt-ltb sign 2 l) e
-
-  pub kept_beyond : 2 ≤ sign → bits.Outside ≡ kept_bits kind sign magnitude
-  unfolding kept_bits
-  kept_beyond l = rw (le-ltb sign 2 l) refl
-
 -- Argument k of a function of a table, once its parameter's type is read.
 pub argument_is :
-    (t : List ℕ) (a : ℕ) (g : Given) (k : ℕ) {kind : ℕ} {r x : Bits}
+    (t : List ℕ) (a : ℕ) (g : Given) (k : ℕ) {kind : ℕ} {r x : Option ℕ}
     → k < register_count t a
     → kind ≡ register_type t a k
-    → r ≡ kept_bits kind (get_or g.signs k 0) (get_or g.magnitudes k 0)
+    → r ≡ bits_from kind (get_or g.numbers k None)
     → r ≡ x
     → argument_bits (decode_function t a) g k ≡ x
 argument_is t a g k l e h s = rw (type_is t a k l, ← e, ← h) s
@@ -56,7 +43,7 @@ module _ (f : Func) (g : Given) where
   pub upheld_none : (out : List ℕ) → Upheld f g out 0
   upheld_none out = record { inside = λ j l. absurd (not-suc-le-zero l); held = λ j l. absurd (not-suc-le-zero l) }
 
-  pub upheld_more : (out : List ℕ) (i x : ℕ) → i < length out → argument_bits f g i ≡ bits.Fits x → Upheld f g out i → Upheld f g (set out i x) (i + 1)
+  pub upheld_more : (out : List ℕ) (i x : ℕ) → i < length out → argument_bits f g i ≡ Some x → Upheld f g out i → Upheld f g (set out i x) (i + 1)
   upheld_more out i x l e h =
       record {
         inside = inside;
@@ -70,7 +57,7 @@ module _ (f : Func) (g : Given) where
             | no d ↦ h.inside j (omega arith)
           ]
 
-  pub outside_found : (out : List ℕ) (i : ℕ) → i < g.count → argument_bits f g i ≡ bits.Outside → Upheld f g out i → i ≡ first_outside f g
+  pub outside_found : (out : List ℕ) (i : ℕ) → i < g.count → argument_bits f g i ≡ None → Upheld f g out i → i ≡ first_outside f g
   unfolding first_outside
   outside_found out i l e h = position_below (λ k. is_outside (argument_bits f g k)) g.count i (omega arith) h.inside (λ m. ap is_outside e)
 

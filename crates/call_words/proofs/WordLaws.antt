@@ -5,32 +5,13 @@ use mathlib.Core.List.{List}
 use Prim.Native.Nat.{ℕ, ◌+◌, ◌*◌, ◌<◌}
 use native.Mathlib.Omega.{arith}
 use lib.ListN.{length, get_or}
-use borrow.Author.Tests.{eq-eqb, ne_eqb}
 use Rattle.laws.specs.Lists.{same, position, below}
 use Rattle.laws.proofs.Positions.{position_of}
 use Rattle.language.specs.Programs.{Func, no_function}
 use Rattle.language.specs.Table.{function_at, function_count, name_at, decode_function, decode, function_length, function_names_offset}
 use Rattle.language.proofs.TableView.{function_count_law, function_is}
 use Rattle.table.specs.Named.{is_named, first_named}
-use Rattle.decimal.specs.declared.words.Decimal.{Decimal}
-use Rattle.decimal.specs.declared.words.Decimal.TheVariants as decimals
-use Rattle.call_words.specs.declared.words.Budget.TheVariants as budgets
-use Rattle.call_words.specs.Words.{most, function_named, budget_from}
-
--- ---- a budget
-
-module _ (d : Decimal) {s : Bool} {n : ℕ} (e : d ≡ decimals.Value s n) where
-  pub budget_plain : s ≡ false → budgets.Steps n ≡ budget_from d
-  budget_plain p = rw (e, p) refl
-
-  pub budget_zero : s ≡ true → n ≡ 0 → budgets.Steps 0 ≡ budget_from d
-  budget_zero p q = rw (e, p, eq-eqb n 0 q) refl
-
-  pub budget_negative : s ≡ true → (n ≡ 0 → ⊥) → budgets.Wrong ≡ budget_from d
-  budget_negative p q = rw (e, p, ne_eqb n 0 q) refl
-
-pub budget_most : (d : Decimal) {s : Bool} → d ≡ decimals.Beyond s → s ≡ false → budgets.Steps most ≡ budget_from d
-budget_most d e p = rw (e, p) refl
+use Rattle.call_words.specs.Words.{function_named}
 
 -- ---- a name
 

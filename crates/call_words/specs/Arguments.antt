@@ -1,31 +1,28 @@
 -- The arguments of a call: words by meaning, as the registers of a function's parameters hold them. Assumes nothing.
-use Rattle.std.specs.Prelude.{Bool, true, false, List, map, ℕ, get_or}
+use Rattle.std.specs.Prelude.{Bool, is_none, List, map, ℕ, get_or, Option, None}
+use Rattle.std.specs.Option.{unwrap_or}
 use Rattle.laws.specs.Lists.{position, below}
 use Rattle.language.specs.Programs.{Func, type_at}
-use Rattle.decimal.specs.declared.ranges.Bits.{Bits}
-use Rattle.decimal.specs.declared.ranges.Bits.TheVariants as bits
-use Rattle.call_words.specs.Words.{kept_bits}
+use Rattle.decimal.specs.Meanings.{bits_from}
+use Rattle.decimal.specs.declared.words.Decimal.{Decimal}
 
-abbrev pub is_outside : Bits → Bool
-is_outside (bits.Fits x) = false
-is_outside bits.Outside = true
+abbrev pub is_outside : Option ℕ → Bool
+is_outside b = is_none b
 
-abbrev pub bits_held : Bits → ℕ
-bits_held (bits.Fits x) = x
-bits_held bits.Outside = 0
+abbrev pub bits_held : Option ℕ → ℕ
+bits_held b = unwrap_or b 0
 
--- The words after the budget: how many were given, and the signs and magnitudes of the first 256. No function has more parameters.
+-- The words after the budget: how many were given, and the numbers that the first 256 say. No function has more parameters.
 pub record Given : Type 0 where
   pub count : ℕ
-  pub signs : List ℕ
-  pub magnitudes : List ℕ
+  pub numbers : List (Option Decimal)
 
-abbrev pub given_of : ℕ → List ℕ → List ℕ → Given
-given_of n ss ms = record { count = n; signs = ss; magnitudes = ms }
+abbrev pub given_of : ℕ → List (Option Decimal) → Given
+given_of n ds = record { count = n; numbers = ds }
 
 -- Argument k as a register of its parameter's type holds it.
-abbrev pub argument_bits : Func → Given → ℕ → Bits
-argument_bits f g k = kept_bits (type_at f k) (get_or g.signs k 0) (get_or g.magnitudes k 0)
+abbrev pub argument_bits : Func → Given → ℕ → Option ℕ
+argument_bits f g k = bits_from (type_at f k) (get_or g.numbers k None)
 
 -- The first argument outside its parameter's range by meaning, or their number.
 unfoldable pub first_outside : Func → Given → ℕ

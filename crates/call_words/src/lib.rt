@@ -5,4 +5,5 @@ mod arguments;
 mod words;
 
 pub use arguments::{fill_arguments, keep_argument};
-pub use words::{Budget, function_number, read_budget};
+pub use decimal::Decimal;
+pub use words::{function_number, read_budget};

@@ -9,14 +9,8 @@ use decimal::{Decimal, read_decimal};
 use table::{FUNCTION_LENGTH, FUNCTION_NAMES_OFFSET, find_name, function_count};
 
 // 2^64 - 1: no table has so many functions, and no run here takes so many steps.
+// Kept, plainer: `ial::run` and `ial::translate` refuse the number of no function, so that an Option would be turned into such a number again.
 const MOST: u64 = 18446744073709551615;
-
-// The steps that a run may take, or a word that says no budget.
-#[derive(Clone, Copy)]
-pub enum Budget {
-    Steps(u64),
-    Wrong,
-}
 
 // The function whose name has these contents, or how many there are.
 fn function_named(t: &[u8], word: &[u8]) -> u64
@@ -28,13 +22,17 @@ fn function_named(t: &[u8], word: &[u8]) -> u64
 }
 
 // What a word's number is, or the number of what it names.
-fn number_or(d: Decimal, named: u64) -> u64
-    ensures { result ≡ number_or d named }
+fn number_or(number: Option<Decimal>, named: u64) -> u64
+    ensures { result ≡ number_or number named }
 {
-    match d {
-        Decimal::Malformed => named,
-        Decimal::Value(negative, n) => if negative { named } else { n },
-        Decimal::Beyond(negative) => if negative { named } else { MOST },
+    match number {
+        Some(
+            Decimal {
+                negative: false,
+                magnitude,
+            },
+        ) => magnitude.unwrap_or(MOST),
+        _ => named,
     }
 }
 
@@ -47,30 +45,24 @@ pub fn function_number(t: &[u8], word: &[u8]) -> u64
 }
 
 // A budget of any size is one, and -0 is 0.
-fn budget_from(d: Decimal) -> Budget
-    ensures { result ≡ budget_from d }
+fn budget_from(number: Option<Decimal>) -> Option<u64>
+    ensures { result ≡ budget_from number }
 {
-    match d {
-        Decimal::Malformed => Budget::Wrong,
-        Decimal::Beyond(negative) => if negative {
-            Budget::Wrong
-        } else {
-            Budget::Steps(MOST)
-        },
-        Decimal::Value(negative, n) => {
-            if !negative {
-                return Budget::Steps(n);
-            }
-            if n == 0 {
-                return Budget::Steps(0);
-            }
-            Budget::Wrong
-        }
+    let Decimal {
+        negative,
+        magnitude,
+    } = number?;
+    if !negative {
+        return Some(magnitude.unwrap_or(MOST));
     }
+    if magnitude? == 0 {
+        return Some(0);
+    }
+    None
 }
 
-// The budget that a word says.
-pub fn read_budget(word: &[u8]) -> Budget
+// The steps that a run may take by a word, if it says a budget.
+pub fn read_budget(word: &[u8]) -> Option<u64>
     ensures { result ≡ budget_of word.now }
 {
     budget_from(read_decimal(word))

@@ -2,6 +2,8 @@
 -- Assumes nothing.
 use mathlib.Core.Path.{◌≡◌, refl, ap, ◌∙◌}
 use mathlib.Core.List.{List, [], ◌∷◌}
+use mathlib.Core.Bool.{Bool, true, false}
+use Rattle.decimal.specs.declared.words.Decimal.{Decimal}
 use Prim.Native.Nat.{ℕ}
 use Rattle.language.specs.Bytes.{bytes_of}
 use Rattle.language.specs.Instructions.{int8, uint8}
@@ -13,15 +15,15 @@ use Rattle.language.proofs.Computing.{computing}
 use Rattle.language.proofs.ReadingFacts.{turn_text, turn, turn_reads}
 use Rattle.theorems.proofs.TurnWritten.{turned_text, turned_written}
 use Rattle.decimal.specs.Meanings.{bits_in}
-use Rattle.decimal.specs.Numbers.{is_digit, decimal_from, unsigned, number_of}
-use Rattle.call_words.specs.declared.words.Budget.TheVariants as budgets
-use Rattle.call_words.specs.Words.{function_named, function_by_word, budget_of, kept_bits}
+use Rattle.std.specs.Prelude.{Option, Some, None}
+use Rattle.decimal.specs.Numbers.{is_digit, amount_kept, decimal_from, unsigned, number_of}
+use Rattle.call_words.specs.Words.{function_named, function_by_word, budget_of}
 use Rattle.answer_lines.specs.Lines.{value_written}
 use Rattle.call_words.specs.Arguments.{Given, given_of, first_outside, arguments_of}
 use Rattle.calling.specs.Calls.{call_function, run_line, translated_line, translate_line, shown_line, text_line, read_line, run_printed, translate_printed}
 
 unfoldable calling : Unit {0}
-unfolding computing number_in_range bits_of place_of refused_run run_function digits line refused_line bits_in is_digit decimal_from unsigned number_of function_named function_by_word budget_of kept_bits value_written first_outside arguments_of call_function run_line translated_line translate_line
+unfolding computing number_in_range bits_of place_of refused_run run_function digits line refused_line bits_in is_digit amount_kept decimal_from unsigned number_of function_named function_by_word budget_of value_written first_outside arguments_of call_function run_line translated_line translate_line
 calling = tt
 
 -- ---- words
@@ -34,7 +36,7 @@ large_number : function_by_word (turn ∷ []) (bytes_of "18446744073709551616") 
 unfolding calling turn
 large_number = refl
 
-budgets_said : budget_of (bytes_of "12") ∷ budget_of (bytes_of "-0") ∷ budget_of (bytes_of "-1") ∷ budget_of (bytes_of "1x") ∷ budget_of [] ∷ [] ≡ budgets.Steps 12 ∷ budgets.Steps 0 ∷ budgets.Wrong ∷ budgets.Wrong ∷ budgets.Wrong ∷ []
+budgets_said : budget_of (bytes_of "12") ∷ budget_of (bytes_of "-0") ∷ budget_of (bytes_of "-1") ∷ budget_of (bytes_of "1x") ∷ budget_of [] ∷ [] ≡ Some 12 ∷ Some 0 ∷ None ∷ None ∷ None ∷ []
 unfolding calling
 budgets_said = refl
 
@@ -45,16 +47,23 @@ least_values = refl
 
 -- ---- calls
 
+-- what a word below 2^64 says, and one beyond
+abbrev said : Bool → ℕ → Option Decimal
+said s n = Some (record { negative = s; magnitude = Some n })
+
+abbrev said_beyond : Option Decimal
+said_beyond = Some (record { negative = false; magnitude = None })
+
 -- turn(7, 9, n)
 abbrev numbers : ℕ → Given
-numbers n = given_of 3 (0 ∷ 0 ∷ 0 ∷ []) (7 ∷ 9 ∷ n ∷ [])
+numbers n = given_of 3 (said false 7 ∷ said false 9 ∷ said false n ∷ [])
 
 -- 21 before the count, the count before the arguments, the first argument of two that lie outside.
 refusals :
-    call_function (turn ∷ []) 1 (given_of 0 [] []) 9
-    ∷ call_function (turn ∷ []) 0 (given_of 2 (1 ∷ 0 ∷ []) (7 ∷ 9 ∷ [])) 9
-    ∷ call_function (turn ∷ []) 0 (given_of 3 (0 ∷ 1 ∷ 0 ∷ []) (7 ∷ 9 ∷ 256 ∷ [])) 9
-    ∷ call_function (turn ∷ []) 0 (given_of 3 (0 ∷ 0 ∷ 2 ∷ []) (7 ∷ 9 ∷ 0 ∷ [])) 9
+    call_function (turn ∷ []) 1 (given_of 0 []) 9
+    ∷ call_function (turn ∷ []) 0 (given_of 2 (said true 7 ∷ said false 9 ∷ [])) 9
+    ∷ call_function (turn ∷ []) 0 (given_of 3 (said false 7 ∷ said true 9 ∷ said false 256 ∷ [])) 9
+    ∷ call_function (turn ∷ []) 0 (given_of 3 (said false 7 ∷ said false 9 ∷ said_beyond ∷ [])) 9
     ∷ []
     ≡ Ran.refused 21 0 ∷ Ran.refused 20 2 ∷ Ran.refused 20 1 ∷ Ran.refused 20 2 ∷ []
 unfolding calling turn

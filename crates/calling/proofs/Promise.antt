@@ -21,9 +21,9 @@ use Rattle.language.specs.Running.{first_unfit}
 use Rattle.language.specs.Answers.{run_function}
 use Rattle.language.proofs.Widths.{powers}
 use Rattle.theorems.proofs.AcceptanceCheck.{sound_parts, clean_of_check}
-use Rattle.decimal.specs.Meanings.{bits_in}
-use Rattle.decimal.specs.declared.ranges.Bits.TheVariants as bits
-use Rattle.call_words.specs.Words.{kept_bits}
+use Rattle.std.specs.Prelude.{Option, Some, None}
+use Rattle.decimal.specs.declared.words.Decimal.{Decimal}
+use Rattle.decimal.specs.Meanings.{bits_in, bits_below, bits_from}
 use Rattle.call_words.specs.Arguments.{Given, bits_held, argument_bits, first_outside, arguments_of}
 use Rattle.calling.specs.Calls.{call_function}
 use Rattle.calling.specs.Statements.{CallRuns}
@@ -39,14 +39,18 @@ in_range_below t false v h = by (signed t) h
     by true h = omega (arith, ltb→lt v (2 ^ (width t - 1)) h, (powers t).half)
     by false h = ltb→lt v (2 ^ width t) h
 
-held_below : (t s v : ℕ) → bits_held (kept_bits t s v) < 2 ^ width t
-unfolding kept_bits bits_in
-held_below t s v = by (ltb s 2) (number_in_range t (eqb s 1) v) refl
+magnitude_below : (t : ℕ) (s : Bool) (m : Option ℕ) → bits_held (bits_below t s m) < 2 ^ width t
+unfolding bits_in
+magnitude_below t s None = pow_pos (width t)
+magnitude_below t s (Some v) = by (number_in_range t s v) refl
   where
-    by : (a b : Bool) → number_in_range t (eqb s 1) v ≡ b → bits_held (cond a (cond b (bits.Fits (bits_of t (eqb s 1) v)) bits.Outside) bits.Outside) < 2 ^ width t
-    by true true e = in_range_below t (eqb s 1) v (of_true _ e)
-    by true false e = pow_pos (width t)
-    by false b e = pow_pos (width t)
+    by : (b : Bool) → number_in_range t s v ≡ b → bits_held (cond b (Some (bits_of t s v)) None) < 2 ^ width t
+    by true e = in_range_below t s v (of_true _ e)
+    by false e = pow_pos (width t)
+
+held_below : (t : ℕ) (d : Option Decimal) → bits_held (bits_from t d) < 2 ^ width t
+held_below t None = pow_pos (width t)
+held_below t (Some d) = magnitude_below t d.negative d.magnitude
 
 -- ---- all of them
 
@@ -60,7 +64,7 @@ module _ (f : Func) (g : Given) where
   argument_at j l = get_or_map_from (λ k. bits_held (argument_bits f g k)) 0 0 g.count j l ∙ ap (λ k. bits_held (argument_bits f g k)) (zero-add j)
 
   argument_below : (j : ℕ) → j < g.count → get_or (arguments_of f g) j 0 < 2 ^ width (type_at f j)
-  argument_below j l = rw (argument_at j l) (held_below (type_at f j) (get_or g.signs j 0) (get_or g.magnitudes j 0))
+  argument_below j l = rw (argument_at j l) (held_below (type_at f j) (get_or g.numbers j None))
 
   abbrev test : Register → ℕ → Bool
   test r v = ltb v (2 ^ width r.type)

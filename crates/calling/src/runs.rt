@@ -12,7 +12,7 @@ ghost use Rattle.answer_lines.specs.Lines.{ran_most};
 
 use crate::accepting::accept;
 use answer_lines::put_answer;
-use call_words::{fill_arguments, function_number};
+use call_words::{Decimal, fill_arguments, function_number};
 use ial::{Ran, Verdict, run};
 use listing::list_refusal;
 use table::{
@@ -40,10 +40,10 @@ fn run_here(t: &[u8], function: u64, args: &[u64], budget: u64) -> Ran
 }
 
 // A call by meaning: 21, then 20 with the count, then 20 with the first argument outside its range, then the run.
-fn call(t: &[u8], function: u64, count: usize, signs: &[u8], magnitudes: &[u64], budget: u64) -> Ran
+fn call(t: &[u8], function: u64, count: usize, kept: &[Option<Decimal>], budget: u64) -> Ran
     requires t_value { check_answer t.now ≡ Verdictᴸ.accepted }
-    requires signs_len { (length signs.now ≡ max_registers) × (length magnitudes.now ≡ max_registers) }
-    ensures { ran_of result ≡ call_function (decode t.now) function (given_of count signs.now magnitudes.now) budget }
+    requires kept_len { length kept.now ≡ max_registers }
+    ensures { ran_of result ≡ call_function (decode t.now) function (given_of count kept.now) budget }
 {
     if function_count(t) as u64 <= function {
         return Ran::Refused(21, 0);
@@ -53,8 +53,7 @@ fn call(t: &[u8], function: u64, count: usize, signs: &[u8], magnitudes: &[u64],
         return Ran::Refused(20, count);
     }
     let mut args = [0u64; MAX_REGISTERS];
-    let outside = fill_arguments(t, a, count, signs, magnitudes, &mut args);
-    if outside < count {
+    if let Err(outside) = fill_arguments(t, a, count, kept, &mut args) {
         return Ran::Refused(20, outside);
     }
     run_here(t, function, &args[..count], budget)
@@ -65,21 +64,16 @@ fn run_checked(
     t: &[u8],
     word: &[u8],
     count: usize,
-    signs: &[u8],
-    magnitudes: &[u64],
+    kept: &[Option<Decimal>],
     budget: u64,
     out: &mut [u8],
 ) -> usize
     requires t_value { check_answer t.now ≡ Verdictᴸ.accepted }
-    requires signs_len { (length signs.now ≡ max_registers) × (length magnitudes.now ≡ max_registers) × (ran_most ≤ length out.old) }
-    ensures { Written out.old 0 (run_line (decode t.now) word.now (given_of count signs.now magnitudes.now) budget) out.new result × (result ≤ ran_most) }
+    requires lengths { (length kept.now ≡ max_registers) × (ran_most ≤ length out.old) }
+    ensures { Written out.old 0 (run_line (decode t.now) word.now (given_of count kept.now) budget) out.new result × (result ≤ ran_most) }
 {
     let i = function_number(t, word);
-    put_answer(
-        result_of(t, i),
-        call(t, i, count, signs, magnitudes, budget),
-        out,
-    )
+    put_answer(result_of(t, i), call(t, i, count, kept, budget), out)
 }
 
 // What is printed of a run: `count` arguments were given, of which the first 256 are kept.
@@ -87,17 +81,16 @@ pub fn run_text(
     text: &[u8],
     word: &[u8],
     count: usize,
-    signs: &[u8],
-    magnitudes: &[u64],
+    kept: &[Option<Decimal>],
     budget: u64,
     out: &mut [u8],
 ) -> usize
-    requires { (length signs.now ≡ max_registers) × (length magnitudes.now ≡ max_registers) × (ran_most ≤ length out.old) }
-    ensures { Written out.old 0 (run_printed text.now word.now (given_of count signs.now magnitudes.now) budget) out.new result × (result ≤ ran_most) }
+    requires { (length kept.now ≡ max_registers) × (ran_most ≤ length out.old) }
+    ensures { Written out.old 0 (run_printed text.now word.now (given_of count kept.now) budget) out.new result × (result ≤ ran_most) }
 {
     let mut t = [0u8; TABLE_LENGTH];
     match accept(text, &mut t) {
         Verdict::Refused(n, p) => list_refusal(n, p, out),
-        Verdict::Accepted => run_checked(&t, word, count, signs, magnitudes, budget, out),
+        Verdict::Accepted => run_checked(&t, word, count, kept, budget, out),
     }
 }

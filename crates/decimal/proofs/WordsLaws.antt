@@ -2,57 +2,66 @@
 use mathlib.Core.Bool.{Bool, true, false, cond, not, ◌&&◌, and-false}
 use mathlib.Core.List.{List, [], ◌∷◌, ◌++◌, foldl-append}
 use mathlib.Core.Path.{◌≡◌, refl, sym, ap, ◌∙◌}
-use Prim.Native.Nat.{ℕ, ◌+◌, ◌-◌, ◌≤◌, ◌<◌}
+use Prim.Native.Nat.{ℕ, ◌+◌, ◌-◌, ◌*◌, ◌≤◌, ◌<◌}
 use native.Mathlib.Numerals.{add-one}
 use native.Mathlib.Omega.{arith}
+use Rattle.std.specs.Prelude.{Option, Some, None}
+use Rattle.std.specs.Option.{SomeIff}
+use Rattle.std.specs.Char.{is_ascii_digit}
 use lib.Dec.{T, leb, ltb, leb→le, ltb→lt}
 use lib.Ieee.Fits.{and_l, and_r}
 use lib.ListN.{length, get_or, take, drop, take-append-drop}
 use lib.Seq.{take-suc, take_all}
-use borrow.Author.Tests.{lt-ltb, le-ltb, ltb-true, ltb-false, eq-eqb, ne_eqb}
+use borrow.Author.Tests.{lt-ltb, le-ltb, ltb-true, ltb-false, eq-eqb, ne_eqb, lt-leb, le-leb}
+use Rattle.std.proofs.Common.{inl, inr, ◌⊎◌}
+use Rattle.std.proofs.lemmas.Bool.{cases_Bool}
 use Rattle.laws.specs.Lists.{all, empty}
 use Rattle.laws.proofs.Joining.{all_both}
 use Rattle.instructions.specs.Ranges.{beyond}
 use Rattle.decimal.specs.declared.words.Decimal.{Decimal}
-use Rattle.decimal.specs.declared.words.Decimal.TheVariants as decimals
-use Rattle.decimal.specs.declared.words.Amount.TheVariants as amounts
 use Rattle.decimal.specs.Numbers.{is_digit, with_digit, value_of, amount_kept, decimal_from, unsigned, number_of}
 
 -- ---- a number and how it is kept
 
-pub amount_exact : {v n : ℕ} → amounts.Exact v ≡ amount_kept n → (v ≡ n) × (n < beyond)
+pub amount_exact : {v n : ℕ} → Some v ≡ amount_kept n → (v ≡ n) × (n < beyond)
 unfolding amount_kept
 amount_exact {v} {n} e = by (ltb n beyond) refl e
   where
-    by : (t : Bool) → ltb n beyond ≡ t → amounts.Exact v ≡ cond t (amounts.Exact n) amounts.Large → (v ≡ n) × (n < beyond)
+    by : (t : Bool) → ltb n beyond ≡ t → Some v ≡ cond t (Some n) None → (v ≡ n) × (n < beyond)
     by true p q = (cc, ltb-true n beyond p)
-    by false p q = absurd (let z : ◌≡◌ {A = ℕ} 0 1 = cc in omega arith)
+    by false p q = absurd (cc)
 
-pub amount_large : {n : ℕ} → amounts.Large ≡ amount_kept n → beyond ≤ n
+pub amount_large : {n : ℕ} → ◌≡◌ {A = Option ℕ} None (amount_kept n) → beyond ≤ n
 unfolding amount_kept
 amount_large {n} e = by (ltb n beyond) refl e
   where
-    by : (t : Bool) → ltb n beyond ≡ t → amounts.Large ≡ cond t (amounts.Exact n) amounts.Large → beyond ≤ n
-    by true p q = absurd (let z : ◌≡◌ {A = ℕ} 0 1 = cc in omega arith)
+    by : (t : Bool) → ltb n beyond ≡ t → ◌≡◌ {A = Option ℕ} None (cond t (Some n) None) → beyond ≤ n
+    by true p q = absurd (cc)
     by false p q = ltb-false n beyond p
 
-pub kept_exact : (n : ℕ) → n < beyond → amounts.Exact n ≡ amount_kept n
+pub kept_exact : (n : ℕ) → n < beyond → Some n ≡ amount_kept n
 unfolding amount_kept
 kept_exact n h = rw (lt-ltb n beyond h)
 
-pub kept_large : (n : ℕ) → beyond ≤ n → amounts.Large ≡ amount_kept n
+pub kept_large : (n : ℕ) → beyond ≤ n → ◌≡◌ {A = Option ℕ} None (amount_kept n)
 unfolding amount_kept
 kept_large n h = rw (le-ltb n beyond h)
 
-pub says_exact : (s : Bool) (n : ℕ) → n < beyond → decimals.Value s n ≡ decimal_from s n
-unfolding decimal_from
-says_exact s n h = rw (lt-ltb n beyond h)
-
-pub says_large : (s : Bool) (n : ℕ) → beyond ≤ n → decimals.Beyond s ≡ decimal_from s n
-unfolding decimal_from
-says_large s n h = rw (le-ltb n beyond h)
+-- one digit more, where the product and the sum are kept
+pub kept_sum : (r : Option ℕ) (v d n : ℕ) → v ≡ n * 10 → SomeIff r (v + d < beyond) (v + d) → r ≡ amount_kept (10 * n + d)
+kept_sum None v d n e h = kept_large _ (omega (arith, h))
+kept_sum (Some x) v d n e h = let p : x ≡ 10 * n + d = omega (arith, h.1) in rw p (kept_exact _ (omega (arith, h.0)))
 
 -- ---- digits
+
+-- the test of std says the same
+pub same_digit : (b : ℕ) → is_ascii_digit b ≡ is_digit b
+unfolding is_digit
+same_digit b = ap (λ (t : Bool). leb 48 b && t) (by (cases_Bool (ltb b 58)))
+  where
+    by : (ltb b 58 ≡ true) ⊎ (ltb b 58 ≡ false) → leb b 57 ≡ ltb b 58
+    by (inl e) = le-leb b 57 (omega (arith, ltb-true b 58 e)) ∙ sym e
+    by (inr e) = lt-leb b 57 (omega (arith, ltb-false b 58 e)) ∙ sym e
 
 pub digit_low : (b : ℕ) → T (is_digit b) → 48 ≤ b
 unfolding is_digit
@@ -76,7 +85,7 @@ module _ (ds : List ℕ) (i : ℕ) (h : i < length ds) where
     digits_on e = ap (all is_digit) upto ∙ all_both is_digit (take i ds) (get_or ds i 0 ∷ []) ∙ rw (so_far, sym here ∙ e)
 
     -- another byte makes the word malformed
-    pub digits_off : (s : Bool) → r ≡ false → decimals.Malformed ≡ unsigned s ds
+    pub digits_off : (s : Bool) → r ≡ false → None ≡ unsigned s ds
     unfolding unsigned
     digits_off s e =
         let front : all is_digit (take (i + 1) ds) ≡ false = ap (all is_digit) upto ∙ all_both is_digit (take i ds) (get_or ds i 0 ∷ []) ∙ rw (so_far, sym here ∙ e) in
@@ -87,33 +96,33 @@ module _ (ds : List ℕ) (i : ℕ) (h : i < length ds) where
         rw whole (rw (and-false (not (empty ds))))
 
 -- the whole word
-pub says_none : (s : Bool) (ds : List ℕ) → length ds ≡ 0 → decimals.Malformed ≡ unsigned s ds
+pub says_none : (s : Bool) (ds : List ℕ) → length ds ≡ 0 → None ≡ unsigned s ds
 unfolding unsigned
 says_none s [] e = refl
 says_none s (x ∷ xs) e = absurd (omega arith)
 
-pub says_all : (s : Bool) (ds : List ℕ) (i : ℕ) → (length ds ≡ 0 → ⊥) → length ds ≤ i → all is_digit (take i ds) ≡ true → {r : Decimal} → r ≡ decimal_from s (value_of (take i ds)) → r ≡ unsigned s ds
+pub says_all : (s : Bool) (ds : List ℕ) (i : ℕ) → (length ds ≡ 0 → ⊥) → length ds ≤ i → all is_digit (take i ds) ≡ true → {r : Option Decimal} → r ≡ Some (decimal_from s (value_of (take i ds))) → r ≡ unsigned s ds
 unfolding unsigned
 says_all s [] i n h a e = absurd (n refl)
 says_all s (x ∷ xs) i n h a e =
     let all_of : take i (x ∷ xs) ≡ x ∷ xs = take_all i (x ∷ xs) h in
     let digits : all is_digit (x ∷ xs) ≡ true = ap (all is_digit) (sym all_of) ∙ a in
-    rw digits (e ∙ ap (λ (l : List ℕ). decimal_from s (value_of l)) all_of)
+    rw digits (e ∙ ap (λ (l : List ℕ). Some (decimal_from s (value_of l))) all_of)
 
 -- with its sign
-pub no_word : (word : List ℕ) → length word ≡ 0 → decimals.Malformed ≡ number_of word
-unfolding number_of
-no_word [] e = refl
-no_word (b ∷ bs) e = absurd (omega arith)
+pub no_word : (word : List ℕ) → length word ≡ 0 → {r : Option Decimal} → r ≡ unsigned false word → r ≡ number_of word
+unfolding number_of unsigned
+no_word [] e p = p
+no_word (b ∷ bs) e p = absurd (omega arith)
 
-pub minus_word : (word : List ℕ) → (length word ≡ 0 → ⊥) → get_or word 0 0 ≡ 45 → {r : Decimal} → r ≡ unsigned true (take (length word - 1) (drop 1 word)) → r ≡ number_of word
+pub minus_word : (word : List ℕ) → (length word ≡ 0 → ⊥) → get_or word 0 0 ≡ 45 → {r : Option Decimal} → r ≡ unsigned true (take (length word - 1) (drop 1 word)) → r ≡ number_of word
 unfolding number_of
 minus_word [] n e p = absurd (n refl)
 minus_word (b ∷ bs) n e p =
     let rest : take (length (b ∷ bs) - 1) bs ≡ bs = take_all (length (b ∷ bs) - 1) bs (omega arith) in
     rw (eq-eqb b 45 e) (p ∙ ap (unsigned true) rest)
 
-pub plain_word : (word : List ℕ) → (length word ≡ 0 → ⊥) → (get_or word 0 0 ≡ 45 → ⊥) → {r : Decimal} → r ≡ unsigned false word → r ≡ number_of word
-unfolding number_of
-plain_word [] n e p = absurd (n refl)
-plain_word (b ∷ bs) n e p = rw (ne_eqb b 45 e) p
+pub plain_word : (word : List ℕ) → (get_or word 0 0 ≡ 45 → ⊥) → {r : Option Decimal} → r ≡ unsigned false word → r ≡ number_of word
+unfolding number_of unsigned
+plain_word [] e p = p
+plain_word (b ∷ bs) e p = rw (ne_eqb b 45 e) p

@@ -14,5 +14,5 @@ pub const MINUS: u8 = 45;
 
 pub use digits::{digit, put_digits};
 pub use instructions::types;
-pub use ranges::{Bits, Meant, of_bits, to_bits};
+pub use ranges::{Meant, bits_from, of_bits, to_bits};
 pub use words::{Decimal, read_decimal};

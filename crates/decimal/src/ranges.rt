@@ -2,16 +2,10 @@
 ghost use Rattle.std.specs.Prelude.{◌≡◌, ◌^◌, ◌<◌};
 ghost use Rattle.language.specs.Instructions.{width as width_of};
 ghost use Rattle.language.specs.Arithmetic.{meaning};
-ghost use Rattle.decimal.specs.Meanings.{bits_in, meant_by};
+ghost use Rattle.decimal.specs.Meanings.{bits_in, bits_from, meant_by};
 
+use crate::words::Decimal;
 use instructions::{bits_of, largest, number_in_range, signed};
-
-// What a register of a type would hold of a number, if it lies in the type's range.
-#[derive(Clone, Copy)]
-pub enum Bits {
-    Fits(u64),
-    Outside,
-}
 
 // A number by its sign and its magnitude.
 #[derive(Clone, Copy)]
@@ -20,14 +14,22 @@ pub struct Meant {
     pub magnitude: u64,
 }
 
-// A number by meaning as a register of this type holds it.
-pub fn to_bits(kind: u8, negative: bool, magnitude: u64) -> Bits
+// A number by meaning as a register of this type holds it, if it lies in the type's range.
+pub fn to_bits(kind: u8, negative: bool, magnitude: u64) -> Option<u64>
     ensures { result ≡ bits_in kind negative magnitude }
 {
     if number_in_range(kind, negative, magnitude) {
-        return Bits::Fits(bits_of(kind, negative, magnitude));
+        return Some(bits_of(kind, negative, magnitude));
     }
-    Bits::Outside
+    None
+}
+
+// The number that a word says, as a register of this type holds it: no type's range reaches 2^64.
+pub fn bits_from(kind: u8, number: Option<Decimal>) -> Option<u64>
+    ensures { result ≡ bits_from kind number }
+{
+    let number = number?;
+    to_bits(kind, number.negative, number.magnitude?)
 }
 
 // What a register of this type means: "signed types are read as two's complement".

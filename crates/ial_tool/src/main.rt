@@ -6,7 +6,7 @@ ghost use Rattle.language.specs.Programs.{max_registers};
 
 mod files;
 
-use call_words::{Budget, keep_argument, read_budget};
+use call_words::{Decimal, keep_argument, read_budget};
 use calling::{LISTING_MOST, list_text, run_text, translate_text, write_text};
 use files::{answer, load_text, say_argument, say_budget, say_wrong};
 use loading::{upto, word, word_count};
@@ -64,24 +64,22 @@ fn translate(rt: &(impl Files + Print), err: &impl Print, path: &[u8], name: &[u
 }
 
 // Keeps word i as an argument, and says whether it is a number.
-fn keep_word(rt: &impl Env, i: usize, signs: &mut [u8], magnitudes: &mut [u64]) -> bool
-    requires { (5 ≤ i) × (length signs.old ≡ max_registers) × (length magnitudes.old ≡ max_registers) }
+fn keep_word(rt: &impl Env, i: usize, kept: &mut [Option<Decimal>]) -> bool
+    requires { (5 ≤ i) × (length kept.old ≡ max_registers) }
 {
     let mut argument = [0u8; WORD];
     let n = word(rt, i, &mut argument);
-    keep_argument(upto(&argument, n), i - ARGUMENTS, signs, magnitudes)
+    keep_argument(upto(&argument, n), i - ARGUMENTS, kept)
 }
 
 // Keeps the arguments among so many words, and says whether each is a number.
-fn keep_words(rt: &impl Env, words: usize, signs: &mut [u8], magnitudes: &mut [u64]) -> bool
-    requires { (length signs.old ≡ max_registers) × (length magnitudes.old ≡ max_registers) }
+fn keep_words(rt: &impl Env, words: usize, kept: &mut [Option<Decimal>]) -> bool
+    requires { length kept.old ≡ max_registers }
 {
-    let mut i = ARGUMENTS;
-    while i < words {
-        if !keep_word(rt, i, signs, magnitudes) {
+    for i in ARGUMENTS..words {
+        if !keep_word(rt, i, kept) {
             return false;
         }
-        i += 1;
     }
     true
 }
@@ -97,9 +95,8 @@ fn run(
 )
     requires { 5 ≤ words }
 {
-    let mut signs = [0u8; KEPT];
-    let mut magnitudes = [0u64; KEPT];
-    if !keep_words(rt, words, &mut signs, &mut magnitudes) {
+    let mut kept = [None; KEPT];
+    if !keep_words(rt, words, &mut kept) {
         say_argument(err);
         return;
     }
@@ -113,8 +110,7 @@ fn run(
         upto(&text, n),
         name,
         words - ARGUMENTS,
-        &signs,
-        &magnitudes,
+        &kept,
         budget,
         &mut out,
     );
@@ -134,8 +130,8 @@ fn run_words(
     let mut budget = [0u8; WORD];
     let n = word(rt, 4, &mut budget);
     match read_budget(&budget[..n]) {
-        Budget::Wrong => say_budget(err),
-        Budget::Steps(most) => run(rt, err, path, name, most, words),
+        None => say_budget(err),
+        Some(most) => run(rt, err, path, name, most, words),
     }
 }
 

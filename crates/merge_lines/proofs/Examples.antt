@@ -1,24 +1,24 @@
 -- Lines told and shown, by computation: what a must-fail edit of these definitions runs into. Assumes nothing.
 use mathlib.Core.Path.{◌≡◌, refl}
 use mathlib.Core.List.{[], ◌∷◌, map}
+use Rattle.std.specs.Prelude.{None}
 use Rattle.language.specs.Bytes.{bytes_of}
 use Rattle.language.specs.Listing.{digits}
 use Rattle.language.specs.Reading.{number_in_range, bits_of}
 use Rattle.language.specs.Writing.{bytes_for, number_token}
 use Rattle.language.proofs.Computing.{computing}
 use Rattle.decimal.specs.Meanings.{bits_in}
-use Rattle.decimal.specs.Numbers.{is_digit, decimal_from, unsigned, number_of}
-use Rattle.merge_lines.specs.declared.told.Line.TheVariants as lines
-use Rattle.merge_lines.specs.Lines.{number_in, line_of, reading_shown, record_line}
+use Rattle.decimal.specs.Numbers.{is_digit, amount_kept, decimal_from, unsigned, number_of}
+use Rattle.merge_lines.specs.Lines.{number_in, line_with, line_of, reading_shown, record_line}
 
 unfoldable telling : Unit {0}
-unfolding computing number_in_range bits_of digits bytes_for number_token bits_in is_digit decimal_from unsigned number_of number_in line_of reading_shown record_line
+unfolding computing number_in_range bits_of digits bytes_for number_token bits_in is_digit amount_kept decimal_from unsigned number_of number_in line_of reading_shown record_line
 telling = tt
 
 -- A reading of -12; the least and the greatest numbers, with leading zeros and `-0`.
 told :
     map line_of (bytes_of "7\t1700000000\t3\t-12" ∷ bytes_of "-0\t007\t18446744073709551615\t-9223372036854775808" ∷ bytes_of "0\t0\t0\t9223372036854775807" ∷ [])
-    ≡ lines.Numbers 7 1700000000 3 18446744073709551604 ∷ lines.Numbers 0 7 18446744073709551615 9223372036854775808 ∷ lines.Numbers 0 0 0 9223372036854775807 ∷ []
+    ≡ line_with 7 1700000000 3 18446744073709551604 ∷ line_with 0 7 18446744073709551615 9223372036854775808 ∷ line_with 0 0 0 9223372036854775807 ∷ []
 unfolding telling
 told = refl
 
@@ -37,7 +37,7 @@ not_told :
     ∷ bytes_of "1\t2\t3\t9223372036854775808"
     ∷ bytes_of "1\t2\t3\t-9223372036854775809"
     ∷ [])
-    ≡ lines.Bad ∷ lines.Bad ∷ lines.Bad ∷ lines.Bad ∷ lines.Bad ∷ lines.Bad ∷ lines.Bad ∷ lines.Bad ∷ lines.Bad ∷ lines.Bad ∷ lines.Bad ∷ []
+    ≡ None ∷ None ∷ None ∷ None ∷ None ∷ None ∷ None ∷ None ∷ None ∷ None ∷ None ∷ []
 unfolding telling
 not_told = refl
 

@@ -12,19 +12,10 @@ use lib.Seq.{take_all}
 use Rattle.laws.specs.Lists.{position}
 use Rattle.language.specs.Listing.{tab}
 use Rattle.language.specs.Instructions.{uint64}
-use Rattle.decimal.specs.Numbers.{number_of}
-use Rattle.decimal.specs.declared.words.Decimal.{Decimal}
-use Rattle.decimal.specs.declared.ranges.Bits.{Bits}
-use Rattle.decimal.specs.declared.ranges.Bits.TheVariants as bits
+use Rattle.std.specs.Prelude.{Option, Some, None, IfSome, is_some}
+use Rattle.std.specs.Option.{unwrap_or}
 use Rattle.merge_lines.specs.declared.told.Line.{Line}
-use Rattle.merge_lines.specs.declared.told.Line.TheVariants as lines
-use Rattle.merge_lines.specs.Lines.{line_words, longer, bits_from, number_in, if_fits, with_reading, number_then}
-
--- ---- a number
-
-pub said : (kind : ℕ) (w : List ℕ) {d : Decimal} {r : Bits} → d ≡ number_of w → r ≡ bits_from kind d → r ≡ number_in kind w
-unfolding number_in
-said kind w e f = f ∙ ap (bits_from kind) e
+use Rattle.merge_lines.specs.Lines.{line_words, longer, number_in, if_fits, line_with, with_reading, number_then}
 
 -- ---- parts
 
@@ -55,25 +46,34 @@ parts_whole (b ∷ bs) h = by (eqb b tab) h (parts_whole bs)
     by true l ih = absurd (not-suc-le-zero l)
     by false l ih = ap (longer b) (ih (le_of_suc-le-suc l))
 
+-- where the first tab is, by what the search for it gave
+pub tab_found : (r : Option ℕ) {n p : ℕ} → unwrap_or r n ≡ p → IfSome r (λ i. i < n) → true ≡ is_some r → p < n
+tab_found None e w h = absurd (cc)
+tab_found (Some i) e w h = omega arith
+
+pub tab_missing : (r : Option ℕ) {n p : ℕ} → unwrap_or r n ≡ p → false ≡ is_some r → n ≤ p
+tab_missing None e h = omega arith
+tab_missing (Some i) e h = absurd (cc)
+
 -- ---- numbers
 
-never : (x : Bits) (next : ℕ → Line) → ((n : ℕ) → next n ≡ lines.Bad) → lines.Bad ≡ if_fits x next
-never (bits.Fits n) next h = sym (h n)
-never bits.Outside next h = refl
+never : (x : Option ℕ) (next : ℕ → Option Line) → ((n : ℕ) → next n ≡ None) → None ≡ if_fits x next
+never (Some n) next h = sym (h n)
+never None next h = refl
 
-module _ (next : ℕ → List (List ℕ) → Line) (l : List ℕ) {t : ℕ} (is : t ≡ position is_tab l) where
+module _ (next : ℕ → List (List ℕ) → Option Line) (l : List ℕ) {t : ℕ} (is : t ≡ position is_tab l) where
   -- nothing follows the number
-  pub ends : ((n : ℕ) → next n [] ≡ lines.Bad) → t ≡ length l → lines.Bad ≡ number_then next (line_words l)
+  pub ends : ((n : ℕ) → next n [] ≡ None) → t ≡ length l → None ≡ number_then next (line_words l)
   ends h e = rw (parts_whole l (omega arith)) (never (number_in uint64 l) (λ n. next n []) h)
 
   cut : t < length l → line_words l ≡ take t l ∷ line_words (drop (t + 1) l)
   cut h = rw (is, add-one) (parts_cut l (omega arith))
 
-  pub outside : t < length l → {x : Bits} → x ≡ number_in uint64 (take t l) → x ≡ bits.Outside → lines.Bad ≡ number_then next (line_words l)
+  pub outside : t < length l → {x : Option ℕ} → x ≡ number_in uint64 (take t l) → x ≡ None → None ≡ number_then next (line_words l)
   outside h e f = rw (cut h, sym e, f)
 
   pub goes_on :
-      t < length l → {x : Bits} {n : ℕ} {r : Line} → x ≡ number_in uint64 (take t l) → x ≡ bits.Fits n
+      t < length l → {x : Option ℕ} {n : ℕ} {r : Option Line} → x ≡ number_in uint64 (take t l) → x ≡ Some n
       → r ≡ next n (line_words (take (length l - (t + 1)) (drop (t + 1) l))) → r ≡ number_then next (line_words l)
   goes_on h {n = n} e f g =
       let all : take (length l - (t + 1)) (drop (t + 1) l) ≡ drop (t + 1) l = take_all (length l - (t + 1)) (drop (t + 1) l) (omega (arith, length-drop (t + 1) l)) in
@@ -89,17 +89,17 @@ parts_some (b ∷ bs) e = by (eqb b tab) (line_words bs) e
     by false [] e = let z : ◌≡◌ {A = ℕ} 0 1 = cc in omega arith
     by false (w ∷ ws) e = let z : ◌≡◌ {A = ℕ} 0 1 = cc in omega arith
 
-two_parts : (a b c : ℕ) (w : List ℕ) (ws : List (List ℕ)) → (ws ≡ [] → ⊥) → lines.Bad ≡ with_reading a b c (w ∷ ws)
+two_parts : (a b c : ℕ) (w : List ℕ) (ws : List (List ℕ)) → (ws ≡ [] → ⊥) → None ≡ with_reading a b c (w ∷ ws)
 two_parts a b c w [] h = absurd (h refl)
 two_parts a b c w (v ∷ ws) h = refl
 
 -- the reading: no tab may follow, and it fits
 module _ (a b c : ℕ) (l : List ℕ) {t : ℕ} (is : t ≡ position is_tab l) where
-  pub too_many : t < length l → lines.Bad ≡ with_reading a b c (line_words l)
+  pub too_many : t < length l → None ≡ with_reading a b c (line_words l)
   too_many h = rw (parts_cut l (omega arith)) (two_parts a b c (take (position is_tab l) l) (line_words (drop (suc (position is_tab l)) l)) (parts_some (drop (suc (position is_tab l)) l)))
 
-  pub reads_outside : length l ≤ t → number_in 3 l ≡ bits.Outside → lines.Bad ≡ with_reading a b c (line_words l)
+  pub reads_outside : length l ≤ t → number_in 3 l ≡ None → None ≡ with_reading a b c (line_words l)
   reads_outside h e = rw (parts_whole l (omega arith), e)
 
-  pub reads : {n : ℕ} → length l ≤ t → number_in 3 l ≡ bits.Fits n → lines.Numbers a b c n ≡ with_reading a b c (line_words l)
+  pub reads : {n : ℕ} → length l ≤ t → number_in 3 l ≡ Some n → line_with a b c n ≡ with_reading a b c (line_words l)
   reads h e = rw (parts_whole l (omega arith), e)

@@ -65,31 +65,24 @@ pub(crate) fn all_good(p: Progress) -> bool {
 }
 
 // Keeps the four numbers of a record behind those that wait.
-fn keep_numbers(
-    numbers: &mut [u64],
-    at: usize,
-    appliance: u64,
-    time: u64,
-    tablet: u64,
-    reading: u64,
-) -> usize {
+fn keep_numbers(numbers: &mut [u64], at: usize, told: Line) -> usize {
     if numbers.len() < 4 {
         return at;
     }
     if numbers.len() - 4 < at {
         return at;
     }
-    numbers[at] = appliance;
-    numbers[at + 1] = time;
-    numbers[at + 2] = tablet;
-    numbers[at + 3] = reading;
+    numbers[at] = told.appliance;
+    numbers[at + 1] = told.time;
+    numbers[at + 2] = told.tablet;
+    numbers[at + 3] = told.reading;
     at + 4
 }
 
 // The numbers of a line of which so many bytes were kept: one that is too long says none.
-fn numbers_of(line: &[u8], kept: usize) -> Line {
+fn numbers_of(line: &[u8], kept: usize) -> Option<Line> {
     if line.len() < kept {
-        return Line::Bad;
+        return None;
     }
     line_numbers(upto(line, kept))
 }
@@ -105,11 +98,11 @@ fn take_line(
     let mut q = p;
     q.lines = p.lines.wrapping_add(1);
     q.kept = 0;
-    let Line::Numbers(appliance, time, tablet, reading) = numbers_of(line, p.kept) else {
+    let Some(told) = numbers_of(line, p.kept) else {
         say_line(err, path, q.lines);
         return q;
     };
-    q.waiting = keep_numbers(numbers, p.waiting, appliance, time, tablet, reading);
+    q.waiting = keep_numbers(numbers, p.waiting, told);
     q.records = p.records.wrapping_add(1);
     q
 }

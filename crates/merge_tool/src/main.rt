@@ -11,10 +11,9 @@ mod files;
 mod says;
 
 use adding::{Limit, all_good, merge_file};
-use call_words::{Budget, read_budget};
+use call_words::read_budget;
 use calling::function_in;
 use check::same;
-use decimal::Bits;
 use files::{load_file, load_store, replace};
 use ial::{MAX_TEXT, TABLE_LENGTH, ial_read, types};
 use loading::{file_name, upto, word, word_count};
@@ -148,8 +147,8 @@ fn add(rt: &(impl Files + Print + Env + RandomSource), err: &impl Print, path: &
     let mut budget = [0u8; WORD];
     let n = word(rt, 5, &mut budget);
     match read_budget(&budget[..n]) {
-        Budget::Wrong => say_budget(err),
-        Budget::Steps(most) => add_within(rt, err, path, most),
+        None => say_budget(err),
+        Some(most) => add_within(rt, err, path, most),
     }
 }
 
@@ -264,8 +263,8 @@ fn show_word(rt: &(impl Files + Print + Env), err: &impl Print, path: &[u8]) {
     let mut appliance = [0u8; WORD];
     let n = word(rt, 3, &mut appliance);
     match number(types::UINT64, &appliance[..n]) {
-        Bits::Outside => say_appliance(err),
-        Bits::Fits(appliance) => show_one(rt, err, path, appliance),
+        None => say_appliance(err),
+        Some(appliance) => show_one(rt, err, path, appliance),
     }
 }
 

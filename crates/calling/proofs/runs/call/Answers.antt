@@ -1,5 +1,5 @@
 -- `call`: the tests in their order, then the run on the arguments' bits.
-use mathlib.Core.Path.{◌≡◌, sym, ap, ◌∙◌}
+use mathlib.Core.Path.{◌≡◌, refl, sym, ap, ◌∙◌}
 use Prim.Native.Nat.{ℕ, ◌<◌}
 use native.Mathlib.Omega.{arith}
 use lib.ListN.{length-replicate}
@@ -16,7 +16,7 @@ function_count-requires c =
 
 pub returns-then-function_count-function : goal.returns-then-function_count-function
 returns-then-function_count-function c =
-    call_missing c.args.t.now c.args.function (given_of c.args.count c.args.signs.now c.args.magnitudes.now) c.args.budget
+    call_missing c.args.t.now c.args.function (given_of c.args.count c.args.kept.now) c.args.budget
     (omega (arith, c.function_count.ensures.0, c.if-function_count-function.true))
 
 pub function_at-a-requires : goal.function_at-a-requires
@@ -30,25 +30,26 @@ function_params-requires c =
 pub returns-then-count-function_params : goal.returns-then-count-function_params
 returns-then-count-function_params c =
     let l : c.args.function < function_count c.args.t.now = omega (arith, c.function_count.ensures.0, c.if-function_count-function.false) in
-    call_count c.args.t.now c.args.function (given_of c.args.count c.args.signs.now c.args.magnitudes.now) c.args.budget l
+    call_count c.args.t.now c.args.function (given_of c.args.count c.args.kept.now) c.args.budget l
     (λ h. c.if-count-function_params.true (h ∙ sym (c.function_params.ensures.0 ∙ ap (function_params c.args.t.now) c.function_at-a.ensures)))
 
-pub fill_arguments-outside-requires : goal.fill_arguments-outside-requires
-fill_arguments-outside-requires c =
+pub fill_arguments-requires : goal.fill_arguments-requires
+fill_arguments-requires c =
     let l : c.args.function < function_count c.args.t.now = omega (arith, c.function_count.ensures.0, c.if-function_count-function.false) in
     let same : c.args.count ≡ function_params c.args.t.now (function_at c.args.function) = c.if-count-function_params.false ∙ c.function_params.ensures.0 ∙ ap (function_params c.args.t.now) c.function_at-a.ensures in
     let here = c.function_at-a.ensures in
     let at = accepted_within c.args.t.now c.requires.t_value c.args.function l in
     let few = few_arguments c.args.t.now c.requires.t_value c.args.function l same in
     let most = most_arguments c.args.t.now c.requires.t_value c.args.function l same in
-    record { in_table = (rw here at, rw here few, most); signs_len = (c.requires.signs_len.0, c.requires.signs_len.1, length-replicate {A = ℕ} 256 0) }
+    record { in_table = (rw here at, rw here few, most); kept_len = (c.requires.kept_len, length-replicate {A = ℕ} 256 0) }
 
-pub returns-then-outside-count : goal.returns-then-outside-count
-returns-then-outside-count c =
+pub returns-in-Err : goal.returns-in-Err
+returns-in-Err c =
     let l : c.args.function < function_count c.args.t.now = omega (arith, c.function_count.ensures.0, c.if-function_count-function.false) in
     let same : c.args.count ≡ function_params c.args.t.now (function_at c.args.function) = c.if-count-function_params.false ∙ c.function_params.ensures.0 ∙ ap (function_params c.args.t.now) c.function_at-a.ensures in
-    call_outside c.args.t.now c.args.function (given_of c.args.count c.args.signs.now c.args.magnitudes.now) c.args.budget l same
-    c.fill_arguments-outside.result (rw c.function_at-a.ensures at c.fill_arguments-outside.ensures.value.0) c.if-outside-count.true
+    let first = c.in-Err.ensures.outside in
+    call_outside c.args.t.now c.args.function (given_of c.args.count c.args.kept.now) c.args.budget l same
+    c.in-Err.outside (rw c.function_at-a.ensures at first.0) first.1
 
 pub slice_bounds-args-end : goal.slice_bounds-args-end
 slice_bounds-args-end c =
@@ -67,6 +68,6 @@ returns c =
     let l : c.args.function < function_count c.args.t.now = omega (arith, c.function_count.ensures.0, c.if-function_count-function.false) in
     let same : c.args.count ≡ function_params c.args.t.now (function_at c.args.function) = c.if-count-function_params.false ∙ c.function_params.ensures.0 ∙ ap (function_params c.args.t.now) c.function_at-a.ensures in
     let here = c.function_at-a.ensures in
-    let all : c.fill_arguments-outside.result ≡ c.args.count = omega (arith, c.fill_arguments-outside.ensures.value.1, c.if-outside-count.false) in
-    call_run c.args.t.now c.args.function (given_of c.args.count c.args.signs.now c.args.magnitudes.now) c.args.budget l same
-    c.fill_arguments-outside.result (rw here at c.fill_arguments-outside.ensures.value.0) all (rw here at (c.fill_arguments-outside.ensures.out_after all)) c.run_here.ensures
+    let filled = c.in_default.ensures in
+    call_run c.args.t.now c.args.function (given_of c.args.count c.args.kept.now) c.args.budget l same
+    c.args.count (rw here at filled.inside) refl (rw here at filled.out_after) c.run_here.ensures

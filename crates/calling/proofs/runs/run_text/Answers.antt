@@ -18,14 +18,14 @@ pub slice_bounds-accept-end : goal.slice_bounds-accept-end
 slice_bounds-accept-end c = sym (length-replicate {A = ℕ} table_length 0)
 
 pub list_refusal-requires : goal.list_refusal-requires
-list_refusal-requires c = refusal_ran c.requires.2
+list_refusal-requires c = refusal_ran c.requires.1
 
 pub slice_bounds-run_checked-end : goal.slice_bounds-run_checked-end
 slice_bounds-run_checked-end c = sym c.t-2-1.given
 
 pub run_checked-requires : goal.run_checked-requires
 run_checked-requires c =
-    record { t_value = c.accept.ensures.passes c.in-Accepted.is; signs_len = c.requires }
+    record { t_value = c.accept.ensures.passes c.in-Accepted.is; lengths = c.requires }
 
 pub shape_of-out-in-Refused : goal.shape_of-out-in-Refused
 shape_of-out-in-Refused c = c.list_refusal.auto.out
@@ -34,7 +34,7 @@ pub returns-in-Refused : goal.returns-in-Refused
 unfolding run_printed
 returns-in-Refused c =
     let x = c.args in
-    let line : Program → List ℕ = λ p. run_line p x.word.now (given_of x.count x.signs.now x.magnitudes.now) x.budget in
+    let line : Program → List ℕ = λ p. run_line p x.word.now (given_of x.count x.kept.now) x.budget in
     (rw (printed_refused line c.accept.ensures c.in-Refused.is) c.list_refusal.ensures.0, omega (arith, c.list_refusal.ensures.1))
 
 pub shape_of-out-in-Accepted : goal.shape_of-out-in-Accepted
@@ -44,5 +44,5 @@ pub returns-in-Accepted : goal.returns-in-Accepted
 unfolding run_printed
 returns-in-Accepted c =
     let x = c.args in
-    let line : Program → List ℕ = λ p. run_line p x.word.now (given_of x.count x.signs.now x.magnitudes.now) x.budget in
+    let line : Program → List ℕ = λ p. run_line p x.word.now (given_of x.count x.kept.now) x.budget in
     (rw (printed_accepted line c.accept.ensures c.in-Accepted.is) c.run_checked.ensures.0, c.run_checked.ensures.1)

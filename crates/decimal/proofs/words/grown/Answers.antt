@@ -1,20 +1,19 @@
 -- `decimal::words::grown`: ten times the number and the digit, or beyond.
-use mathlib.Core.Path.{sym, ap, ◌∙◌}
-use native.Mathlib.Omega.{arith}
-use Prim.Native.Nat.{ℕ, ◌+◌, ◌*◌}
-use Rattle.decimal.specs.declared.words.Amount.TheVariants as amounts
-use Rattle.decimal.proofs.WordsLaws.{amount_exact, amount_large, kept_exact, kept_large}
+use Rattle.std.proofs.Common.{arith, sym, ap, ◌∙◌, ◌*◌}
+use Rattle.decimal.proofs.WordsLaws.{amount_exact, amount_large, kept_large, kept_sum}
 use Rattle.decimal.proofs.words.grown.Goals as goal
 
-pub returns-in_default : goal.returns-in_default
-returns-in_default c = λ n e. let l = amount_large (sym c.in_default.is ∙ e) in kept_large _ (omega arith)
+pub returns-in_err-magnitude : goal.returns-in_err-magnitude
+returns-in_err-magnitude c = λ n e. c.from_residual.ensures ∙ kept_large _ (omega (arith, amount_large (sym c.in_err-magnitude.was ∙ e)))
 
-pub returns-then-digit-v : goal.returns-then-digit-v
-returns-then-digit-v c = λ n e. let p = amount_exact (sym c.in-Exact.is ∙ e) in kept_large _ (omega (arith, p.0, c.if-digit-v.true, c.requires))
+pub returns-in_err-checked_mul : goal.returns-in_err-checked_mul
+returns-in_err-checked_mul c =
+    λ n e.
+    let v = (amount_exact (sym c.in_ok-magnitude.was ∙ e)).0 in
+    c.from_residual-in_err-checked_mul.ensures ∙ kept_large _ (omega (arith, v, c.in_err-checked_mul.ensures))
 
 pub returns : goal.returns
 returns c =
     λ n e.
-    let p = amount_exact (sym c.in-Exact.is ∙ e) in
-    ap (λ (k : ℕ). amounts.Exact (10 * k + c.args.digit)) p.0
-    ∙ kept_exact (10 * n + c.args.digit) (omega (arith, p.0, c.if-digit-v.false, c.requires))
+    let v = (amount_exact (sym c.in_ok-magnitude.was ∙ e)).0 in
+    kept_sum _ _ _ _ (c.in_ok-checked_mul.ensures.1 ∙ ap (λ k. k * 10) v) c.checked_add.ensures

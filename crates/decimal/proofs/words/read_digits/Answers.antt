@@ -1,51 +1,36 @@
-use Prim.Native.Nat.{ℕ, ◌+◌, ◌*◌}
 use mathlib.Core.Path.{refl, sym, ap, ◌∙◌}
 use native.Mathlib.Omega.{arith}
-use borrow.Author.Tests.{not-true, not-false}
+use Prim.Native.Nat.{ℕ, ◌+◌, ◌*◌}
 use lib.ListN.{take}
-use Rattle.laws.proofs.Tests.{of_true}
-use Rattle.decimal.specs.Numbers.{value_of, amount_kept}
-use Rattle.decimal.proofs.WordsLaws.{kept_exact, value_more, digits_on, digits_off, says_none, says_all}
+use Rattle.std.proofs.lemmas.Grind.{common_steps}
+use Rattle.decimal.specs.Numbers.{value_of, amount_kept, decimal_from}
+use Rattle.decimal.proofs.WordsLaws.{kept_exact, same_digit, value_more, digits_on, digits_off, says_none, says_all}
 use Rattle.decimal.proofs.words.read_digits.Goals as goal
 
-pub returns-then-digits-eq0 : goal.returns-then-digits-eq0
-returns-then-digits-eq0 c = let args = c.args in says_none args.negative args.digits.now c.if-digits-eq0.true
+pub returns-then-is_empty : goal.returns-then-is_empty
+returns-then-is_empty c = let args = c.args in says_none args.negative args.digits.now (grind (arith, common_steps))
 
-pub loop-i-init : goal.loop-i-init
-loop-i-init c = (omega arith, refl, kept_exact 0 (omega arith))
+pub loop-b-init : goal.loop-b-init
+loop-b-init c = (refl, kept_exact 0 (omega arith))
 
-pub bounds-digits-i : goal.bounds-digits-i
-bounds-digits-i c = omega arith
-
-pub returns-then-not-is_digit : goal.returns-then-not-is_digit
-returns-then-not-is_digit c =
+pub returns-then-not-is_ascii_digit : goal.returns-then-not-is_ascii_digit
+returns-then-not-is_ascii_digit c =
     let args = c.args in
-    digits_off args.digits.now c.loop-i.i c.loop-i-test.true c.loop-i.invariant.1 c.is_digit.ensures args.negative (not-true _ c.if-not-is_digit.true-raw)
+    digits_off args.digits.now c.loop-b.b-index c.loop-b-test.true c.loop-b.invariant.0 (c.is_ascii_digit.ensures.value ∙ same_digit _) args.negative c.if-not-is_ascii_digit.true
 
-pub wide-requires : goal.wide-requires
-wide-requires c = of_true _ (sym c.is_digit.ensures ∙ not-false _ c.if-not-is_digit.false-raw)
-
-pub grown-a-requires : goal.grown-a-requires
-grown-a-requires c = c.wide.ensures.1
-
-pub overflow_add-i : goal.overflow_add-i
-overflow_add-i c = omega arith
-
-pub loop-i-smaller : goal.loop-i-smaller
-loop-i-smaller c = omega arith
-
-pub loop-i-preserved : goal.loop-i-preserved
-loop-i-preserved c =
+pub loop-b-preserved : goal.loop-b-preserved
+loop-b-preserved c =
     let ds = c.args.digits.now in
-    let within = c.loop-i-test.true in (
-      omega arith,
-      digits_on ds c.loop-i.i within c.loop-i.invariant.1 c.is_digit.ensures (not-false _ c.if-not-is_digit.false-raw),
-      c.grown-a.ensures _ c.loop-i.invariant.2
-          ∙ ap (λ (d : ℕ). amount_kept (10 * value_of (take c.loop-i.i ds) + d)) c.wide.ensures.0
-          ∙ ap amount_kept (sym (value_more ds c.loop-i.i within)),
+    let i = c.loop-b.b-index in (
+      digits_on ds i c.loop-b-test.true c.loop-b.invariant.0 (c.is_ascii_digit.ensures.value ∙ same_digit _) c.if-not-is_ascii_digit.false,
+      c.grown-magnitude.ensures _ c.loop-b.invariant.1
+          ∙ ap (λ (d : ℕ). amount_kept (10 * value_of (take i ds) + d)) c.from.ensures
+          ∙ ap amount_kept (sym (value_more ds i c.loop-b-test.true)),
     )
 
 pub returns : goal.returns
+unfolding decimal_from
 returns c =
     let args = c.args in
-    says_all args.negative args.digits.now c.loop-i.i c.if-digits-eq0.false (omega arith) c.loop-i.invariant.1 (c.signed_amount.ensures _ c.loop-i.invariant.2)
+    says_all args.negative args.digits.now c.loop-b.b-index (grind (arith, common_steps)) (omega arith) c.loop-b.invariant.0
+    (rw (c.loop-b.invariant.1))

@@ -1,29 +1,23 @@
 -- `line_numbers`: a number up to the first tab, then the time.
-use mathlib.Core.Path.{refl, sym}
-use native.Mathlib.Omega.{arith}
-use lib.Seq.{length-take-le}
+use mathlib.Core.Path.{refl, ◌∙◌}
 use Rattle.merge_lines.specs.Lines.{with_time, line_of}
 use Rattle.merge_lines.proofs.ToldLaws.{ends, outside, goes_on}
 use Rattle.merge_lines.proofs.told.line_numbers.Goals as goal
 
-pub returns-then-t-line : goal.returns-then-t-line
+pub returns-in_err-t : goal.returns-in_err-t
 unfolding line_of
-returns-then-t-line c =
+returns-in_err-t c =
     let s = c.args in
-    ends with_time s.line.now c.first-t.ensures.0 (λ n. refl) c.if-t-line.true
+    c.from_residual.ensures ∙ ends with_time s.line.now c.in_err-t.ensures.place (λ n. refl) refl
 
-pub slice_bounds-number-end : goal.slice_bounds-number-end
-slice_bounds-number-end c = sym (length-take-le _ c.args.line.now (omega (arith, c.first-t.ensures.1)))
-
-pub returns-in_default : goal.returns-in_default
+pub returns-in_err-appliance : goal.returns-in_err-appliance
 unfolding line_of
-returns-in_default c =
+returns-in_err-appliance c =
     let s = c.args in
-    outside with_time s.line.now c.first-t.ensures.0 (omega (arith, c.first-t.ensures.1, c.if-t-line.false)) c.number.ensures c.in_default.is
+    c.from_residual-in_err-appliance.ensures ∙ outside with_time s.line.now c.in_ok-t.ensures.place c.in_ok-t.ensures.within c.number.ensures c.in_err-appliance.was
 
 pub returns : goal.returns
 unfolding line_of
 returns c =
     let s = c.args in
-    goes_on with_time s.line.now c.first-t.ensures.0 (omega (arith, c.first-t.ensures.1, c.if-t-line.false)) c.number.ensures
-    c.in-Fits.is c.with_time.ensures
+    goes_on with_time s.line.now c.in_ok-t.ensures.place c.in_ok-t.ensures.within c.number.ensures c.in_ok-appliance.was c.with_time.ensures

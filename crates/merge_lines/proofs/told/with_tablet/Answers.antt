@@ -1,26 +1,20 @@
 -- `with_tablet`: a number up to the first tab, then the reading.
-use mathlib.Core.Path.{refl, sym}
-use native.Mathlib.Omega.{arith}
-use lib.Seq.{length-take-le}
+use mathlib.Core.Path.{refl, ◌∙◌}
 use Rattle.merge_lines.specs.Lines.{with_reading}
 use Rattle.merge_lines.proofs.ToldLaws.{ends, outside, goes_on}
 use Rattle.merge_lines.proofs.told.with_tablet.Goals as goal
 
-pub returns-then-t-rest : goal.returns-then-t-rest
-returns-then-t-rest c =
+pub returns-in_err-t : goal.returns-in_err-t
+returns-in_err-t c =
     let s = c.args in
-    ends (with_reading s.appliance s.time) s.rest.now c.first-t.ensures.0 (λ n. refl) c.if-t-rest.true
+    c.from_residual.ensures ∙ ends (with_reading s.appliance s.time) s.rest.now c.in_err-t.ensures.place (λ n. refl) refl
 
-pub slice_bounds-number-end : goal.slice_bounds-number-end
-slice_bounds-number-end c = sym (length-take-le _ c.args.rest.now (omega (arith, c.first-t.ensures.1)))
-
-pub returns-in_default : goal.returns-in_default
-returns-in_default c =
+pub returns-in_err-tablet : goal.returns-in_err-tablet
+returns-in_err-tablet c =
     let s = c.args in
-    outside (with_reading s.appliance s.time) s.rest.now c.first-t.ensures.0 (omega (arith, c.first-t.ensures.1, c.if-t-rest.false)) c.number.ensures c.in_default.is
+    c.from_residual-in_err-tablet.ensures ∙ outside (with_reading s.appliance s.time) s.rest.now c.in_ok-t.ensures.place c.in_ok-t.ensures.within c.number.ensures c.in_err-tablet.was
 
 pub returns : goal.returns
 returns c =
     let s = c.args in
-    goes_on (with_reading s.appliance s.time) s.rest.now c.first-t.ensures.0 (omega (arith, c.first-t.ensures.1, c.if-t-rest.false)) c.number.ensures
-    c.in-Fits.is c.with_reading.ensures
+    goes_on (with_reading s.appliance s.time) s.rest.now c.in_ok-t.ensures.place c.in_ok-t.ensures.within c.number.ensures c.in_ok-tablet.was c.with_reading.ensures

@@ -1,26 +1,20 @@
 -- `with_time`: a number up to the first tab, then the tablet.
-use mathlib.Core.Path.{refl, sym}
-use native.Mathlib.Omega.{arith}
-use lib.Seq.{length-take-le}
+use mathlib.Core.Path.{refl, ◌∙◌}
 use Rattle.merge_lines.specs.Lines.{with_tablet}
 use Rattle.merge_lines.proofs.ToldLaws.{ends, outside, goes_on}
 use Rattle.merge_lines.proofs.told.with_time.Goals as goal
 
-pub returns-then-t-rest : goal.returns-then-t-rest
-returns-then-t-rest c =
+pub returns-in_err-t : goal.returns-in_err-t
+returns-in_err-t c =
     let s = c.args in
-    ends (with_tablet s.appliance) s.rest.now c.first-t.ensures.0 (λ n. refl) c.if-t-rest.true
+    c.from_residual.ensures ∙ ends (with_tablet s.appliance) s.rest.now c.in_err-t.ensures.place (λ n. refl) refl
 
-pub slice_bounds-number-end : goal.slice_bounds-number-end
-slice_bounds-number-end c = sym (length-take-le _ c.args.rest.now (omega (arith, c.first-t.ensures.1)))
-
-pub returns-in_default : goal.returns-in_default
-returns-in_default c =
+pub returns-in_err-time : goal.returns-in_err-time
+returns-in_err-time c =
     let s = c.args in
-    outside (with_tablet s.appliance) s.rest.now c.first-t.ensures.0 (omega (arith, c.first-t.ensures.1, c.if-t-rest.false)) c.number.ensures c.in_default.is
+    c.from_residual-in_err-time.ensures ∙ outside (with_tablet s.appliance) s.rest.now c.in_ok-t.ensures.place c.in_ok-t.ensures.within c.number.ensures c.in_err-time.was
 
 pub returns : goal.returns
 returns c =
     let s = c.args in
-    goes_on (with_tablet s.appliance) s.rest.now c.first-t.ensures.0 (omega (arith, c.first-t.ensures.1, c.if-t-rest.false)) c.number.ensures
-    c.in-Fits.is c.with_tablet.ensures
+    goes_on (with_tablet s.appliance) s.rest.now c.in_ok-t.ensures.place c.in_ok-t.ensures.within c.number.ensures c.in_ok-time.was c.with_tablet.ensures
