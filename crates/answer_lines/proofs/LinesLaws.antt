@@ -15,8 +15,11 @@ use Rattle.language.specs.Listing.{tab, digits, line}
 use Rattle.decimal.specs.Meanings.{meant_by}
 use Rattle.decimal.specs.Writing.{Written}
 use Rattle.decimal.specs.declared.ranges.Meant.{Meant}
-use Rattle.answers.specs.declared.Ran.{Ran}
-use Rattle.answers.specs.Cases.{ran_of}
+use Rattle.std.specs.Prelude.{Ok}
+use Rattle.std.specs.declared.result.Result.{Result}
+use Rattle.answers.specs.declared.reasons.Refusal.{Refusal}
+use Rattle.results.specs.declared.Ran.{Ran}
+use Rattle.results.specs.Cases.{ran_of}
 use Rattle.answer_lines.specs.Lines.{decimal_of, value_written, ran_line}
 
 -- ---- the lowest bits
@@ -76,6 +79,11 @@ stopped_parts n p s = regroup_three (bytes_of "stopped") (tab ∷ digits n) (tab
 
 -- the line of an answer that is known
 pub answered :
-    (kind : ℕ) {r x : Ran} → r ≡ x → {entry exit : List ℕ} {end : ℕ} → Written entry 0 (ran_line kind (ran_of x)) exit end
+    (kind : ℕ) {r x : Result Ran Refusal} → r ≡ x → {entry exit : List ℕ} {end : ℕ} → Written entry 0 (ran_line kind (ran_of x)) exit end
     → Written entry 0 (ran_line kind (ran_of r)) exit end
 answered kind e w = rw e w
+
+pub ended :
+    (kind : ℕ) {r x : Ran} → r ≡ x → {entry exit : List ℕ} {end : ℕ} → Written entry 0 (ran_line kind (ran_of (Ok x))) exit end
+    → Written entry 0 (ran_line kind (ran_of (Ok r))) exit end
+ended kind e w = rw e w

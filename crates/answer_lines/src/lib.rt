@@ -1,16 +1,19 @@
 // The line of a run's answer.
 #![tactic(auto)]
 
-ghost use Rattle.std.specs.Prelude.{[], ◌∷◌, ◌≡◌, ◌+◌, ◌^◌, ◌%◌, ◌≤◌, length};
+ghost use Rattle.std.specs.Prelude.{[], ◌∷◌, ◌≡◌, ◌+◌, ◌^◌, ◌%◌, ◌≤◌, Ok, length};
 ghost use Rattle.language.specs.Bytes.{bytes_of};
 ghost use Rattle.language.specs.Instructions.{width as width_of};
-ghost use Rattle.language.specs.Listing.{line};
+ghost use Rattle.language.specs.Listing.{line, refused_line};
 ghost use Rattle.language.specs.Answers.{Ran as Ranᴸ};
 ghost use Rattle.decimal.specs.Writing.{Written};
-ghost use Rattle.answers.specs.Cases.{ran_of};
+ghost use Rattle.results.specs.Cases.{ran_of};
+ghost use Rattle.answers.specs.Reasons.{reason_number, stop_number};
+ghost use Rattle.listing.specs.Lines.{refusal_most};
 ghost use Rattle.answer_lines.specs.Lines.{value_written, ran_line, ran_most};
 
-use answers::Ran;
+use answers::{Refusal, Stop};
+use results::Ran;
 use decimal::{LINE_FEED, MINUS, of_bits, put_digits};
 use instructions::width;
 use listing::{list_refusal, put_field};
@@ -66,27 +69,45 @@ fn put_left(steps: u64, out: &mut [u8]) -> usize
 }
 
 // `stopped`, the number, its place, the steps.
-fn put_stopped(number: u8, place: usize, steps: u64, out: &mut [u8]) -> usize
+fn put_stopped(stop: Stop, place: usize, steps: u64, out: &mut [u8]) -> usize
     requires { ran_most ≤ length out.old }
-    ensures { Written out.old 0 (line (bytes_of "stopped") (number ∷ place ∷ steps ∷ [])) out.new result × (result ≤ ran_most) }
+    ensures { Written out.old 0 (line (bytes_of "stopped") (stop_number stop ∷ place ∷ steps ∷ [])) out.new result × (result ≤ ran_most) }
 {
     put_bytes(out, 0, b"stopped");
-    let e = put_field(number as u64, out, 7);
+    let e = put_field(u64::from(u8::from(stop)), out, 7);
     let f = put_field(place as u64, out, e);
     let g = put_field(steps, out, f);
     out[g] = LINE_FEED;
     g + 1
 }
 
+// The line of a run that ended.
+fn put_ended(kind: u8, x: Ran, out: &mut [u8]) -> usize
+    requires { ran_most ≤ length out.old }
+    ensures { Written out.old 0 (ran_line kind (ran_of (Ok x))) out.new result × (result ≤ ran_most) }
+{
+    match x {
+        Ran::Returned { value, steps } => put_returned(kind, value, steps, out),
+        Ran::Left { steps } => put_left(steps, out),
+        Ran::Stopped { stop, place, steps } => put_stopped(stop, place, steps, out),
+    }
+}
+
+// The line of a refusal.
+pub fn put_refusal(e: Refusal, out: &mut [u8]) -> usize
+    requires { refusal_most ≤ length out.old }
+    ensures { Written out.old 0 (refused_line (reason_number e.reason) e.place) out.new result × (result ≤ refusal_most) }
+{
+    list_refusal(u8::from(e.reason), e.place, out)
+}
+
 // The line of an answer of a function with this return type.
-pub fn put_answer(kind: u8, r: Ran, out: &mut [u8]) -> usize
+pub fn put_answer(kind: u8, r: Result<Ran, Refusal>, out: &mut [u8]) -> usize
     requires { ran_most ≤ length out.old }
     ensures { Written out.old 0 (ran_line kind (ran_of r)) out.new result × (result ≤ ran_most) }
 {
     match r {
-        Ran::Returned(v, s) => put_returned(kind, v, s, out),
-        Ran::Left(s) => put_left(s, out),
-        Ran::Stopped(n, p, s) => put_stopped(n, p, s, out),
-        Ran::Refused(n, p) => list_refusal(n, p, out),
+        Ok(x) => put_ended(kind, x, out),
+        Err(e) => put_refusal(e, out),
     }
 }

@@ -16,10 +16,12 @@ use Rattle.theorems.specs.TableLaw.{Held}
 use Rattle.theorems.proofs.AcceptanceCheck.{accepted_program}
 use Rattle.theorems.proofs.ReadFits.{read_fits}
 use Rattle.theorems.proofs.Table.{table}
-use Rattle.answers.specs.declared.Verdict.{Verdict as Verdictᶜ}
-use Rattle.answers.specs.declared.Verdict.TheVariants as verdicts
-use Rattle.answers.specs.Cases.{verdict_of}
-use Rattle.answers.specs.Lent.{filled_of}
+use Rattle.std.specs.Prelude.{⊤, Ok, Err}
+use Rattle.std.specs.declared.result.Result.{Result}
+use Rattle.answers.specs.declared.reasons.Refusal.{Refusal}
+use Rattle.answers.specs.Reasons.{reason_number}
+use Rattle.results.specs.Cases.{verdict_of}
+use Rattle.results.specs.Lent.{filled_of}
 use Rattle.listing.specs.Lines.{listing_most}
 use Rattle.answer_lines.specs.Lines.{ran_most}
 use Rattle.calling.specs.Accepting.{acceptance, Accepts}
@@ -41,7 +43,7 @@ unfolding check_answer
 table_check t e = rw (eq-eqb (length t) table_length e) refl
 
 -- A table whose check accepts it.
-pub accepted_table : (t : List ℕ) {v : Verdictᶜ} → verdict_of v ≡ check_answer t → v ≡ verdicts.Accepted → check_answer t ≡ Verdict.accepted
+pub accepted_table : (t : List ℕ) {v : Result ⊤ Refusal} → verdict_of v ≡ check_answer t → v ≡ Ok tt → check_answer t ≡ Verdict.accepted
 accepted_table t e r = sym e ∙ ap verdict_of r
 
 -- A list of which every element is a byte.
@@ -58,16 +60,16 @@ filled_table p = refl
 not_accepted : {n p : ℕ} {A : Type 0} → Verdict.refused n p ≡ Verdict.accepted → A
 not_accepted e = absurd (let z : ◌≡◌ {A = ℕ} 0 1 = cc in omega arith)
 
-refused_reading : (t : List ℕ) (x : Reading) (n p : ℕ) → filled_of (verdicts.Refused n p) t ≡ filled_from table_length x → Verdict.refused n p ≡ acceptance x
+refused_reading : (t : List ℕ) (x : Reading) (f : Refusal) → filled_of (Err f) t ≡ filled_from table_length x → verdict_of (Err f) ≡ acceptance x
 unfolding refused_table
-refused_reading t (Reading.refused k q) n p e = ap (λ (f : Filled). f.answer) e
-refused_reading t (Reading.program q) n p e = not_accepted (ap (λ (f : Filled). f.answer) (e ∙ filled_table q))
+refused_reading t (Reading.refused k q) g e = ap (λ (f : Filled). f.answer) e
+refused_reading t (Reading.program q) g e = not_accepted (ap (λ (f : Filled). f.answer) (e ∙ filled_table q))
 
 -- A text's program, and the table of its cells.
 data ReadInto (t : List ℕ) : Reading → Type 0 where
   program : (p : Program) → t ≡ cells p → ReadInto t (Reading.program p)
 
-read_reading : (t : List ℕ) (x : Reading) → filled_of verdicts.Accepted t ≡ filled_from table_length x → ReadInto t x
+read_reading : (t : List ℕ) (x : Reading) → filled_of (Ok tt) t ≡ filled_from table_length x → ReadInto t x
 unfolding refused_table
 read_reading t (Reading.refused k q) e = not_accepted (sym (ap (λ (f : Filled). f.answer) e))
 read_reading t (Reading.program q) e = ReadInto.program q (ap (λ (f : Filled). f.table) (e ∙ filled_table q))
@@ -76,20 +78,20 @@ record ReadAs (text t : List ℕ) : Type 0 where
   pub program : read text ≡ Reading.program (decode t)
   pub count : length t ≡ table_length
 
-module _ (text t : List ℕ) {n : ℕ} (count : n ≡ table_length) (v : Verdictᶜ) (e : filled_of v t ≡ read_answer text n) where
+module _ (text t : List ℕ) {n : ℕ} (count : n ≡ table_length) (v : Result ⊤ Refusal) (e : filled_of v t ≡ read_answer text n) where
   here : filled_of v t ≡ filled_from table_length (read text)
   unfolding read_answer
   here = rw count at e
 
-  pub accepts_unread : {k p : ℕ} → v ≡ verdicts.Refused k p → Accepts text (verdicts.Refused k p) t
-  accepts_unread {k} {p} r =
+  pub accepts_unread : {f : Refusal} → v ≡ Err f → Accepts text (Err f) t
+  accepts_unread {f} r =
       record {
-        answer = refused_reading t (read text) k p (ap (λ w. filled_of w t) (sym r) ∙ here);
+        answer = refused_reading t (read text) f (ap (λ w. filled_of w t) (sym r) ∙ here);
         program = λ h. not_accepted (ap verdict_of h);
         passes = λ h. not_accepted (ap verdict_of h);
       }
 
-  module _ (b : Bytes text) (r : v ≡ verdicts.Accepted) where
+  module _ (b : Bytes text) (r : v ≡ Ok tt) where
     read_as : ReadAs text t
     read_as = by (read text) refl (read_reading t (read text) (ap (λ w. filled_of w t) (sym r) ∙ here))
       where
@@ -99,7 +101,7 @@ module _ (text t : List ℕ) {n : ℕ} (count : n ≡ table_length) (v : Verdict
             record { program = s ∙ ap Reading.program (sym (ap decode h ∙ held.back)); count = ap length h ∙ held.count }
         by (Reading.refused number place) s x3 = elim x3 [ ]
 
-    pub accepts_read : {w : Verdictᶜ} → verdict_of w ≡ check_answer t → Accepts text w t
+    pub accepts_read : {w : Result ⊤ Refusal} → verdict_of w ≡ check_answer t → Accepts text w t
     accepts_read c =
         record {
           answer = c ∙ table_check t read_as.count ∙ sym (ap acceptance read_as.program);
@@ -113,11 +115,11 @@ refused_line_law : (line : Program → List ℕ) (x : Reading) {n p : ℕ} → a
 refused_line_law line (Reading.refused k q) e = ap (λ v. if_accepted v refused_line []) e
 refused_line_law line (Reading.program q) e = rw e refl
 
-module _ (line : Program → List ℕ) {text t : List ℕ} {v : Verdictᶜ} (a : Accepts text v t) where
-  pub printed_refused : {n p : ℕ} → v ≡ verdicts.Refused n p → read_line line (read text) ≡ refused_line n p
+module _ (line : Program → List ℕ) {text t : List ℕ} {v : Result ⊤ Refusal} (a : Accepts text v t) where
+  pub printed_refused : {f : Refusal} → v ≡ Err f → read_line line (read text) ≡ refused_line (reason_number f.reason) f.place
   printed_refused r = refused_line_law line (read text) (sym a.answer ∙ ap verdict_of r)
 
-  pub printed_accepted : v ≡ verdicts.Accepted → read_line line (read text) ≡ line (decode t)
+  pub printed_accepted : v ≡ Ok tt → read_line line (read text) ≡ line (decode t)
   printed_accepted r = ap (read_line line) (a.program r) ∙ rw (accepted_program t (a.passes r)) refl
 
 -- The listing is such a line.

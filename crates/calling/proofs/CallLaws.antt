@@ -14,9 +14,11 @@ use Rattle.language.specs.Checking.{Verdict}
 use Rattle.language.specs.Answers.{Ran as Ranᴸ, Finished, check_answer, run_function, run_answer}
 use Rattle.language.proofs.TableView.{function_count_law, function_is}
 use Rattle.flow.proofs.Accepted.{accepted_sized, accepted_params}
-use Rattle.answers.specs.declared.Ran.{Ran}
-use Rattle.answers.specs.Cases.{ran_of}
-use Rattle.answers.specs.Lent.{finished_of}
+use Rattle.std.specs.declared.result.Result.{Result}
+use Rattle.answers.specs.declared.reasons.Refusal.{Refusal}
+use Rattle.results.specs.declared.Ran.{Ran}
+use Rattle.results.specs.Cases.{ran_of}
+use Rattle.results.specs.Lent.{finished_of}
 use Rattle.call_words.specs.Words.{function_by_word}
 use Rattle.answer_lines.specs.Lines.{ran_line}
 use Rattle.call_words.specs.Arguments.{Given, first_outside, arguments_of}
@@ -37,7 +39,7 @@ module _ (t : List ℕ) (i : ℕ) where
 -- ---- the run
 
 pub run_answered :
-    (t : List ℕ) (i : ℕ) (args : List ℕ) (budget : ℕ) (r : Ran) {n : ℕ} {g : List ℕ}
+    (t : List ℕ) (i : ℕ) (args : List ℕ) (budget : ℕ) (r : Result Ran Refusal) {n : ℕ} {g : List ℕ}
     → check_answer t ≡ Verdict.accepted
     → n ≡ 256
     → finished_of r g ≡ run_answer t i args budget n

@@ -16,9 +16,11 @@ use Rattle.theorems.specs.TableLaw.{Held}
 use Rattle.theorems.proofs.Acceptance.{accepted_translation}
 use Rattle.theorems.proofs.TableSound.{accepted_held}
 use Rattle.theorems.proofs.AcceptanceCheck.{accepted_program}
-use Rattle.answers.specs.declared.Verdict.{Verdict as Verdictᶜ}
-use Rattle.answers.specs.declared.Verdict.TheVariants as verdicts
-use Rattle.answers.specs.Lent.{filled_of}
+use Rattle.std.specs.Prelude.{⊤, Ok, Err}
+use Rattle.std.specs.declared.result.Result.{Result}
+use Rattle.answers.specs.declared.reasons.Refusal.{Refusal}
+use Rattle.answers.specs.Reasons.{reason_number}
+use Rattle.results.specs.Lent.{filled_of}
 use Rattle.calling.proofs.AcceptingLaws.{table_check}
 use Rattle.calling.specs.Calls.{text_line, translated_line}
 
@@ -45,14 +47,14 @@ pub record Passed (a b c : Bool) (q : Program) (x : List ℕ) : Type 0 where
   pub fits : T c
   pub written : x ≡ cells q
 
-refused_not : {x z : List ℕ} {k : ℕ} {A : Type 0} → filled_of verdicts.Accepted x ≡ record { answer = Verdict.refused k 0; table = z } → A
+refused_not : {x z : List ℕ} {k : ℕ} {A : Type 0} → filled_of (Ok tt) x ≡ record { answer = Verdict.refused k 0; table = z } → A
 refused_not e =
     let s = ap (λ (f : Filled). f.answer) e in
     absurd (let z : ◌≡◌ {A = ℕ} 0 1 = cc in omega arith)
 
 passed_tests :
     (a b c : Bool) (q : Program) (x : List ℕ)
-    → filled_of verdicts.Accepted x ≡ tests a b c (fill table_length q) (λ k. refused_table table_length k 0)
+    → filled_of (Ok tt) x ≡ tests a b c (fill table_length q) (λ k. refused_table table_length k 0)
     → Passed a b c q x
 unfolding fill refused_table
 passed_tests false b c q x e = refused_not e
@@ -76,14 +78,14 @@ module _ (t : List ℕ) (i : ℕ) (e : check_answer t ≡ Verdict.accepted) wher
   unfolding translated_line
   line_is = shown_tests (ltb i (length (decode t))) (is_ssa f) (translation_fits f) alone ∙ ap (shown alone) (sym answer_is)
 
-  module _ (x : List ℕ) (v : Verdictᶜ) {n : ℕ} (count : n ≡ table_length) (h : filled_of v x ≡ translate_answer t i n) where
+  module _ (x : List ℕ) (v : Result ⊤ Refusal) {n : ℕ} (count : n ≡ table_length) (h : filled_of v x ≡ translate_answer t i n) where
     here : filled_of v x ≡ translate_answer t i table_length
     here = rw count at h
 
-    pub line_refused : {k p : ℕ} → v ≡ verdicts.Refused k p → translated_line (decode t) i ≡ refused_line k p
+    pub line_refused : {f : Refusal} → v ≡ Err f → translated_line (decode t) i ≡ refused_line (reason_number f.reason) f.place
     line_refused r = line_is ∙ ap (shown alone) (sym here) ∙ rw r refl
 
-    module _ (r : v ≡ verdicts.Accepted) where
+    module _ (r : v ≡ Ok tt) where
       passed : Passed (ltb i (length (decode t))) (is_ssa f) (translation_fits f) alone x
       passed = passed_tests _ _ _ alone x (ap (λ w. filled_of w x) (sym r) ∙ here ∙ answer_is)
 

@@ -3,15 +3,13 @@ ghost use Rattle.std.specs.Prelude.{◌≡◌, length};
 ghost use Rattle.language.specs.Table.{table_length};
 ghost use Rattle.calling.specs.Accepting.{Accepts};
 
-use ial::{Verdict, check, read};
+use ial::{Refusal, check, read};
 
 // Reads a text into a table and checks it: 1 to 8, then 9 to 17.
-pub fn accept(text: &[u8], t: &mut [u8]) -> Verdict
+pub fn accept(text: &[u8], t: &mut [u8]) -> Result<(), Refusal>
     requires { length t.old ≡ table_length }
     ensures { Accepts text.now result t.new }
 {
-    match read(text, t) {
-        Verdict::Refused(n, p) => Verdict::Refused(n, p),
-        Verdict::Accepted => check(t),
-    }
+    read(text, t)?;
+    check(t)
 }

@@ -5,8 +5,8 @@ ghost use Rattle.decimal.specs.Writing.{Written};
 ghost use Rattle.listing.specs.Lines.{listing_most};
 
 use crate::accepting::accept;
-use ial::Verdict;
-use listing::{list_program, list_refusal};
+use answer_lines::put_refusal;
+use listing::list_program;
 use table::TABLE_LENGTH;
 
 pub fn list_text(text: &[u8], out: &mut [u8]) -> usize
@@ -15,7 +15,7 @@ pub fn list_text(text: &[u8], out: &mut [u8]) -> usize
 {
     let mut t = [0u8; TABLE_LENGTH];
     match accept(text, &mut t) {
-        Verdict::Refused(n, p) => list_refusal(n, p, out),
-        Verdict::Accepted => list_program(&t, out),
+        Err(e) => put_refusal(e, out),
+        Ok(()) => list_program(&t, out),
     }
 }

@@ -5,16 +5,15 @@ ghost use Rattle.language.specs.Programs.{no_function, max_registers};
 ghost use Rattle.language.specs.Table.{decode};
 ghost use Rattle.language.specs.Answers.{check_answer, run_function};
 ghost use Rattle.decimal.specs.Writing.{Written};
-ghost use Rattle.answers.specs.Cases.{ran_of};
+ghost use Rattle.results.specs.Cases.{ran_of};
 ghost use Rattle.call_words.specs.Arguments.{given_of};
 ghost use Rattle.calling.specs.Calls.{call_function, run_line, run_printed};
 ghost use Rattle.answer_lines.specs.Lines.{ran_most};
 
 use crate::accepting::accept;
-use answer_lines::put_answer;
+use answer_lines::{put_answer, put_refusal};
 use call_words::{Decimal, fill_arguments, function_number};
-use ial::{Ran, Verdict, run};
-use listing::list_refusal;
+use ial::{Ran, Reason, Refusal, refuse, run};
 use table::{
     MAX_REGISTERS, TABLE_LENGTH, function_at, function_count, function_params, function_result,
 };
@@ -31,7 +30,7 @@ fn result_of(t: &[u8], function: u64) -> u8
 }
 
 // The run with registers that any function fits.
-fn run_here(t: &[u8], function: u64, args: &[u64], budget: u64) -> Ran
+fn run_here(t: &[u8], function: u64, args: &[u64], budget: u64) -> Result<Ran, Refusal>
     requires { check_answer t.now ≡ Verdictᴸ.accepted }
     ensures { ran_of result ≡ (run_function (decode t.now) function args.now budget 256).answer }
 {
@@ -40,21 +39,27 @@ fn run_here(t: &[u8], function: u64, args: &[u64], budget: u64) -> Ran
 }
 
 // A call by meaning: 21, then 20 with the count, then 20 with the first argument outside its range, then the run.
-fn call(t: &[u8], function: u64, count: usize, kept: &[Option<Decimal>], budget: u64) -> Ran
+fn call(
+    t: &[u8],
+    function: u64,
+    count: usize,
+    kept: &[Option<Decimal>],
+    budget: u64,
+) -> Result<Ran, Refusal>
     requires t_value { check_answer t.now ≡ Verdictᴸ.accepted }
     requires kept_len { length kept.now ≡ max_registers }
     ensures { ran_of result ≡ call_function (decode t.now) function (given_of count kept.now) budget }
 {
     if function_count(t) as u64 <= function {
-        return Ran::Refused(21, 0);
+        return refuse(Reason::NoSuchFunction, 0);
     }
     let a = function_at(function as usize);
     if count != function_params(t, a) {
-        return Ran::Refused(20, count);
+        return refuse(Reason::ArgumentsWrong, count);
     }
     let mut args = [0u64; MAX_REGISTERS];
     if let Err(outside) = fill_arguments(t, a, count, kept, &mut args) {
-        return Ran::Refused(20, outside);
+        return refuse(Reason::ArgumentsWrong, outside);
     }
     run_here(t, function, &args[..count], budget)
 }
@@ -90,7 +95,7 @@ pub fn run_text(
 {
     let mut t = [0u8; TABLE_LENGTH];
     match accept(text, &mut t) {
-        Verdict::Refused(n, p) => list_refusal(n, p, out),
-        Verdict::Accepted => run_checked(&t, word, count, kept, budget, out),
+        Err(e) => put_refusal(e, out),
+        Ok(()) => run_checked(&t, word, count, kept, budget, out),
     }
 }

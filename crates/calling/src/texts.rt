@@ -7,8 +7,8 @@ ghost use Rattle.calling.specs.Calls.{text_line, write_printed, Prints};
 ghost use Rattle.language.specs.Programs.{max_text};
 
 use crate::accepting::accept;
-use ial::{Verdict, Wrote, write};
-use listing::list_refusal;
+use answer_lines::put_refusal;
+use ial::write;
 use table::TABLE_LENGTH;
 
 // Of an accepted table. The buffer has room for any text, so 33 alone can refuse it.
@@ -18,8 +18,8 @@ pub fn write_lines(t: &[u8], out: &mut [u8]) -> usize
     ensures { Prints out.new result (text_line (decode t.now)) }
 {
     match write(t, out) {
-        Wrote::Refused(n, p) => list_refusal(n, p, out),
-        Wrote::Wrote(n) => n,
+        Err(e) => put_refusal(e, out),
+        Ok(n) => n,
     }
 }
 
@@ -30,7 +30,7 @@ pub fn write_text(text: &[u8], out: &mut [u8]) -> usize
 {
     let mut t = [0u8; TABLE_LENGTH];
     match accept(text, &mut t) {
-        Verdict::Refused(n, p) => list_refusal(n, p, out),
-        Verdict::Accepted => write_lines(&t, out),
+        Err(e) => put_refusal(e, out),
+        Ok(()) => write_lines(&t, out),
     }
 }

@@ -8,9 +8,9 @@ ghost use Rattle.language.specs.Programs.{max_text};
 
 use crate::accepting::accept;
 use crate::texts::write_lines;
+use answer_lines::put_refusal;
 use call_words::function_number;
-use ial::{Verdict, translate};
-use listing::list_refusal;
+use ial::translate;
 use table::TABLE_LENGTH;
 
 // Of function i of an accepted table.
@@ -21,8 +21,8 @@ fn translate_function(t: &[u8], function: u64, out: &mut [u8]) -> usize
 {
     let mut x = [0u8; TABLE_LENGTH];
     match translate(t, function, &mut x) {
-        Verdict::Refused(n, p) => list_refusal(n, p, out),
-        Verdict::Accepted => write_lines(&x, out),
+        Err(e) => put_refusal(e, out),
+        Ok(()) => write_lines(&x, out),
     }
 }
 
@@ -33,7 +33,7 @@ pub fn translate_text(text: &[u8], word: &[u8], out: &mut [u8]) -> usize
 {
     let mut t = [0u8; TABLE_LENGTH];
     match accept(text, &mut t) {
-        Verdict::Refused(n, p) => list_refusal(n, p, out),
-        Verdict::Accepted => translate_function(&t, function_number(&t, word), out),
+        Err(e) => put_refusal(e, out),
+        Ok(()) => translate_function(&t, function_number(&t, word), out),
     }
 }

@@ -3,14 +3,14 @@ ghost use Rattle.std.specs.Prelude.{◌≡◌};
 ghost use Rattle.calling.specs.Calls.{function_meant};
 
 use call_words::function_number;
-use ial::{Verdict, check};
+use ial::check;
 
 // Its number; a table that its check refuses has none, and 0 stands for it.
 pub fn function_in(t: &[u8], word: &[u8]) -> u64
     ensures { result ≡ function_meant t.now word.now }
 {
     match check(t) {
-        Verdict::Refused(_, _) => 0,
-        Verdict::Accepted => function_number(t, word),
+        Err(_) => 0,
+        Ok(()) => function_number(t, word),
     }
 }

@@ -1,11 +1,11 @@
 // The library's answers in words.
 use crate::files::{say, say_number};
-use ial::{Ran, Verdict, Wrote};
+use ial::{Ran, Refusal, Stop};
 use std::io::Print;
 
-pub(crate) fn say_refused(rt: &impl Print, number: u8, place: usize) {
-    say_number(rt, b"refused ", number as u64);
-    say_number(rt, b" at ", place as u64);
+pub(crate) fn say_refused(rt: &impl Print, e: Refusal) {
+    say_number(rt, b"refused ", u64::from(u8::from(e.reason)));
+    say_number(rt, b" at ", e.place as u64);
 }
 
 fn say_steps(rt: &impl Print, steps: u64) {
@@ -14,10 +14,10 @@ fn say_steps(rt: &impl Print, steps: u64) {
 }
 
 // The answer of a call that fills a table or judges one.
-pub(crate) fn say_verdict(rt: &impl Print, v: Verdict, accepted: &[u8]) {
+pub(crate) fn say_verdict(rt: &impl Print, v: Result<(), Refusal>, accepted: &[u8]) {
     match v {
-        Verdict::Refused(n, p) => say_refused(rt, n, p),
-        Verdict::Accepted => say(rt, accepted),
+        Err(e) => say_refused(rt, e),
+        Ok(()) => say(rt, accepted),
     }
 }
 
@@ -31,26 +31,26 @@ fn say_left(rt: &impl Print, steps: u64) {
     say_steps(rt, steps);
 }
 
-fn say_stopped(rt: &impl Print, number: u8, place: usize, steps: u64) {
-    say_number(rt, b"stopped ", number as u64);
+fn say_stopped(rt: &impl Print, stop: Stop, place: usize, steps: u64) {
+    say_number(rt, b"stopped ", u64::from(u8::from(stop)));
     say_number(rt, b" at ", place as u64);
     say_steps(rt, steps);
 }
 
 // The answer of a run.
-pub(crate) fn say_ran(rt: &impl Print, r: Ran) {
+pub(crate) fn say_ran(rt: &impl Print, r: Result<Ran, Refusal>) {
     match r {
-        Ran::Returned(v, s) => say_returned(rt, v, s),
-        Ran::Left(s) => say_left(rt, s),
-        Ran::Stopped(n, p, s) => say_stopped(rt, n, p, s),
-        Ran::Refused(n, p) => say_refused(rt, n, p),
+        Ok(Ran::Returned { value, steps }) => say_returned(rt, value, steps),
+        Ok(Ran::Left { steps }) => say_left(rt, steps),
+        Ok(Ran::Stopped { stop, place, steps }) => say_stopped(rt, stop, place, steps),
+        Err(e) => say_refused(rt, e),
     }
 }
 
 // The answer of a call that writes a text.
-pub(crate) fn say_wrote(rt: &impl Print, w: Wrote) {
+pub(crate) fn say_wrote(rt: &impl Print, w: Result<usize, Refusal>) {
     match w {
-        Wrote::Wrote(n) => say_number(rt, b"wrote ", n as u64),
-        Wrote::Refused(n, p) => say_refused(rt, n, p),
+        Ok(n) => say_number(rt, b"wrote ", n as u64),
+        Err(e) => say_refused(rt, e),
     }
 }

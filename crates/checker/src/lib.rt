@@ -10,13 +10,14 @@ ghost use Rattle.flow.specs.Layout.{flow_length};
 ghost use Rattle.flow.specs.Sized.{Sized};
 ghost use Rattle.rules.specs.Cells.{SsaPrepared};
 ghost use Rattle.paths.specs.Formed.{Formed};
-ghost use Rattle.answers.specs.Cases.{verdict_of};
+ghost use Rattle.results.specs.Cases.{verdict_of};
 ghost use Rattle.checker.specs.Parts.{table_names_before};
 
 mod forms;
 mod sound;
 
-use answers::{Verdict, row_place};
+use answers::{Reason, Refusal, row_place};
+use results::refuse;
 use flow::FLOW_LENGTH;
 use forms::{note_blocks, prepare_ssa};
 use paths::first_late;
@@ -24,54 +25,51 @@ use sound::sound_at;
 use table::{MAX_FUNCTIONS, TABLE_LENGTH, block_count, function_at, function_count, function_ssa};
 
 // 17 of function i, where it breaks none of 9 to 16.
-fn check_paths(t: &[u8], i: usize, a: usize, m: &[u16]) -> Verdict
+fn check_paths(t: &[u8], i: usize, a: usize, m: &[u16]) -> Result<(), Refusal>
     requires sized { Sized t.now a × SsaPrepared (decode_function t.now a) m.now × (i < max_functions) }
     requires formed { T (is_ssa (decode_function t.now a)) → Formed (decode_function t.now a) }
     ensures { verdict_of result ≡ first_fault i 17 (rows_that (decode_function t.now a) (breaks17 (decode_function t.now a)) ∷ []) }
 {
     if function_ssa(t, a) != 1 {
-        return Verdict::Accepted;
+        return Ok(());
     }
     if let Some(row) = first_late(t, a, m) {
-        return Verdict::Refused(17, row_place(i, row));
+        return refuse(Reason::LateAssigned, row_place(i, row));
     }
-    Verdict::Accepted
+    Ok(())
 }
 
 // Function i, from 9 to 17.
-fn check_function(t: &[u8], i: usize, m: &mut [u16]) -> Verdict
+fn check_function(t: &[u8], i: usize, m: &mut [u16]) -> Result<(), Refusal>
     requires { (length t.now ≡ table_length) × (i < max_functions) × (length m.old ≡ flow_length) }
     ensures { verdict_of result ≡ judge (table_names_before t.now i) i (decode_function t.now (function_at i)) }
 {
     let a = function_at(i);
     if !sound_at(t, i, a) {
-        return Verdict::Refused(9, i);
+        return refuse(Reason::TableUnsound, i);
     }
     prepare_ssa(t, a, m);
     let low = note_blocks(t, a, m, block_count(t, a));
     if let Some(fault) = low {
-        return Verdict::Refused(u8::from(fault.reason), row_place(i, fault.row));
+        return refuse(fault.reason, row_place(i, fault.row));
     }
     check_paths(t, i, a, m)
 }
 
 // The check of any lent table: 9 at 0 for another length or too many functions, then each function.
-pub fn check_table(t: &[u8]) -> Verdict
+pub fn check_table(t: &[u8]) -> Result<(), Refusal>
     ensures { verdict_of result ≡ check_answer t.now }
 {
     if t.len() != TABLE_LENGTH {
-        return Verdict::Refused(9, 0);
+        return refuse(Reason::TableUnsound, 0);
     }
     let n = function_count(t);
     if MAX_FUNCTIONS < n {
-        return Verdict::Refused(9, 0);
+        return refuse(Reason::TableUnsound, 0);
     }
     let mut m = [0u16; FLOW_LENGTH];
     for i in 0..n {
-        let Verdict::Refused(k, p) = check_function(t, i, &mut m) else {
-            continue;
-        };
-        return Verdict::Refused(k, p);
+        check_function(t, i, &mut m)?;
     }
-    Verdict::Accepted
+    Ok(())
 }

@@ -11,8 +11,8 @@ use Rattle.theorems.specs.OverTables.{function_in_table, Translated}
 use Rattle.theorems.proofs.NoRefusal.{checked_is_0, translated_is_0}
 use Rattle.theorems.proofs.StopNumbers.{answered_is_43, never_27}
 use Rattle.theorems.proofs.OverTables.{demand3_over_tables, runs_over_tables, Tells, runs_told}
-use Rattle.answers.specs.declared.Verdict.TheVariants as verdicts
-use Rattle.answers.specs.Lent.{filled_of}
+use Rattle.std.specs.Prelude.{Ok}
+use Rattle.results.specs.Lent.{filled_of}
 use Rattle.ial.proofs.Known.{verdict_known}
 use Rattle.ial.specs.Demand.{Demand3OfCalls, Demand3OfSymbols, SymbolChecked, CallTranslated, SymbolTranslated, Call43, Symbol43, CallNever27, SymbolNever27}
 
@@ -20,9 +20,9 @@ pub demand3_of_calls : Demand3OfCalls
 demand3_of_calls t i r out h e =
     let table : Translated t i (filled_of r out) = subst⁻¹ (Translated t i) e (demand3_over_tables t i h) in
     record {
-      done = verdict_known r verdicts.Accepted table.done;
+      done = verdict_known r (Ok tt) table.done;
       translated = table;
-      checked = λ v c. verdict_known v verdicts.Accepted (c ∙ table.passes);
+      checked = λ v c. verdict_known v (Ok tt) (c ∙ table.passes);
       runs =
           λ args b b' c c' x y g k a u v l l'.
           rw (ap (λ (z : Finished). z.answer) u, ap (λ (z : Finished). z.answer) v)

@@ -15,10 +15,13 @@ use Rattle.language.specs.Programs.{Program}
 use Rattle.language.specs.Checking.{Verdict}
 use Rattle.language.specs.Table.{function_count, decode}
 use Rattle.language.specs.Answers.{Answer, Ran, Finished, zeros, check_answer, number_cells, ran_numbers, refused_run, run_function, run_answer, run_each, run_each_answer, verdict_numbers}
-use Rattle.answers.specs.declared.Verdict.{Verdict as Verdictᶜ}
-use Rattle.answers.specs.declared.Verdict.TheVariants as verdicts
-use Rattle.answers.specs.Cases.{verdict_of}
-use Rattle.answers.specs.Lent.{listed_of}
+use Rattle.std.specs.Prelude.{⊤, Ok, Err}
+use Rattle.std.specs.declared.result.Result.{Result}
+use Rattle.answers.specs.declared.reasons.Refusal.{Refusal}
+use Rattle.answers.specs.declared.reasons.Reason.TheVariants as reasons
+use Rattle.answers.specs.Reasons.{reason_number}
+use Rattle.results.specs.Cases.{verdict_of}
+use Rattle.results.specs.Lent.{listed_of}
 use Rattle.ial.specs.Runs.{cells_from}
 use Rattle.ial.proofs.RunLaws.{run_missing}
 
@@ -80,18 +83,19 @@ module _ (t : List ℕ) (i : ℕ) (args : List ℕ) (budget n : ℕ) where
   unfolding verdict_numbers ran_numbers
   missing h a = ap (λ (f : Finished). ran_numbers f.answer) (run_missing t i (a ∷ []) budget n {z = zeros n} h refl)
 
-  pub all_missing : {x : Answer} {out : List ℕ} → function_count t ≤ i → x ≡ verdict_numbers (Verdict.refused 21 0) → out ≡ cells_from (λ a. x) args
+  pub all_missing : {x : Answer} {out : List ℕ} → function_count t ≤ i → x ≡ record { number = 21; place = 0; value = 0; steps = 0 } → out ≡ cells_from (λ a. x) args
       → out ≡ cells_from (λ a. ran_numbers (run_function (decode t) i (a ∷ []) budget n).answer) args
+  unfolding verdict_numbers
   all_missing {x} h e s = s ∙ same_cells (λ a. x) checked (λ a. e ∙ missing h a) args
 
   refused : {k p : ℕ} → check_answer t ≡ Verdict.refused k p → (a : ℕ) → verdict_numbers (Verdict.refused k p) ≡ answered a
   unfolding verdict_numbers ran_numbers run_answer refused_run
   refused e a = rw e refl
 
-  pub all_refused : {v : Verdictᶜ} {k p : ℕ} {x : Answer} {out : List ℕ}
-      → verdict_of v ≡ check_answer t → v ≡ verdicts.Refused k p → x ≡ verdict_numbers (Verdict.refused k p) → out ≡ cells_from (λ a. x) args
+  pub all_refused : {v : Result ⊤ Refusal} {f : Refusal} {x : Answer} {out : List ℕ}
+      → verdict_of v ≡ check_answer t → v ≡ Err f → x ≡ record { number = reason_number f.reason; place = f.place; value = 0; steps = 0 } → out ≡ cells_from (λ a. x) args
       → out ≡ run_each t i args budget n
-  unfolding run_each
+  unfolding run_each verdict_numbers
   all_refused {x} c r e s = s ∙ same_cells (λ a. x) answered (λ a. e ∙ refused (sym c ∙ ap verdict_of r) a) args
 
   accepted : check_answer t ≡ Verdict.accepted → (a : ℕ) → checked a ≡ answered a
@@ -107,10 +111,10 @@ module _ (t : List ℕ) (i : ℕ) (args : List ℕ) (budget n : ℕ) where
   -- ---- 22
 
   module _ (m : ℕ) where
-    pub each_short : {out : List ℕ} → eqb m (4 * length args) ≡ false → out ≡ zeros m → listed_of (verdicts.Refused 22 0) out ≡ run_each_answer t i args budget n m
+    pub each_short : {out : List ℕ} → eqb m (4 * length args) ≡ false → out ≡ zeros m → listed_of (Err (record { reason = reasons.LengthWrong; place = 0 })) out ≡ run_each_answer t i args budget n m
     unfolding run_each_answer
     each_short e s = rw (e, s) refl
 
-    pub each_done : {out : List ℕ} → eqb m (4 * length args) ≡ true → out ≡ run_each t i args budget n → listed_of verdicts.Accepted out ≡ run_each_answer t i args budget n m
+    pub each_done : {out : List ℕ} → eqb m (4 * length args) ≡ true → out ≡ run_each t i args budget n → listed_of (Ok tt) out ≡ run_each_answer t i args budget n m
     unfolding run_each_answer
     each_done e s = rw (e, s) refl

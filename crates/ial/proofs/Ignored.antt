@@ -5,24 +5,25 @@ use mathlib.Core.List.{List}
 use Prim.Native.Nat.{ℕ}
 use Rattle.language.specs.Answers.{Filled, Finished, Listed, Shown}
 use Rattle.theorems.proofs.TableIgnored.{answers_ignore_unneeded}
-use Rattle.answers.specs.declared.Verdict.{Verdict}
-use Rattle.answers.specs.declared.Ran.{Ran}
-use Rattle.answers.specs.declared.Wrote.{Wrote}
-use Rattle.answers.specs.Lent.{filled_of, finished_of, listed_of, shown_of}
+use Rattle.std.specs.Prelude.{⊤}
+use Rattle.std.specs.declared.result.Result.{Result}
+use Rattle.answers.specs.declared.reasons.Refusal.{Refusal}
+use Rattle.results.specs.declared.Ran.{Ran}
+use Rattle.results.specs.Lent.{filled_of, finished_of, listed_of, shown_of}
 use Rattle.ial.specs.Ignored.{IgnoredInCalls}
 use Rattle.ial.proofs.Known.{verdict_known, ran_known, wrote_known}
 
 -- An answer and what was lent, known together.
-filled_known : (r s : Verdict) (a b : List ℕ) → filled_of r a ≡ filled_of s b → (r ≡ s) × (a ≡ b)
+filled_known : (r s : Result ⊤ Refusal) (a b : List ℕ) → filled_of r a ≡ filled_of s b → (r ≡ s) × (a ≡ b)
 filled_known r s a b e = (verdict_known r s (ap (λ (x : Filled). x.answer) e), ap (λ (x : Filled). x.table) e)
 
-finished_known : (x y : Ran) (a b : List ℕ) → finished_of x a ≡ finished_of y b → (x ≡ y) × (a ≡ b)
+finished_known : (x y : Result Ran Refusal) (a b : List ℕ) → finished_of x a ≡ finished_of y b → (x ≡ y) × (a ≡ b)
 finished_known x y a b e = (ran_known x y (ap (λ (z : Finished). z.answer) e), ap (λ (z : Finished). z.registers) e)
 
-shown_known : (x y : Wrote) (a b : List ℕ) → shown_of x a ≡ shown_of y b → (x ≡ y) × (a ≡ b)
+shown_known : (x y : Result ℕ Refusal) (a b : List ℕ) → shown_of x a ≡ shown_of y b → (x ≡ y) × (a ≡ b)
 shown_known x y a b e = (wrote_known x y (ap (λ (z : Shown). z.answer) e), ap (λ (z : Shown). z.buffer) e)
 
-listed_known : (r s : Verdict) (a b : List ℕ) → listed_of r a ≡ listed_of s b → (r ≡ s) × (a ≡ b)
+listed_known : (r s : Result ⊤ Refusal) (a b : List ℕ) → listed_of r a ≡ listed_of s b → (r ≡ s) × (a ≡ b)
 listed_known r s a b e = (verdict_known r s (ap (λ (x : Listed). x.answer) e), ap (λ (x : Listed). x.numbers) e)
 
 pub calls_ignore_unneeded : IgnoredInCalls

@@ -10,7 +10,7 @@ use Rattle.theorems.specs.RoundTrip.{RoundTrip, text_in, TranslatedAsText}
 use Rattle.theorems.specs.OverTables.{TranslatableIn}
 use Rattle.theorems.proofs.RoundTrip.{round_trip, written_is_0}
 use Rattle.theorems.proofs.RoundTripTranslation.{demand3_as_text}
-use Rattle.answers.specs.declared.Verdict.TheVariants as verdicts
+use Rattle.std.specs.Prelude.{Ok}
 use Rattle.ial.specs.RoundTrip.{RoundTripOfCalls, RoundTripOfSymbols, Demand3AsTextOfCalls, Demand3AsTextOfSymbols}
 use Rattle.ial.proofs.Known.{verdict_known}
 use Rattle.ial.proofs.Demand.{call_translated, symbol_translated}
@@ -35,8 +35,8 @@ round_trip_of_calls t n k b e =
       gives =
           λ r out c.
           let f = c ∙ read_is t n k trip b left table_length ∙ trip.gives in
-          (verdict_known r verdicts.Accepted (ap (λ (x : Filled). x.answer) f), ap (λ (x : Filled). x.table) f);
-      passes = λ v c. verdict_known v verdicts.Accepted (c ∙ trip.passes);
+          (verdict_known r (Ok tt) (ap (λ (x : Filled). x.answer) f), ap (λ (x : Filled). x.table) f);
+      passes = λ v c. verdict_known v (Ok tt) (c ∙ trip.passes);
       runs = λ i args budget c x g u. u ∙ trip.runs i args budget c;
       again = λ m r b' u. u ∙ trip.again m;
     }
@@ -88,7 +88,7 @@ demand3_as_text_of_calls t i m n k u b r v x y c =
     let made : u ≡ (translate_answer t i table_length).table = ap (λ (f : Filled). f.table) x ∙ ap (λ (l : ℕ). (translate_answer t i l).table) h.1 in
     let d = as_text t i n k h.0 u b made (sym (ap (λ (s : Shown). s.answer) y)) (ap (λ (s : Shown). s.buffer) y) in
     let table : v ≡ (read_answer (take k b) table_length).table = ap (λ (f : Filled). f.table) c in
-    (verdict_known r verdicts.Accepted (ap (λ (f : Filled). f.answer) c ∙ d.0), rw table d.1)
+    (verdict_known r (Ok tt) (ap (λ (f : Filled). f.answer) c ∙ d.0), rw table d.1)
 
 pub demand3_as_text_of_symbols : Demand3AsTextOfSymbols
 demand3_as_text_of_symbols t i m n x y z u b v p p0 q q0 c =

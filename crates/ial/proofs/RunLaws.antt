@@ -7,7 +7,8 @@ use native.Mathlib.Omega.{arith}
 use lib.Dec.{eqb, ltb}
 use lib.ListN.{length, replicate}
 use borrow.Author.Tests.{lt-ltb, le-ltb, eq-eqb}
-use Rattle.std.specs.Prelude.{Option, Some, None, IfSome}
+use Rattle.std.specs.Prelude.{Option, Some, None, IfSome, ⊤, Ok, Err}
+use Rattle.std.specs.declared.result.Result.{Result}
 use Rattle.std.specs.Option.{unwrap_or}
 use Rattle.laws.proofs.Branches.{by_eq, by_ne, by_lt, by_not_lt}
 use Rattle.language.specs.Programs.{Func, Program}
@@ -21,12 +22,12 @@ use Rattle.machine.specs.declared.places.Place.{Place}
 use Rattle.machine.specs.declared.places.Outcome.{Outcome}
 use Rattle.machine.specs.declared.runs.Run.{Run}
 use Rattle.machine.specs.declared.runs.Run.TheVariants as runs
-use Rattle.answers.specs.declared.Verdict.{Verdict as Verdictᶜ}
-use Rattle.answers.specs.declared.Verdict.TheVariants as verdicts
-use Rattle.answers.specs.declared.Ran.{Ran}
-use Rattle.answers.specs.declared.Ran.TheVariants as rans
-use Rattle.answers.specs.Cases.{verdict_of, ran_of}
-use Rattle.answers.specs.Lent.{finished_of}
+use Rattle.answers.specs.declared.reasons.Refusal.{Refusal}
+use Rattle.answers.specs.declared.reasons.Reason.TheVariants as reasons
+use Rattle.results.specs.declared.Ran.{Ran}
+use Rattle.answers.specs.Reasons.{reason_number}
+use Rattle.results.specs.Cases.{verdict_of, ran_of}
+use Rattle.results.specs.Lent.{finished_of}
 use Rattle.ial.specs.Runs.{stop_place, RunsTo}
 
 -- ---- the registers at first
@@ -56,7 +57,7 @@ unfit_none n e h = sym (rw e at h)
 
 -- ---- registers that may hold anything
 
-module _ (p : Program) (i : ℕ) (args : List ℕ) (budget : ℕ) (g : List ℕ) (x : Ran) where
+module _ (p : Program) (i : ℕ) (args : List ℕ) (budget : ℕ) (g : List ℕ) (x : Result Ran Refusal) where
   -- A refusal leaves the registers.
   pub refused_to : ((z : List ℕ) → z ≡ zeros (length g) → finished_of x z ≡ run_function p i args budget (length g)) → RunsTo p i args budget g x g
   refused_to e =
@@ -74,12 +75,12 @@ module _ (p : Program) (i : ℕ) (args : List ℕ) (budget : ℕ) (g : List ℕ)
 -- ---- the check before it
 
 module _ (t : List ℕ) (i : ℕ) (args : List ℕ) (budget n : ℕ) where
-  pub run_refused : {v : Verdictᶜ} {k p : ℕ} {z : List ℕ} → verdict_of v ≡ check_answer t → v ≡ verdicts.Refused k p → z ≡ zeros n
-      → finished_of (rans.Refused k p) z ≡ run_answer t i args budget n
+  pub run_refused : {v : Result ⊤ Refusal} {f : Refusal} {z : List ℕ} → verdict_of v ≡ check_answer t → v ≡ Err f → z ≡ zeros n
+      → finished_of (Err f) z ≡ run_answer t i args budget n
   unfolding run_answer refused_run
-  run_refused {v} {k} {p} e r s = rw (s, sym e, r) refl
+  run_refused {v} {f} e r s = rw (s, sym e, r) refl
 
-  pub run_accepted : {v : Verdictᶜ} → verdict_of v ≡ check_answer t → v ≡ verdicts.Accepted → check_answer t ≡ Verdict.accepted
+  pub run_accepted : {v : Result ⊤ Refusal} → verdict_of v ≡ check_answer t → v ≡ Ok tt → check_answer t ≡ Verdict.accepted
   run_accepted e r = sym e ∙ ap verdict_of r
 
   pub run_on : {x : Finished} → check_answer t ≡ Verdict.accepted → x ≡ run_function (decode t) i args budget n → x ≡ run_answer t i args budget n
@@ -88,7 +89,7 @@ module _ (t : List ℕ) (i : ℕ) (args : List ℕ) (budget n : ℕ) where
 
   -- ---- "then 21; running then 20, 22"
 
-  pub run_missing : {z : List ℕ} → function_count t ≤ i → z ≡ zeros n → finished_of (rans.Refused 21 0) z ≡ run_function (decode t) i args budget n
+  pub run_missing : {z : List ℕ} → function_count t ≤ i → z ≡ zeros n → finished_of (Err (record { reason = reasons.NoSuchFunction; place = 0 })) z ≡ run_function (decode t) i args budget n
   unfolding run_function refused_run
   run_missing h e = rw (e, function_count_law t, le-ltb i (function_count t) h) refl
 
@@ -102,9 +103,9 @@ module _ (t : List ℕ) (i : ℕ) (args : List ℕ) (budget n : ℕ) where
       (refused_run n 20 (first_unfit f args)))
       (refused_run n 20 (length args))
 
-  refused_as : {z : List ℕ} (k p : ℕ) → z ≡ zeros n → finished_of (rans.Refused k p) z ≡ refused_run n k p
+  refused_as : {z : List ℕ} (x : Refusal) → z ≡ zeros n → finished_of (Err x) z ≡ refused_run n (reason_number x.reason) x.place
   unfolding refused_run
-  refused_as k p e = rw e refl
+  refused_as x e = rw e refl
 
   module _ (l : i < function_count t) where
     abbrev f : Func
@@ -119,27 +120,27 @@ module _ (t : List ℕ) (i : ℕ) (args : List ℕ) (budget n : ℕ) where
     params_are = refl
 
     pub run_count : {z : List ℕ} → (length args ≡ function_params t (function_at i) → ⊥) → z ≡ zeros n
-        → finished_of (rans.Refused 20 (length args)) z ≡ run_function (decode t) i args budget n
-    run_count {z} h e = by_ne _ _ _ (length args) f.params (λ s. h (s ∙ params_are)) (refused_as {z = z} 20 (length args) e) ∙ sym opened
+        → finished_of (Err (record { reason = reasons.ArgumentsWrong; place = length args })) z ≡ run_function (decode t) i args budget n
+    run_count {z} h e = by_ne _ _ _ (length args) f.params (λ s. h (s ∙ params_are)) (refused_as {z = z} (record { reason = reasons.ArgumentsWrong; place = length args }) e) ∙ sym opened
 
     module _ (same : length args ≡ function_params t (function_at i)) where
       counted : (x : Finished) (y : Finished) → x ≡ y → x ≡ cond (eqb (length args) f.params) y (refused_run n 20 (length args))
       counted x y e = by_eq x y (refused_run n 20 (length args)) (length args) f.params (same ∙ sym params_are) e
 
       pub run_unfit : {z : List ℕ} (u : ℕ) → u ≡ first_unfit (decode_function t (function_at i)) args → u < length args → z ≡ zeros n
-          → finished_of (rans.Refused 20 u) z ≡ run_function (decode t) i args budget n
+          → finished_of (Err (record { reason = reasons.ArgumentsWrong; place = u })) z ≡ run_function (decode t) i args budget n
       run_unfit {z} u h k e =
-          counted _ _ (by_ne _ _ _ (first_unfit f args) (length args) (λ s. omega arith) (refused_as {z = z} 20 u e ∙ ap (refused_run n 20) h)) ∙ sym opened
+          counted _ _ (by_ne _ _ _ (first_unfit f args) (length args) (λ s. omega arith) (refused_as {z = z} (record { reason = reasons.ArgumentsWrong; place = u }) e ∙ ap (refused_run n 20) h)) ∙ sym opened
 
       module _ (fits : first_unfit (decode_function t (function_at i)) args ≡ length args) where
-        pub run_short : {z : List ℕ} → n < register_count t (function_at i) → z ≡ zeros n → finished_of (rans.Refused 22 0) z ≡ run_function (decode t) i args budget n
+        pub run_short : {z : List ℕ} → n < register_count t (function_at i) → z ≡ zeros n → finished_of (Err (record { reason = reasons.LengthWrong; place = 0 })) z ≡ run_function (decode t) i args budget n
         run_short {z} k e =
             counted _ _
             (by_eq _ _ _ (first_unfit f args) (length args) fits
-            (by_lt _ _ _ n (length f.registers) (omega (arith, register_count_law t (function_at i))) (refused_as {z = z} 22 0 e)))
+            (by_lt _ _ _ n (length f.registers) (omega (arith, register_count_law t (function_at i))) (refused_as {z = z} (record { reason = reasons.LengthWrong; place = 0 }) e)))
             ∙ sym opened
 
-        pub run_done : (x : Ran) (r : Run) (h : List ℕ) → ran_of x ≡ ran_in i r → register_count t (function_at i) ≤ n → Answers t (function_at i) args budget n r h
+        pub run_done : (x : Result Ran Refusal) (r : Run) (h : List ℕ) → ran_of x ≡ ran_in i r → register_count t (function_at i) ≤ n → Answers t (function_at i) args budget n r h
             → finished_of x h ≡ run_function (decode t) i args budget n
         run_done x r h e k w =
             counted _ _

@@ -14,17 +14,20 @@ use Rattle.language.specs.Translating.{translation, translation_fits}
 use Rattle.language.specs.Answers.{zeros, Filled, refused_table, fill, translate_function, translate_answer, check_answer}
 use Rattle.language.proofs.TableView.{function_count_law, function_is}
 use Rattle.translator.specs.Source.{TranslatableAt}
-use Rattle.answers.specs.declared.Verdict.{Verdict as Verdictᶜ}
-use Rattle.answers.specs.declared.Verdict.TheVariants as verdicts
-use Rattle.answers.specs.Cases.{verdict_of}
-use Rattle.answers.specs.Lent.{filled_of}
+use Rattle.std.specs.Prelude.{⊤, Ok, Err}
+use Rattle.std.specs.declared.result.Result.{Result}
+use Rattle.answers.specs.declared.reasons.Refusal.{Refusal}
+use Rattle.answers.specs.declared.reasons.Reason.TheVariants as reasons
+use Rattle.answers.specs.Reasons.{reason_number}
+use Rattle.results.specs.Cases.{verdict_of}
+use Rattle.results.specs.Lent.{filled_of}
 use Rattle.flow.proofs.Accepted.{accepted_sized, accepted_clean}
 
 module _ (t : List ℕ) (i n : ℕ) where
-  pub translate_refused : {v : Verdictᶜ} {k p : ℕ} {z : List ℕ} → verdict_of v ≡ check_answer t → v ≡ verdicts.Refused k p → z ≡ zeros n
-      → filled_of (verdicts.Refused k p) z ≡ translate_answer t i n
+  pub translate_refused : {v : Result ⊤ Refusal} {e : Refusal} {z : List ℕ} → verdict_of v ≡ check_answer t → v ≡ Err e → z ≡ zeros n
+      → filled_of (Err e) z ≡ translate_answer t i n
   unfolding translate_answer refused_table
-  translate_refused e r s = rw (s, sym e, r) refl
+  translate_refused c r s = rw (s, sym c, r) refl
 
   pub translate_on : {x : Filled} → check_answer t ≡ Verdict.accepted → x ≡ translate_function (decode t) i n → x ≡ translate_answer t i n
   unfolding translate_answer
@@ -32,11 +35,11 @@ module _ (t : List ℕ) (i n : ℕ) where
 
   -- ---- "then 21; .. translating then 30, 31, 22"
 
-  refused_as : {z : List ℕ} (k p : ℕ) → z ≡ zeros n → filled_of (verdicts.Refused k p) z ≡ refused_table n k p
+  refused_as : {z : List ℕ} (x : Refusal) → z ≡ zeros n → filled_of (Err x) z ≡ refused_table n (reason_number x.reason) x.place
   unfolding refused_table
-  refused_as k p e = rw e refl
+  refused_as x e = rw e refl
 
-  pub translate_missing : {z : List ℕ} → function_count t ≤ i → z ≡ zeros n → filled_of (verdicts.Refused 21 0) z ≡ translate_function (decode t) i n
+  pub translate_missing : {z : List ℕ} → function_count t ≤ i → z ≡ zeros n → filled_of (Err (record { reason = reasons.NoSuchFunction; place = 0 })) z ≡ translate_function (decode t) i n
   unfolding translate_function refused_table
   translate_missing h e = rw (e, function_count_law t, le-ltb i (function_count t) h) refl
 
@@ -56,8 +59,8 @@ module _ (t : List ℕ) (i n : ℕ) where
     unfolding decode_function
     ssa_is = refl
 
-    pub translate_plain : {z : List ℕ} → (function_ssa t (function_at i) ≡ 1 → ⊥) → z ≡ zeros n → filled_of (verdicts.Refused 30 0) z ≡ translate_function (decode t) i n
-    translate_plain {z} h e = by_ne _ _ _ f.ssa 1 (λ s. h (sym ssa_is ∙ s)) (refused_as {z = z} 30 0 e) ∙ sym opened
+    pub translate_plain : {z : List ℕ} → (function_ssa t (function_at i) ≡ 1 → ⊥) → z ≡ zeros n → filled_of (Err (record { reason = reasons.NotSsa; place = 0 })) z ≡ translate_function (decode t) i n
+    translate_plain {z} h e = by_ne _ _ _ f.ssa 1 (λ s. h (sym ssa_is ∙ s)) (refused_as {z = z} (record { reason = reasons.NotSsa; place = 0 }) e) ∙ sym opened
 
     module _ (marked : function_ssa t (function_at i) ≡ 1) where
       ssa : (x y : Filled) → x ≡ y → x ≡ cond (is_ssa f) y (refused_table n 30 0)
@@ -67,17 +70,17 @@ module _ (t : List ℕ) (i n : ℕ) where
       is_marked = of_true (is_ssa f) (eq-eqb f.ssa 1 (ssa_is ∙ marked))
 
       pub translate_large : {z : List ℕ} → translation_fits (decode_function t (function_at i)) ≡ false → z ≡ zeros n
-          → filled_of (verdicts.Refused 31 0) z ≡ translate_function (decode t) i n
-      translate_large {z} h e = ssa _ _ (by_false _ _ _ (translation_fits f) h (refused_as {z = z} 31 0 e)) ∙ sym opened
+          → filled_of (Err (record { reason = reasons.TranslationTooLarge; place = 0 })) z ≡ translate_function (decode t) i n
+      translate_large {z} h e = ssa _ _ (by_false _ _ _ (translation_fits f) h (refused_as {z = z} (record { reason = reasons.TranslationTooLarge; place = 0 }) e)) ∙ sym opened
 
       module _ (fits : translation_fits (decode_function t (function_at i)) ≡ true) where
-        pub translate_other : {z : List ℕ} → (n ≡ table_length → ⊥) → z ≡ zeros n → filled_of (verdicts.Refused 22 0) z ≡ translate_function (decode t) i n
+        pub translate_other : {z : List ℕ} → (n ≡ table_length → ⊥) → z ≡ zeros n → filled_of (Err (record { reason = reasons.LengthWrong; place = 0 })) z ≡ translate_function (decode t) i n
         unfolding fill
         translate_other {z} h e =
-            ssa _ _ (by_true _ _ _ (translation_fits f) fits (by_ne _ _ _ n table_length h (refused_as {z = z} 22 0 e))) ∙ sym opened
+            ssa _ _ (by_true _ _ _ (translation_fits f) fits (by_ne _ _ _ n table_length h (refused_as {z = z} (record { reason = reasons.LengthWrong; place = 0 }) e))) ∙ sym opened
 
         pub translate_done : {z : List ℕ} → n ≡ table_length → z ≡ cells (translation (decode_function t (function_at i)) ∷ [])
-            → filled_of verdicts.Accepted z ≡ translate_function (decode t) i n
+            → filled_of (Ok tt) z ≡ translate_function (decode t) i n
         unfolding fill
         translate_done h e = ssa _ _ (by_true _ _ _ (translation_fits f) fits (by_eq _ _ _ n table_length h (rw e refl))) ∙ sym opened
 

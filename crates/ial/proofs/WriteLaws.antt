@@ -14,15 +14,16 @@ use Rattle.language.specs.Answers.{zeros, Shown, refused_text, show, write_answe
 use Rattle.page.specs.Page.{Page, page, puts, closed}
 use Rattle.page.proofs.Pages.{puts_place, whole_text}
 use Rattle.writer.specs.Writers.{finished}
-use Rattle.answers.specs.declared.Verdict.{Verdict as Verdictᶜ}
-use Rattle.answers.specs.declared.Verdict.TheVariants as verdicts
-use Rattle.answers.specs.declared.Wrote.TheVariants as wrotes
-use Rattle.answers.specs.Cases.{verdict_of}
-use Rattle.answers.specs.Lent.{shown_of}
+use Rattle.std.specs.Prelude.{⊤, Ok, Err}
+use Rattle.std.specs.declared.result.Result.{Result}
+use Rattle.answers.specs.declared.reasons.Refusal.{Refusal}
+use Rattle.answers.specs.declared.reasons.Reason.TheVariants as reasons
+use Rattle.results.specs.Cases.{verdict_of}
+use Rattle.results.specs.Lent.{shown_of}
 
 module _ (t : List ℕ) (n : ℕ) where
-  pub write_refused : {v : Verdictᶜ} {k p : ℕ} {z : List ℕ} → verdict_of v ≡ check_answer t → v ≡ verdicts.Refused k p → z ≡ zeros n
-      → shown_of (wrotes.Refused k p) z ≡ write_answer t n
+  pub write_refused : {v : Result ⊤ Refusal} {e : Refusal} {z : List ℕ} → verdict_of v ≡ check_answer t → v ≡ Err e → z ≡ zeros n
+      → shown_of (Err e) z ≡ write_answer t n
   unfolding write_answer refused_text
   write_refused e r s = rw (s, sym e, r) refl
 
@@ -37,18 +38,18 @@ module _ (l text : List ℕ) {z : List ℕ} {r : ℕ} (e : page z r ≡ finished
       let p : (puts (page l 0) text).place ≡ min (0 + length text) 65537 = puts_place (page l 0) text (omega arith) in
       ap (λ (q : Page). q.place) e ∙ p ∙ ap (λ (k : ℕ). min k 65537) (zero-add (length text))
 
-  pub show_long : {y : List ℕ} → 65536 < r → y ≡ zeros (length l) → shown_of (wrotes.Refused 33 0) y ≡ show (length l) text
+  pub show_long : {y : List ℕ} → 65536 < r → y ≡ zeros (length l) → shown_of (Err (record { reason = reasons.WrittenTooLong; place = 0 })) y ≡ show (length l) text
   unfolding show refused_text
   show_long h s = let m : max_text < length text = omega (arith, place) in rw (s, lt-ltb max_text (length text) m) refl
 
-  pub show_larger : {y : List ℕ} → r ≤ 65536 → length l < r → y ≡ zeros (length l) → shown_of (wrotes.Refused 32 0) y ≡ show (length l) text
+  pub show_larger : {y : List ℕ} → r ≤ 65536 → length l < r → y ≡ zeros (length l) → shown_of (Err (record { reason = reasons.BufferTooShort; place = 0 })) y ≡ show (length l) text
   unfolding show refused_text
   show_larger h m s =
       let a : length text ≤ max_text = omega (arith, place) in
       let b : length l < length text = omega (arith, place) in
       rw (s, le-ltb max_text (length text) a, lt-ltb (length l) (length text) b) refl
 
-  pub show_whole : r ≤ 65536 → r ≤ length l → shown_of (wrotes.Wrote r) z ≡ show (length l) text
+  pub show_whole : r ≤ 65536 → r ≤ length l → shown_of (Ok r) z ≡ show (length l) text
   unfolding show zeros
   show_whole h m =
       let same : r ≡ length text = omega (arith, place) in

@@ -1,21 +1,21 @@
 -- What the entry points promise of a call: the answer in document 01's numbers, and every cell of what was lent, are those of the definition.
 -- Assumes nothing.
-use Rattle.std.specs.Prelude.{◌≡◌, Bool, cond, List, ℕ}
+use Rattle.std.specs.Prelude.{◌≡◌, Bool, cond, List, ℕ, ⊤}
+use Rattle.std.specs.declared.result.Result.{Result}
 use Rattle.language.specs.Answers.{zeros, read_answer, check_answer, signature_answer, run_answer, run_each_answer, translate_answer, write_answer, verdict_numbers, ran_numbers, wrote_numbers}
-use Rattle.answers.specs.declared.Verdict.{Verdict}
-use Rattle.answers.specs.declared.Ran.{Ran}
-use Rattle.answers.specs.declared.Wrote.{Wrote}
-use Rattle.answers.specs.declared.figures.Answer.{Answer}
-use Rattle.answers.specs.Cases.{verdict_of}
-use Rattle.answers.specs.Numbers.{numbers_of}
-use Rattle.answers.specs.Lent.{filled_of, finished_of, listed_of, shown_of}
+use Rattle.answers.specs.declared.reasons.Refusal.{Refusal}
+use Rattle.results.specs.declared.Ran.{Ran}
+use Rattle.results.specs.declared.figures.Answer.{Answer}
+use Rattle.results.specs.Cases.{verdict_of}
+use Rattle.results.specs.Numbers.{numbers_of}
+use Rattle.results.specs.Lent.{filled_of, finished_of, listed_of, shown_of}
 
 -- `read` with a text and a lent table of n cells answered r and left the table as `out`.
-abbrev pub ReadCalled : (text : List ℕ) (n : ℕ) (r : Verdict) (out : List ℕ) → Type 0
+abbrev pub ReadCalled : (text : List ℕ) (n : ℕ) (r : Result ⊤ Refusal) (out : List ℕ) → Type 0
 ReadCalled text n r out = filled_of r out ≡ read_answer text n
 
 -- `check` with table t answered r.
-abbrev pub CheckCalled : (t : List ℕ) (r : Verdict) → Type 0
+abbrev pub CheckCalled : (t : List ℕ) (r : Result ⊤ Refusal) → Type 0
 CheckCalled t r = verdict_of r ≡ check_answer t
 
 -- `has_signature` with table t, function i, a result's type and the parameters' types answered r.
@@ -23,20 +23,20 @@ abbrev pub SignatureCalled : (t : List ℕ) (i result : ℕ) (types : List ℕ) 
 SignatureCalled t i result types r = r ≡ signature_answer t i result types
 
 -- `run` with table t, function i, arguments, a budget and n lent registers answered x and left the registers as g.
-abbrev pub RunCalled : (t : List ℕ) (i : ℕ) (args : List ℕ) (budget n : ℕ) (x : Ran) (g : List ℕ) → Type 0
+abbrev pub RunCalled : (t : List ℕ) (i : ℕ) (args : List ℕ) (budget n : ℕ) (x : Result Ran Refusal) (g : List ℕ) → Type 0
 RunCalled t i args budget n x g = finished_of x g ≡ run_answer t i args budget n
 
 -- `run_each` with table t, function i, arguments, a budget, n lent registers and m lent numbers answered r and left the numbers as `out` and the
 -- registers as g.
-abbrev pub RunEachCalled : (t : List ℕ) (i : ℕ) (args : List ℕ) (budget n m : ℕ) (r : Verdict) (out g : List ℕ) → Type 0
+abbrev pub RunEachCalled : (t : List ℕ) (i : ℕ) (args : List ℕ) (budget n m : ℕ) (r : Result ⊤ Refusal) (out g : List ℕ) → Type 0
 RunEachCalled t i args budget n m r out g = (listed_of r out ≡ run_each_answer t i args budget n m) × (g ≡ zeros n)
 
 -- `translate` with table t, function i and a lent table of n cells answered r and left that table as `out`.
-abbrev pub TranslateCalled : (t : List ℕ) (i n : ℕ) (r : Verdict) (out : List ℕ) → Type 0
+abbrev pub TranslateCalled : (t : List ℕ) (i n : ℕ) (r : Result ⊤ Refusal) (out : List ℕ) → Type 0
 TranslateCalled t i n r out = filled_of r out ≡ translate_answer t i n
 
 -- `write` with table t and a lent buffer of n bytes answered r and left the buffer as b.
-abbrev pub WriteCalled : (t : List ℕ) (n : ℕ) (r : Wrote) (b : List ℕ) → Type 0
+abbrev pub WriteCalled : (t : List ℕ) (n : ℕ) (r : Result ℕ Refusal) (b : List ℕ) → Type 0
 WriteCalled t n r b = shown_of r b ≡ write_answer t n
 
 -- The symbols that C and Rust link, by the four numbers of their answers: the same of `ial_read`, `ial_check`, `ial_run`, `ial_run_each`,

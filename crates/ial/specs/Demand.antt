@@ -1,30 +1,31 @@
 -- Demand 3 for the entry points themselves: a call is known here by what its contract says of it, and by nothing else. Its words are those of
 -- `theorems`' Demand3 and OverTables.
 -- Assumes nothing.
-use Rattle.std.specs.Prelude.{◌≡◌, List, ℕ, ◌≤◌, T, length}
+use Rattle.std.specs.Prelude.{◌≡◌, List, ℕ, ◌≤◌, T, length, ⊤, Ok}
+use Rattle.std.specs.declared.result.Result.{Result}
 use Rattle.language.specs.Table.{table_length}
 use Rattle.language.specs.Checking.{Verdict as Verdictᴸ}
 use Rattle.language.specs.Running.{NotEnded, arguments_fit}
 use Rattle.language.specs.Answers.{Answer as Answerᴸ, verdict_numbers, ran_numbers, check_answer}
 use Rattle.theorems.specs.OverTables.{function_in_table, TranslatableIn, Translated, RunsAgree}
-use Rattle.answers.specs.declared.Verdict.{Verdict}
-use Rattle.answers.specs.declared.Verdict.TheVariants as verdicts
-use Rattle.answers.specs.declared.Ran.{Ran}
-use Rattle.answers.specs.declared.Ran.TheVariants as rans
-use Rattle.answers.specs.declared.figures.Answer.{Answer}
-use Rattle.answers.specs.Cases.{ran_of}
-use Rattle.answers.specs.Numbers.{numbers_of}
-use Rattle.answers.specs.Lent.{filled_of}
+use Rattle.answers.specs.declared.reasons.Refusal.{Refusal}
+use Rattle.answers.specs.declared.reasons.Stop.TheVariants as stops
+use Rattle.results.specs.declared.Ran.{Ran}
+use Rattle.results.specs.declared.Ran.TheVariants as rans
+use Rattle.results.specs.declared.figures.Answer.{Answer}
+use Rattle.results.specs.Cases.{ran_of}
+use Rattle.results.specs.Numbers.{numbers_of}
+use Rattle.results.specs.Lent.{filled_of}
 use Rattle.ial.specs.Calls.{CheckCalled, RunCalled, TranslateCalled, CheckLinked, RunLinked, TranslateLinked}
 
 -- What holds of a call of `translate` that demand 3 speaks of, and of every call of `check` and `run` on its output: runs on arguments that fit,
 -- with c and c' lent registers that suffice, under any budgets b and b'.
-pub record Demand3Called (t : List ℕ) (i : ℕ) (r : Verdict) (out : List ℕ) : Type 0 where
-  pub done : r ≡ verdicts.Accepted
+pub record Demand3Called (t : List ℕ) (i : ℕ) (r : Result ⊤ Refusal) (out : List ℕ) : Type 0 where
+  pub done : r ≡ Ok tt
   pub translated : Translated t i (filled_of r out)
-  pub checked : (v : Verdict) → CheckCalled out v → v ≡ verdicts.Accepted
+  pub checked : (v : Result ⊤ Refusal) → CheckCalled out v → v ≡ Ok tt
   pub runs :
-      (args : List ℕ) (b b' c c' : ℕ) (x y : Ran) (g h : List ℕ)
+      (args : List ℕ) (b b' c c' : ℕ) (x y : Result Ran Refusal) (g h : List ℕ)
       → T (arguments_fit (function_in_table t i) args)
       → RunCalled t i args b c x g
       → RunCalled out 0 args b' c' y h
@@ -34,7 +35,7 @@ pub record Demand3Called (t : List ℕ) (i : ℕ) (r : Verdict) (out : List ℕ)
 
 abbrev pub Demand3OfCalls : Type 0
 Demand3OfCalls =
-    (t : List ℕ) (i : ℕ) (r : Verdict) (out : List ℕ)
+    (t : List ℕ) (i : ℕ) (r : Result ⊤ Refusal) (out : List ℕ)
     → TranslatableIn t i
     → TranslateCalled t i table_length r out
     → Demand3Called t i r out
@@ -68,7 +69,7 @@ abbrev pub SymbolChecked : Type 0
 SymbolChecked = (t : List ℕ) (v : Answer) → CheckLinked t v → v.number ≡ 0 → check_answer t ≡ Verdictᴸ.accepted
 
 abbrev pub CallTranslated : Type 0
-CallTranslated = (t : List ℕ) (i n : ℕ) (out : List ℕ) → TranslateCalled t i n verdicts.Accepted out → TranslatableIn t i × (n ≡ table_length)
+CallTranslated = (t : List ℕ) (i n : ℕ) (out : List ℕ) → TranslateCalled t i n (Ok tt) out → TranslatableIn t i × (n ≡ table_length)
 
 abbrev pub SymbolTranslated : Type 0
 SymbolTranslated =
@@ -78,7 +79,7 @@ SymbolTranslated =
 abbrev pub Call43 : Type 0
 Call43 =
     (t : List ℕ) (i : ℕ) (args : List ℕ) (b c p s : ℕ) (g : List ℕ)
-    → RunCalled t i args b c (rans.Stopped 43 p s) g
+    → RunCalled t i args b c (Ok (rans.Stopped stops.BudgetUsedUp p s)) g
     → NotEnded (function_in_table t i) args b × (s ≡ b)
 
 abbrev pub Symbol43 : Type 0
@@ -91,7 +92,7 @@ Symbol43 =
 -- Document 02, A10: "Show that 27 can't be given for any input": of `run`, and of `ial_run`.
 abbrev pub CallNever27 : Type 0
 CallNever27 =
-    (t : List ℕ) (i : ℕ) (args : List ℕ) (b c : ℕ) (x : Ran) (g : List ℕ)
+    (t : List ℕ) (i : ℕ) (args : List ℕ) (b c : ℕ) (x : Result Ran Refusal) (g : List ℕ)
     → RunCalled t i args b c x g
     → ¬ ((ran_numbers (ran_of x)).number ≡ 27)
 

@@ -1,19 +1,17 @@
 -- The round trip for the entry points themselves (document 02, A1): `write`, then `read`. A call is known here by what its contract says of it, and by
 -- nothing else. Its words are those of `theorems`' RoundTrip.
 -- Assumes nothing.
-use Rattle.std.specs.Prelude.{◌≡◌, List, ℕ, ◌-◌, length, take, drop}
+use Rattle.std.specs.Prelude.{◌≡◌, List, ℕ, ◌-◌, length, take, drop, ⊤, Ok}
+use Rattle.std.specs.declared.result.Result.{Result}
 use Rattle.language.specs.Table.{table_length, decode}
 use Rattle.language.specs.MadeNames.{named, written}
 use Rattle.language.specs.Answers.{zeros, fill, verdict_numbers}
 use Rattle.theorems.specs.RoundTrip.{filled_table, TranslatedAsText}
-use Rattle.answers.specs.declared.Verdict.{Verdict}
-use Rattle.answers.specs.declared.Verdict.TheVariants as verdicts
-use Rattle.answers.specs.declared.Ran.{Ran}
-use Rattle.answers.specs.declared.Wrote.{Wrote}
-use Rattle.answers.specs.declared.Wrote.TheVariants as wrotes
-use Rattle.answers.specs.declared.figures.Answer.{Answer}
-use Rattle.answers.specs.Numbers.{numbers_of}
-use Rattle.answers.specs.Lent.{filled_of}
+use Rattle.answers.specs.declared.reasons.Refusal.{Refusal}
+use Rattle.results.specs.declared.Ran.{Ran}
+use Rattle.results.specs.declared.figures.Answer.{Answer}
+use Rattle.results.specs.Numbers.{numbers_of}
+use Rattle.results.specs.Lent.{filled_of}
 use Rattle.ial.specs.Demand.{no_refusal}
 use Rattle.ial.specs.Calls.{ReadCalled, CheckCalled, RunCalled, TranslateCalled, WriteCalled}
 use Rattle.ial.specs.Calls.{ReadLinked, CheckLinked, RunLinked, TranslateLinked, WriteLinked}
@@ -24,26 +22,26 @@ pub record RoundTripCalled (t : List ℕ) (n k : ℕ) (b : List ℕ) : Type 0 wh
   pub count : k ≡ length (written (decode t))
   pub text : take k b ≡ written (decode t)
   pub rest : drop k b ≡ zeros (n - k)
-  pub reads : (m : ℕ) (r : Verdict) (out : List ℕ) → ReadCalled (take k b) m r out → filled_of r out ≡ fill m (named (decode t))
-  pub gives : (r : Verdict) (out : List ℕ) → ReadCalled (take k b) table_length r out → (r ≡ verdicts.Accepted) × (out ≡ filled_table t)
-  pub passes : (v : Verdict) → CheckCalled (filled_table t) v → v ≡ verdicts.Accepted
+  pub reads : (m : ℕ) (r : Result ⊤ Refusal) (out : List ℕ) → ReadCalled (take k b) m r out → filled_of r out ≡ fill m (named (decode t))
+  pub gives : (r : Result ⊤ Refusal) (out : List ℕ) → ReadCalled (take k b) table_length r out → (r ≡ Ok tt) × (out ≡ filled_table t)
+  pub passes : (v : Result ⊤ Refusal) → CheckCalled (filled_table t) v → v ≡ Ok tt
   pub runs :
-      (i : ℕ) (args : List ℕ) (budget c : ℕ) (x : Ran) (g : List ℕ)
+      (i : ℕ) (args : List ℕ) (budget c : ℕ) (x : Result Ran Refusal) (g : List ℕ)
       → RunCalled (filled_table t) i args budget c x g
       → RunCalled t i args budget c x g
-  pub again : (m : ℕ) (r : Wrote) (b' : List ℕ) → WriteCalled (filled_table t) m r b' → WriteCalled t m r b'
+  pub again : (m : ℕ) (r : Result ℕ Refusal) (b' : List ℕ) → WriteCalled (filled_table t) m r b' → WriteCalled t m r b'
 
 abbrev pub RoundTripOfCalls : Type 0
-RoundTripOfCalls = (t : List ℕ) (n k : ℕ) (b : List ℕ) → WriteCalled t n (wrotes.Wrote k) b → RoundTripCalled t n k b
+RoundTripOfCalls = (t : List ℕ) (n k : ℕ) (b : List ℕ) → WriteCalled t n (Ok k) b → RoundTripCalled t n k b
 
 -- Demand 3 of the text that the client sees: `translate`, `write` and `read` one after the other, none of the first two refusing.
 abbrev pub Demand3AsTextOfCalls : Type 0
 Demand3AsTextOfCalls =
-    (t : List ℕ) (i m n k : ℕ) (u b : List ℕ) (r : Verdict) (v : List ℕ)
-    → TranslateCalled t i m verdicts.Accepted u
-    → WriteCalled u n (wrotes.Wrote k) b
+    (t : List ℕ) (i m n k : ℕ) (u b : List ℕ) (r : Result ⊤ Refusal) (v : List ℕ)
+    → TranslateCalled t i m (Ok tt) u
+    → WriteCalled u n (Ok k) b
     → ReadCalled (take k b) table_length r v
-    → (r ≡ verdicts.Accepted) × TranslatedAsText t i u v
+    → (r ≡ Ok tt) × TranslatedAsText t i u v
 
 -- The same of `ial_write`, `ial_read` and the others, by their four numbers: 0 says that nothing was refused, and the text's length is the value.
 pub record RoundTripLinked (t : List ℕ) (n k : ℕ) (b : List ℕ) : Type 0 where

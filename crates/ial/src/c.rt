@@ -3,14 +3,14 @@ ghost use Rattle.std.specs.Prelude.{length};
 ghost use Rattle.ial.specs.Calls.{ReadLinked, CheckLinked, SignatureLinked, RunLinked, RunEachLinked, TranslateLinked, WriteLinked};
 
 use crate::{check, has_signature, read, run, run_each, translate, write};
-use answers::{Answer, run_numbers, verdict_numbers, write_numbers};
+use results::Answer;
 
 // Reads a text into a lent table: 1 to 8, and 22 last. After a refusal the table is all zero.
 #[unsafe(no_mangle)]
 pub extern "C" fn ial_read(text: &[u8], out: &mut [u8]) -> Answer
     ensures { ReadLinked text.now (length out.old) result out.new }
 {
-    verdict_numbers(read(text, out))
+    read(text, out).into()
 }
 
 // Checks a lent table: all four numbers are 0 exactly if none of 9 to 17 holds.
@@ -18,7 +18,7 @@ pub extern "C" fn ial_read(text: &[u8], out: &mut [u8]) -> Answer
 pub extern "C" fn ial_check(table: &[u8]) -> Answer
     ensures { CheckLinked table.now result }
 {
-    verdict_numbers(check(table))
+    check(table).into()
 }
 
 // Whether a function of a lent table gives a result of this type and takes parameters of these, 1 or 0. Nothing else of the table is checked.
@@ -26,10 +26,7 @@ pub extern "C" fn ial_check(table: &[u8]) -> Answer
 pub extern "C" fn ial_has_signature(table: &[u8], function: u64, res: u8, types: &[u8]) -> u64
     ensures { SignatureLinked table.now function res types.now result }
 {
-    if has_signature(table, function, res, types) {
-        return 1;
-    }
-    0
+    u64::from(has_signature(table, function, res, types))
 }
 
 // Runs a function of a lent table on arguments, for at most `budget` steps: 9 to 17, 21, 20, 22; 40 to 43. After a refusal the lent
@@ -44,7 +41,7 @@ pub extern "C" fn ial_run(
 ) -> Answer
     ensures { RunLinked table.now function arguments.now budget (length registers.old) result registers.new }
 {
-    run_numbers(run(table, function, arguments, budget, registers))
+    run(table, function, arguments, budget, registers).into()
 }
 
 // Runs a function of a lent table on each of many arguments alone, for at most `budget` steps each: for each the four numbers that `ial_run`
@@ -60,7 +57,7 @@ pub extern "C" fn ial_run_each(
 ) -> Answer
     ensures { RunEachLinked table.now function arguments.now budget (length registers.old) (length out.old) result out.new registers.new }
 {
-    verdict_numbers(run_each(table, function, arguments, budget, registers, out))
+    run_each(table, function, arguments, budget, registers, out).into()
 }
 
 // Translates a function of a lent table out of ssa, to a lent table of that function alone: 9 to 17, 21, 30, 31, 22. After a refusal the
@@ -69,7 +66,7 @@ pub extern "C" fn ial_run_each(
 pub extern "C" fn ial_translate(table: &[u8], function: u64, out: &mut [u8]) -> Answer
     ensures { TranslateLinked table.now function (length out.old) result out.new }
 {
-    verdict_numbers(translate(table, function, out))
+    translate(table, function, out).into()
 }
 
 // Writes a lent table as text to a lent buffer, with made names for what has none: 9 to 17, 33, 32. Past the text the buffer is zero; after a
@@ -78,5 +75,5 @@ pub extern "C" fn ial_translate(table: &[u8], function: u64, out: &mut [u8]) -> 
 pub extern "C" fn ial_write(table: &[u8], out: &mut [u8]) -> Answer
     ensures { WriteLinked table.now (length out.old) result out.new }
 {
-    write_numbers(write(table, out))
+    write(table, out).into()
 }

@@ -4,14 +4,15 @@ ghost use Rattle.std.specs.Prelude.{◌≡◌, [], ◌∷◌, ◌*◌, ◌<◌, 
 ghost use Rattle.language.specs.Checking.{Verdict as Verdictᴸ};
 ghost use Rattle.language.specs.Table.{function_count, decode};
 ghost use Rattle.language.specs.Answers.{check_answer, ran_numbers, run_function, run_each};
-ghost use Rattle.answers.specs.Numbers.{numbers_of};
+ghost use Rattle.results.specs.Numbers.{numbers_of};
 ghost use Rattle.ial.specs.Runs.{cells_from};
 ghost use Rattle.ial.specs.Calls.{RunEachCalled};
 
 use crate::running::run_within;
-use answers::{Answer, Verdict, put_numbers, run_numbers, verdict_numbers};
+use answers::{Reason, Refusal};
 use checker::check_table;
 use machine::{STAGED, start};
+use results::{Answer, refuse};
 use table::function_count;
 
 // One answer for every argument.
@@ -19,10 +20,8 @@ fn same_each(x: Answer, args: &[u64], out: &mut [u64])
     requires { length out.old ≡ 4 * length args.now }
     ensures { out.new ≡ cells_from (λ a. numbers_of x) args.now }
 {
-    let mut k = 0;
-    while k < args.len() {
-        put_numbers(out, 4 * k, x);
-        k += 1;
+    for k in 0..args.len() {
+        x.put(out, 4 * k);
     }
 }
 
@@ -42,12 +41,9 @@ fn run_all(
     requires out_len { length out.old ≡ 4 * length args.now }
     ensures { out.new ≡ cells_from (λ a. ran_numbers (run_function (decode t.now) i (a ∷ []) budget (length registers.old)).answer) args.now }
 {
-    let mut k = 0;
-    while k < args.len() {
-        let e = k + 1;
-        let r = run_within(t, i, &args[k..e], budget, taken, registers);
-        put_numbers(out, 4 * k, run_numbers(r));
-        k += 1;
+    for (k, &arg) in args.iter().enumerate() {
+        let r = run_within(t, i, &[arg], budget, taken, registers);
+        Answer::from(r).put(out, 4 * k);
     }
 }
 
@@ -65,7 +61,11 @@ fn each_checked(
     ensures { out.new ≡ cells_from (λ a. ran_numbers (run_function (decode t.now) function (a ∷ []) budget (length registers.old)).answer) args.now }
 {
     if function_count(t) as u64 <= function {
-        same_each(verdict_numbers(Verdict::Refused(21, 0)), args, out);
+        let missing = Refusal {
+            reason: Reason::NoSuchFunction,
+            place: 0,
+        };
+        same_each(missing.into(), args, out);
         return;
     }
     let i = function as usize;
@@ -78,10 +78,9 @@ fn each(t: &[u8], function: u64, args: &[u64], budget: u64, registers: &mut [u64
     requires { length out.old ≡ 4 * length args.now }
     ensures { out.new ≡ run_each t.now function args.now budget (length registers.old) }
 {
-    let v = check_table(t);
-    match v {
-        Verdict::Refused(n, p) => same_each(verdict_numbers(Verdict::Refused(n, p)), args, out),
-        Verdict::Accepted => each_checked(t, function, args, budget, registers, out),
+    match check_table(t) {
+        Err(e) => same_each(e.into(), args, out),
+        Ok(()) => each_checked(t, function, args, budget, registers, out),
     }
 }
 
@@ -104,15 +103,15 @@ pub fn run_each(
     budget: u64,
     registers: &mut [u64],
     out: &mut [u64],
-) -> Verdict
+) -> Result<(), Refusal>
     ensures { RunEachCalled t.now function args.now budget (length registers.old) (length out.old) result out.new registers.new }
 {
     if !four_each(out.len(), args.len()) {
         start(&[], registers);
         start(&[], out);
-        return Verdict::Refused(22, 0);
+        return refuse(Reason::LengthWrong, 0);
     }
     each(t, function, args, budget, registers, out);
     start(&[], registers);
-    Verdict::Accepted
+    Ok(())
 }

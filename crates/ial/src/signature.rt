@@ -15,10 +15,7 @@ fn type_of(t: &[u8], a: usize, r: usize) -> u8
     ensures { result ≡ register_type t.now a r }
 {
     let k = a + REGISTERS_OFFSET + REGISTER_LENGTH * r;
-    if t.len() <= k {
-        return 0;
-    }
-    t[k]
+    t.get(k).copied().unwrap_or(0)
 }
 
 // Whether the first registers of the function at cell a have these types.
@@ -26,12 +23,10 @@ fn has_types(t: &[u8], a: usize, types: &[u8]) -> bool
     requires { (a < table_length) × (length types.now < 65536) }
     ensures { result ≡ same (map (register_type t.now a) (below (length types.now))) types.now }
 {
-    let mut i = 0;
-    while i < types.len() {
-        if type_of(t, a, i) != types[i] {
+    for (r, &x) in types.iter().enumerate() {
+        if type_of(t, a, r) != x {
             return false;
         }
-        i += 1;
     }
     true
 }

@@ -17,7 +17,7 @@ use Rattle.records.specs.Limits.{Test, limit_answer, fail_of, judged_test}
 use Rattle.records.specs.Answers.{MergedStore, unchanged, emptied, Kept, IfLent, StoreJoined, tests_of}
 use Rattle.records.specs.Trees.{Tree, In, SizedIn, SameRecords, store_of}
 use Rattle.records.proofs.Storing.{rising_insert, rising_inserts, sized_insert, sized_inserts}
-use Rattle.merge.specs.declared.results.Merged.{Merged}
+use Rattle.merge.specs.declared.figures.Merged.{Merged}
 use Rattle.merge.specs.Calls.{merged_verdict, merged_of}
 use Rattle.merge.specs.Histories.{History, RefusedCall, Leaves, adds, accepted_in, OneOf, Merges, SizedTest, SizedTests, LeavesWinners, RefusalsLeave}
 use Rattle.merge.proofs.Refusing.{not_both, allowed_done, lent_done, lent_refused, allowed_refused, harmless_refused, kept_done}

@@ -8,12 +8,15 @@ use Rattle.language.specs.Instructions.{int64, uint}
 use Rattle.language.specs.Programs.{max_registers}
 use Rattle.language.specs.Checking.{Verdict}
 use Rattle.language.specs.Answers.{Ran, Finished, refused_run, check_answer, run_answer, signature_answer}
+use mir.Val.{bool_byte}
 use borrow.Author.Tests.{not-true, not-false}
 use Rattle.theorems.proofs.NoRefusal.{refused_numbers}
 use Rattle.theorems.proofs.Accepted.{signature_accepted}
+use Rattle.std.specs.Prelude.{Ok, Err}
+use Rattle.std.specs.declared.result.Result.{Result}
+use Rattle.answers.specs.declared.reasons.Refusal.{Refusal}
+use Rattle.answers.specs.Reasons.{reason_number}
 use Rattle.records.specs.Limits.{limit_answer, fail_of}
-use Rattle.merge.specs.declared.judging.Ruling.{Ruling}
-use Rattle.merge.specs.declared.judging.Ruling.TheVariants as rulings
 use Rattle.merge.proofs.Translated.{limit_runs}
 use Rattle.merge.specs.Rulings.{Ruled, refused_by}
 
@@ -44,6 +47,16 @@ module _ (t : List ℕ) (i : ℕ) (args : List ℕ) (budget n : ℕ) where
           let below = refused_numbers t k p d in
           absurd (omega (arith, below.1))
 
+-- ---- a returned value
+
+pub failed_value : (b : Bool) → ◌≡◌ {A = ℕ} (cond (not b) 1 0) (cond b 0 1)
+failed_value true = refl
+failed_value false = refl
+
+pub flag : (b : Bool) → bool_byte b ≡ cond b 1 0
+flag true = refl
+flag false = refl
+
 -- ---- the limit function
 
 module _ (t : List ℕ) (i : ℕ) where
@@ -61,25 +74,25 @@ module _ (t : List ℕ) (i : ℕ) where
 
 module _ (t : List ℕ) (i budget reading : ℕ) (b : Bool) (signed : b ≡ signature_answer t i uint (int64 ∷ [])) where
   -- no limit function: the check's refusal, or 61
-  pub ruled_other : not b ≡ true → {r : Ruling} → r ≡ refused_by (check_answer t) → Ruled t i budget reading r
-  ruled_other n {r} e = subst⁻¹ (Ruled t i budget reading) e (by (check_answer t) refl)
+  pub ruled_other : not b ≡ true → (e : Refusal) → Verdict.refused (reason_number e.reason) e.place ≡ refused_by (check_answer t) → Ruled t i budget reading (Err e)
+  ruled_other n f e = by (check_answer t) refl ∙ sym e
     where
-      by : (v : Verdict) → check_answer t ≡ v → Ruled t i budget reading (refused_by v)
-      by Verdict.accepted c = limit_by t i false c (sym signed ∙ not-true b n)
-      by (Verdict.refused k p) c = limit_refused t i c
+      by : (v : Verdict) → check_answer t ≡ v → limit_answer t i ≡ refused_by (check_answer t)
+      by Verdict.accepted c = limit_by t i false c (sym signed ∙ not-true b n) ∙ sym (ap refused_by c)
+      by (Verdict.refused k p) c = limit_refused t i c ∙ sym (ap refused_by c)
 
   module _ (n : not b ≡ false) (fits : reading < 2 ^ 64) {g : Finished} (called : g ≡ run_answer t i (reading ∷ []) budget max_registers) where
     limit_if : check_answer t ≡ Verdict.accepted → limit_answer t i ≡ Verdict.accepted
     limit_if c = limit_by t i true c (sym signed ∙ not-false b n)
 
     -- the run's answer, where it is not refused
-    pub ruled_ran : {a : Ran} {f : ℕ} → g.answer ≡ a → Later a → f ≡ fail_of a → Ruled t i budget reading (rulings.Fail f)
-    ruled_ran {a} {f} e l d =
+    pub ruled_ran : {a : Ran} (f : Bool) → g.answer ≡ a → Later a → cond f 1 0 ≡ fail_of a → Ruled t i budget reading (Ok f)
+    ruled_ran {a} f e l d =
         let is : (run_answer t i (reading ∷ []) budget max_registers).answer ≡ a = sym (ap (λ (g : Finished). g.answer) called) ∙ e in
         (limit_if (answered_later t i (reading ∷ []) budget max_registers is l), d ∙ sym (ap fail_of is))
 
     -- a limit function's run is refused by the check alone
-    pub ruled_refused : {k p : ℕ} → g.answer ≡ Ran.refused k p → Ruled t i budget reading (rulings.Refused k p)
+    pub ruled_refused : {k p : ℕ} → g.answer ≡ Ran.refused k p → limit_answer t i ≡ Verdict.refused k p
     ruled_refused {k} {p} e = by (check_answer t) refl
       where
         is : (run_answer t i (reading ∷ []) budget max_registers).answer ≡ Ran.refused k p

@@ -32,8 +32,8 @@ use Rattle.records.specs.Trees.{In, Winner, store_of}
 use Rattle.records.proofs.RecordFacts.{ways}
 use Rattle.records.proofs.Order.{wins_self}
 use Rattle.records.proofs.Trees.{one_winner}
-use Rattle.merge.specs.declared.results.Merged.{Merged}
-use Rattle.merge.specs.declared.results.Look.{Look}
+use Rattle.merge.specs.declared.figures.Merged.{Merged}
+use Rattle.merge.specs.declared.figures.Look.{Look}
 use Rattle.merge.specs.Calls.{merged_verdict, look_of, StoreCalled, LookCalled}
 use Rattle.merge.specs.Histories.{History, Leaves, accepted_in, Merges, SizedTest, SizedTests}
 use Rattle.merge.specs.Translated.{Suffices, TranslatedTo}

@@ -14,7 +14,7 @@ use Rattle.records.specs.declared.Record.{Record}
 use Rattle.records.specs.Stores.{inserts, capacity, StoreHolds}
 use Rattle.records.specs.Limits.{judged_test}
 use Rattle.records.specs.Answers.{unchanged, Kept, test_at, tests_of}
-use Rattle.merge.specs.declared.results.Merged.{Merged}
+use Rattle.merge.specs.declared.figures.Merged.{Merged}
 use Rattle.merge.specs.Calls.{merged_verdict, merged_of}
 use Rattle.merge.specs.Tries.{Tried, Underway}
 use Rattle.merge.proofs.Refusing.{kept_room, kept_none}

@@ -17,7 +17,7 @@ use Rattle.records.specs.Answers.{MergedStore, Looked, kept, Kept, IfLent, Allow
 use Rattle.records.specs.Trees.{Tree, In, Winner, store_of}
 use Rattle.records.proofs.Trees.{any_order, merged_twice, answers_winner, room_for_so_many}
 use Rattle.records.proofs.Cells.{held_length, held_records}
-use Rattle.merge.specs.declared.results.Merged.{Merged}
+use Rattle.merge.specs.declared.figures.Merged.{Merged}
 use Rattle.merge.specs.Calls.{merged_verdict, merged_of, look_of, RecordCalled, RecordsCalled}
 use Rattle.merge.specs.Histories.{History, Leaves, accepted_in, OneOf, Merges, SizedTests, AnyOrderOfCalls, TwiceOfCalls, TwiceOfRecords, LookOfCalls, NthOfCalls, RoomOfCalls, RoomOfRecords, RoomOfStores, FullExactly}
 use Rattle.merge.proofs.Refusing.{allowed_done, kept_room, kept_none, kept_full}

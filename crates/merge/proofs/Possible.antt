@@ -18,7 +18,7 @@ use Rattle.records.specs.Trees.{In, store_of}
 use Rattle.records.proofs.Trees.{rising_store, sized_store, room_for_so_many}
 use Rattle.records.proofs.Merging.{joined_is}
 use Rattle.records.proofs.Cells.{held_records, length_store, held_length, held_alone, stored_holds}
-use Rattle.merge.specs.declared.results.Merged.{Merged}
+use Rattle.merge.specs.declared.figures.Merged.{Merged}
 use Rattle.merge.specs.Calls.{merged_of, EmptyCalled, RecordCalled}
 use Rattle.merge.specs.Histories.{History, RefusedCall, Leaves, accepted_in, Merges, SizedTests}
 use Rattle.merge.specs.Possible.{Whole, CanBeLeft}

@@ -5,7 +5,9 @@ use mathlib.Core.Logic.{◌⊎◌, inl, inr}
 use mathlib.Core.Path.{◌≡◌, refl, sym, ◌∙◌, ap, subst, subst⁻¹}
 use Prim.Native.Nat.{ℕ, ◌<◌, ◌≤◌}
 use native.Mathlib.Omega.{arith}
+use mir.Val.{bool_byte}
 use lib.Dec.{eqb, ltb}
+use Rattle.std.specs.Prelude.{Ok}
 use lib.ListN.{length}
 use borrow.Author.Tests.{eq-eqb, ne_eqb, not-true, not-false}
 use Rattle.language.specs.Instructions.{int64, uint}
@@ -20,16 +22,15 @@ use Rattle.records.specs.Limits.{limit_answer, judged_test}
 use Rattle.records.specs.Answers.{MergedStore, unchanged, kept, kept_as, Kept, emptied, IfLent, Allowed, RecordMerged, StoreJoined}
 use Rattle.records.proofs.Merging.{joined_is}
 use Rattle.records.proofs.Cells.{empty_zeros, held_records}
-use Rattle.answers.specs.declared.figures.Answer.{Answer}
-use Rattle.answers.specs.Numbers.{numbers_of}
+use Rattle.results.specs.declared.figures.Answer.{Answer}
+use Rattle.results.specs.Numbers.{numbers_of}
 use Rattle.ial.specs.Calls.{CheckLinked}
 use Rattle.ial.proofs.Demand.{symbol_checked}
-use Rattle.merge.specs.declared.results.Merged.{Merged}
-use Rattle.merge.specs.declared.judging.Ruling.TheVariants as rulings
+use Rattle.merge.specs.declared.figures.Merged.{Merged}
 use Rattle.merge.specs.Rulings.{Ruled}
 use Rattle.merge.specs.Calls.{test, merged_verdict, merged_of}
 use Rattle.merge.proofs.Refusing.{not_both, kept_either}
-use Rattle.merge.proofs.JudgingLaws.{limit_refused, limit_by}
+use Rattle.merge.proofs.JudgingLaws.{limit_refused, limit_by, flag}
 
 -- ---- lent bytes, by a length or two
 
@@ -122,13 +123,13 @@ limit_number t i n p e = by (check_answer t) refl e
 -- ---- a record, as it was ruled
 
 pub record_ruled :
-    (t : List ℕ) (i budget a b c d f : ℕ) (s : List ℕ) (m : MergedStore) → Ruled t i budget d (rulings.Fail f)
-    → IfLent (eqb (length s) store_length) s (Kept s (insert (record { appliance = a; time = b; fail = f; tablet = c; reading = d }))) m
+    (t : List ℕ) (i budget a b c d n : ℕ) (f : Bool) (s : List ℕ) (m : MergedStore) → Ruled t i budget d (Ok f) → n ≡ bool_byte f
+    → IfLent (eqb (length s) store_length) s (Kept s (insert (record { appliance = a; time = b; fail = n; tablet = c; reading = d }))) m
     → RecordMerged t i budget (test a b c d) s m
 unfolding judged_test
-record_ruled t i budget a b c d f s m r h =
-    let same : record { appliance = a; time = b; fail = f; tablet = c; reading = d } ≡ judged_test t i budget (test a b c d) =
-    ap (λ (f : ℕ). record { appliance = a; time = b; fail = f; tablet = c; reading = d }) r.1 in
+record_ruled t i budget a b c d n f s m r g h =
+    let same : record { appliance = a; time = b; fail = n; tablet = c; reading = d } ≡ judged_test t i budget (test a b c d) =
+    ap (λ (f : ℕ). record { appliance = a; time = b; fail = f; tablet = c; reading = d }) (g ∙ flag f ∙ r.1) in
     subst⁻¹ (λ (v : Verdict). Allowed v s (IfLent (eqb (length s) store_length) s (Kept s (insert (judged_test t i budget (test a b c d))))) m) r.0
     (subst (λ (e : Record). IfLent (eqb (length s) store_length) s (Kept s (insert e)) m) same h)
 

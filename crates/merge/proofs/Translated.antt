@@ -29,7 +29,7 @@ use Rattle.records.specs.declared.Record.{Record}
 use Rattle.records.specs.Stores.{insert, inserts, store_length}
 use Rattle.records.specs.Limits.{Test, limit_answer, fail_of, judged_test}
 use Rattle.records.specs.Answers.{Kept, IfLent, Allowed, tests_of}
-use Rattle.merge.specs.declared.results.Merged.{Merged}
+use Rattle.merge.specs.declared.figures.Merged.{Merged}
 use Rattle.merge.specs.Calls.{merged_of, RecordCalled, RecordsCalled}
 use Rattle.merge.specs.Histories.{History, Leaves, OneOf, Merges}
 use Rattle.merge.specs.Translated.{LimitRuns, Suffices, Unended, TranslatedTo, SameVerdicts, VerdictsTranslated, LeavesTranslated, StoresTranslated}

@@ -5,8 +5,8 @@ use Rattle.language.specs.Checking.{Verdict}
 use Rattle.records.specs.Stores.{FoundRecord}
 use Rattle.records.specs.Limits.{Test}
 use Rattle.records.specs.Answers.{MergedStore, Looked, emptied, RecordMerged, RecordsMerged, StoreMerged, LookedUp, LookedNth}
-use Rattle.merge.specs.declared.results.Merged.{Merged}
-use Rattle.merge.specs.declared.results.Look.{Look}
+use Rattle.merge.specs.declared.figures.Merged.{Merged}
+use Rattle.merge.specs.declared.figures.Look.{Look}
 
 -- A test by its numbers.
 abbrev pub test : (appliance time tablet reading : ℕ) → Test

@@ -9,8 +9,8 @@ use Rattle.records.specs.Stores.{FoundRecord, nth, capacity, StoreHolds}
 use Rattle.records.specs.Limits.{Test, limit_answer, judged_test}
 use Rattle.records.specs.Answers.{Looked, tests_of}
 use Rattle.records.specs.Trees.{Tree, Winner, store_of}
-use Rattle.merge.specs.declared.results.Merged.{Merged}
-use Rattle.merge.specs.declared.results.Look.{Look}
+use Rattle.merge.specs.declared.figures.Merged.{Merged}
+use Rattle.merge.specs.declared.figures.Look.{Look}
 use Rattle.merge.specs.Calls.{merged_verdict, look_of, EmptyCalled, RecordCalled, RecordsCalled, StoreCalled, LookCalled, NthCalled}
 
 -- The calls that brought a store about, one store's within another's: emptied; a test merged; many at once; a store merged into it; a call refused.

@@ -2,13 +2,13 @@
 // input; none asks anything of its caller. Of the library below they see the entry points' promises alone.
 #![tactic(auto)]
 
+mod figures;
 mod judging;
 mod looking;
 mod many;
 mod merging;
-mod results;
 
+pub use figures::{Look, Merged};
 pub use looking::{merge_look, merge_nth};
 pub use many::merge_records;
 pub use merging::{merge_empty, merge_record, merge_store};
-pub use results::{Look, Merged};

@@ -5,7 +5,7 @@ ghost use Rattle.records.specs.Answers.{Looked};
 ghost use Rattle.store.specs.Places.{looked_at};
 ghost use Rattle.merge.specs.Calls.{look_of, LookCalled, NthCalled};
 
-use crate::results::Look;
+use crate::figures::Look;
 use records::STORE_LENGTH;
 use store::{count, find, record_at};
 

@@ -8,9 +8,9 @@ ghost use Rattle.records.specs.Answers.{tests_of, Kept};
 ghost use Rattle.merge.specs.Calls.{merged_of, RecordsCalled};
 ghost use Rattle.merge.specs.Tries.{readings_of, record_by, records_by, Tried};
 
+use crate::figures::Merged;
 use crate::judging::{REGISTERS, failed, is_limit};
 use crate::merging::done;
-use crate::results::Merged;
 use ial::{ial_check, ial_run_each};
 use numbers::put_bytes;
 use records::{Record, STORE_LENGTH};
@@ -55,7 +55,7 @@ fn judged_record(tests: &[u64], answers: &[u64], j: usize) -> Record
     record_of(
         tests[4 * j],
         tests[4 * j + 1],
-        failed(answers[4 * j + 2]),
+        u64::from(failed(answers[4 * j + 2])),
         tests[4 * j + 2],
         tests[4 * j + 3],
     )

@@ -4,8 +4,8 @@ ghost use Rattle.records.specs.Stores.{insert as inserted, store_length};
 ghost use Rattle.records.specs.Answers.{kept_as, Kept, IfLent};
 ghost use Rattle.merge.specs.Calls.{test, merged_verdict, merged_of, EmptyCalled, RecordCalled, StoreCalled};
 
-use crate::judging::{Ruling, judge};
-use crate::results::Merged;
+use crate::figures::Merged;
+use crate::judging::judge;
 use joining::join;
 use numbers::zero;
 use records::{Record, STORE_LENGTH};
@@ -74,19 +74,19 @@ pub extern "C" fn merge_record(
     ensures { RecordCalled table.now function budget (test appliance time tablet reading) store.old result store.new }
 {
     match judge(table, function, budget, reading) {
-        Ruling::Fail(fail) => put(
+        Ok(fail) => put(
             store,
             Record {
                 appliance,
                 time,
-                fail,
+                fail: u64::from(fail),
                 tablet,
                 reading,
             },
         ),
-        Ruling::Refused(n, p) => Merged {
-            number: n,
-            place: p,
+        Err(e) => Merged {
+            number: u64::from(u8::from(e.reason)),
+            place: e.place as u64,
         },
     }
 }

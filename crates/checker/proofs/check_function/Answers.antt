@@ -27,7 +27,7 @@ returns-then-not-sound_at c =
     let t = c.args.t.now in
     let i = c.args.i in
     let here = c.function_at-a.ensures in
-    judged_9 t i (fell (rw here at c.sound_at.ensures) c.if-not-sound_at.true-raw)
+    rw c.refuse.ensures (judged_9 t i (fell (rw here at c.sound_at.ensures) c.if-not-sound_at.true-raw))
 
 pub prepare_ssa-requires : goal.prepare_ssa-requires
 prepare_ssa-requires c =
@@ -58,7 +58,7 @@ returns-in-Some c =
     let i = c.args.i in
     let here = c.function_at-a.ensures in
     let sound = held (rw here at c.sound_at.ensures) c.if-not-sound_at.false-raw in
-    rw (c.from.ensures, c.row_place.ensures)
+    rw (c.refuse-in-Some.ensures, c.row_place.ensures)
     (judged_form t i sound (rw here at c.in-Some.ensures.0) (λ e. omega (arith, c.in-Some.ensures.1.0)))
 
 pub check_paths-requires : goal.check_paths-requires

@@ -21,7 +21,7 @@ row_place-requires c = (c.requires.sized.2, omega (arith, c.requires.sized.0.row
 
 pub returns-in-Some : goal.returns-in-Some
 returns-in-Some c =
-    ap (Verdict.refused 17) c.row_place.ensures ∙ somewhere c.args.t.now c.args.a c.args.i c.in-Some.ensures.first refl c.in-Some.ensures.within
+    rw c.refuse.ensures (ap (Verdict.refused 17) c.row_place.ensures ∙ somewhere c.args.t.now c.args.a c.args.i c.in-Some.ensures.first refl c.in-Some.ensures.within)
 
 pub returns : goal.returns
 returns c = nowhere c.args.t.now c.args.a c.args.i c.in_default.ensures.first refl (omega arith)

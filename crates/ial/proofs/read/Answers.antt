@@ -8,20 +8,20 @@ use Rattle.ial.proofs.read.Goals as goal
 
 pub returns-then-text-gt-MAX_TEXT : goal.returns-then-text-gt-MAX_TEXT
 returns-then-text-gt-MAX_TEXT c =
-    read_long c.args.text.now (length c.args.out.now) c.if-text-gt-MAX_TEXT.true c.zero.ensures
+    rw c.refuse.ensures (read_long c.args.text.now (length c.args.out.now) c.if-text-gt-MAX_TEXT.true c.zero.ensures)
 
 pub returns-then-out-ne-TABLE_LENGTH : goal.returns-then-out-ne-TABLE_LENGTH
 returns-then-out-ne-TABLE_LENGTH c =
     read_other c.args.text.now (length c.args.out.now) c.read_aside.result c.read_aside.ensures (λ same. omega (arith, same, c.zero.auto.t, c.if-out-ne-TABLE_LENGTH.true)) c.zero.ensures
 
-pub read_into-r-requires : goal.read_into-r-requires
-read_into-r-requires c =
+pub read_into-requires : goal.read_into-requires
+read_into-requires c =
     (c.if-text-gt-MAX_TEXT.false, c.zero.ensures ∙ ap zeros (omega (arith, c.zero.auto.t, c.if-out-ne-TABLE_LENGTH.false)))
-
-pub returns-in_default : goal.returns-in_default
-returns-in_default c =
-    read_program c.args.text.now (length c.args.out.now) c.read_into-r.ensures c.in_default.is (omega (arith, c.zero.auto.t, c.if-out-ne-TABLE_LENGTH.false))
 
 pub returns : goal.returns
 returns c =
-    read_refused c.args.text.now (length c.args.out.now) c.read_into-r.ensures c.in-Refused.is (c.zero-2.ensures ∙ ap zeros (c.read_into-r.auto.t ∙ c.zero.auto.t))
+    read_program c.args.text.now (length c.args.out.now) c.read_into.ensures c.in_default.is (omega (arith, c.zero.auto.t, c.if-out-ne-TABLE_LENGTH.false))
+
+pub returns-in-Err : goal.returns-in-Err
+returns-in-Err c =
+    read_refused c.args.text.now (length c.args.out.now) c.read_into.ensures c.in-Err.is (omega (arith, c.zero.auto.t, c.if-out-ne-TABLE_LENGTH.false)) (c.zero-in-Err.ensures ∙ ap zeros (c.read_into.auto.t ∙ c.zero.auto.t))

@@ -15,26 +15,26 @@ accept-requires c = length-replicate {A = ℕ} table_length 0
 pub slice_bounds-accept-end : goal.slice_bounds-accept-end
 slice_bounds-accept-end c = sym (length-replicate {A = ℕ} table_length 0)
 
-pub list_refusal-requires : goal.list_refusal-requires
-list_refusal-requires c = refusal_listed c.requires
+pub put_refusal-requires : goal.put_refusal-requires
+put_refusal-requires c = refusal_listed c.requires
 
 pub slice_bounds-list_program-end : goal.slice_bounds-list_program-end
 slice_bounds-list_program-end c = sym c.t-2-1.given
 
 pub list_program-requires : goal.list_program-requires
 list_program-requires c =
-    (c.t-2-1.given, accepted_program _ (c.accept.ensures.passes c.in-Accepted.is), c.requires)
+    (c.t-2-1.given, accepted_program _ (c.accept.ensures.passes c.in-Ok.is), c.requires)
 
-pub shape_of-out-in-Refused : goal.shape_of-out-in-Refused
-shape_of-out-in-Refused c = c.list_refusal.auto.out
+pub shape_of-out-in-Err : goal.shape_of-out-in-Err
+shape_of-out-in-Err c = c.put_refusal.auto.out
 
-pub returns-in-Refused : goal.returns-in-Refused
-returns-in-Refused c =
-    (rw (listing_line c.args.text.now ∙ printed_refused listing_of c.accept.ensures c.in-Refused.is) c.list_refusal.ensures.0, omega (arith, c.list_refusal.ensures.1))
+pub returns-in-Err : goal.returns-in-Err
+returns-in-Err c =
+    (rw (listing_line c.args.text.now ∙ printed_refused listing_of c.accept.ensures c.in-Err.is) c.put_refusal.ensures.0, omega (arith, c.put_refusal.ensures.1))
 
-pub shape_of-out-in-Accepted : goal.shape_of-out-in-Accepted
-shape_of-out-in-Accepted c = c.list_program.auto.out
+pub shape_of-out-in-Ok : goal.shape_of-out-in-Ok
+shape_of-out-in-Ok c = c.list_program.auto.out
 
-pub returns-in-Accepted : goal.returns-in-Accepted
-returns-in-Accepted c =
-    (rw (listing_line c.args.text.now ∙ printed_accepted listing_of c.accept.ensures c.in-Accepted.is) c.list_program.ensures.0, c.list_program.ensures.1)
+pub returns-in-Ok : goal.returns-in-Ok
+returns-in-Ok c =
+    (rw (listing_line c.args.text.now ∙ printed_accepted listing_of c.accept.ensures c.in-Ok.is) c.list_program.ensures.0, c.list_program.ensures.1)

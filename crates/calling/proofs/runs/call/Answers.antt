@@ -16,8 +16,8 @@ function_count-requires c =
 
 pub returns-then-function_count-function : goal.returns-then-function_count-function
 returns-then-function_count-function c =
-    call_missing c.args.t.now c.args.function (given_of c.args.count c.args.kept.now) c.args.budget
-    (omega (arith, c.function_count.ensures.0, c.if-function_count-function.true))
+    rw c.refuse.ensures (call_missing c.args.t.now c.args.function (given_of c.args.count c.args.kept.now) c.args.budget
+    (omega (arith, c.function_count.ensures.0, c.if-function_count-function.true)))
 
 pub function_at-a-requires : goal.function_at-a-requires
 function_at-a-requires c = omega (arith, c.function_count.ensures.1, c.if-function_count-function.false)
@@ -30,8 +30,8 @@ function_params-requires c =
 pub returns-then-count-function_params : goal.returns-then-count-function_params
 returns-then-count-function_params c =
     let l : c.args.function < function_count c.args.t.now = omega (arith, c.function_count.ensures.0, c.if-function_count-function.false) in
-    call_count c.args.t.now c.args.function (given_of c.args.count c.args.kept.now) c.args.budget l
-    (λ h. c.if-count-function_params.true (h ∙ sym (c.function_params.ensures.0 ∙ ap (function_params c.args.t.now) c.function_at-a.ensures)))
+    rw c.refuse-then-count-function_params.ensures (call_count c.args.t.now c.args.function (given_of c.args.count c.args.kept.now) c.args.budget l
+    (λ h. c.if-count-function_params.true (h ∙ sym (c.function_params.ensures.0 ∙ ap (function_params c.args.t.now) c.function_at-a.ensures))))
 
 pub fill_arguments-requires : goal.fill_arguments-requires
 fill_arguments-requires c =
@@ -48,8 +48,8 @@ returns-in-Err c =
     let l : c.args.function < function_count c.args.t.now = omega (arith, c.function_count.ensures.0, c.if-function_count-function.false) in
     let same : c.args.count ≡ function_params c.args.t.now (function_at c.args.function) = c.if-count-function_params.false ∙ c.function_params.ensures.0 ∙ ap (function_params c.args.t.now) c.function_at-a.ensures in
     let first = c.in-Err.ensures.outside in
-    call_outside c.args.t.now c.args.function (given_of c.args.count c.args.kept.now) c.args.budget l same
-    c.in-Err.outside (rw c.function_at-a.ensures at first.0) first.1
+    rw c.refuse-in-Err.ensures (call_outside c.args.t.now c.args.function (given_of c.args.count c.args.kept.now) c.args.budget l same
+    c.in-Err.outside (rw c.function_at-a.ensures at first.0) first.1)
 
 pub slice_bounds-args-end : goal.slice_bounds-args-end
 slice_bounds-args-end c =

@@ -17,32 +17,32 @@ accept-requires c = length-replicate {A = ℕ} table_length 0
 pub slice_bounds-accept-end : goal.slice_bounds-accept-end
 slice_bounds-accept-end c = sym (length-replicate {A = ℕ} table_length 0)
 
-pub list_refusal-requires : goal.list_refusal-requires
-list_refusal-requires c = refusal_ran c.requires.1
+pub put_refusal-requires : goal.put_refusal-requires
+put_refusal-requires c = refusal_ran c.requires.1
 
 pub slice_bounds-run_checked-end : goal.slice_bounds-run_checked-end
 slice_bounds-run_checked-end c = sym c.t-2-1.given
 
 pub run_checked-requires : goal.run_checked-requires
 run_checked-requires c =
-    record { t_value = c.accept.ensures.passes c.in-Accepted.is; lengths = c.requires }
+    record { t_value = c.accept.ensures.passes c.in-Ok.is; lengths = c.requires }
 
-pub shape_of-out-in-Refused : goal.shape_of-out-in-Refused
-shape_of-out-in-Refused c = c.list_refusal.auto.out
+pub shape_of-out-in-Err : goal.shape_of-out-in-Err
+shape_of-out-in-Err c = c.put_refusal.auto.out
 
-pub returns-in-Refused : goal.returns-in-Refused
+pub returns-in-Err : goal.returns-in-Err
 unfolding run_printed
-returns-in-Refused c =
+returns-in-Err c =
     let x = c.args in
     let line : Program → List ℕ = λ p. run_line p x.word.now (given_of x.count x.kept.now) x.budget in
-    (rw (printed_refused line c.accept.ensures c.in-Refused.is) c.list_refusal.ensures.0, omega (arith, c.list_refusal.ensures.1))
+    (rw (printed_refused line c.accept.ensures c.in-Err.is) c.put_refusal.ensures.0, omega (arith, c.put_refusal.ensures.1))
 
-pub shape_of-out-in-Accepted : goal.shape_of-out-in-Accepted
-shape_of-out-in-Accepted c = c.run_checked.auto.out
+pub shape_of-out-in-Ok : goal.shape_of-out-in-Ok
+shape_of-out-in-Ok c = c.run_checked.auto.out
 
-pub returns-in-Accepted : goal.returns-in-Accepted
+pub returns-in-Ok : goal.returns-in-Ok
 unfolding run_printed
-returns-in-Accepted c =
+returns-in-Ok c =
     let x = c.args in
     let line : Program → List ℕ = λ p. run_line p x.word.now (given_of x.count x.kept.now) x.budget in
-    (rw (printed_accepted line c.accept.ensures c.in-Accepted.is) c.run_checked.ensures.0, c.run_checked.ensures.1)
+    (rw (printed_accepted line c.accept.ensures c.in-Ok.is) c.run_checked.ensures.0, c.run_checked.ensures.1)

@@ -4,4 +4,4 @@ use Rattle.language.specs.Answers.{verdict_numbers}
 use Rattle.ial.proofs.c.ial_check.Goals as goal
 
 pub returns : goal.returns
-returns c = c.verdict_numbers.ensures ∙ ap verdict_numbers c.check.ensures
+returns c = c.into.ensures ∙ ap verdict_numbers c.check.ensures

@@ -6,4 +6,4 @@ use Rattle.ial.proofs.c.ial_read.Goals as goal
 pub returns : goal.returns
 returns c =
     let e = c.read.ensures in
-    (c.verdict_numbers.ensures ∙ ap (λ (x : Filled). verdict_numbers x.answer) e, ap (λ (x : Filled). x.table) e)
+    (c.into.ensures ∙ ap (λ (x : Filled). verdict_numbers x.answer) e, ap (λ (x : Filled). x.table) e)

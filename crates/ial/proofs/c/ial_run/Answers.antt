@@ -6,4 +6,4 @@ use Rattle.ial.proofs.c.ial_run.Goals as goal
 pub returns : goal.returns
 returns c =
     let e = c.run.ensures in
-    (c.run_numbers.ensures ∙ ap (λ (x : Finished). ran_numbers x.answer) e, ap (λ (x : Finished). x.registers) e)
+    (c.into.ensures ∙ ap (λ (x : Finished). ran_numbers x.answer) e, ap (λ (x : Finished). x.registers) e)

@@ -6,4 +6,4 @@ use Rattle.ial.proofs.c.ial_run_each.Goals as goal
 pub returns : goal.returns
 returns c =
     let e = c.run_each.ensures in
-    (c.verdict_numbers.ensures ∙ ap (λ (x : Listed). verdict_numbers x.answer) e.0, ap (λ (x : Listed). x.numbers) e.0, e.1)
+    (c.into.ensures ∙ ap (λ (x : Listed). verdict_numbers x.answer) e.0, ap (λ (x : Listed). x.numbers) e.0, e.1)

@@ -6,4 +6,4 @@ use Rattle.ial.proofs.c.ial_write.Goals as goal
 pub returns : goal.returns
 returns c =
     let e = c.write.ensures in
-    (c.write_numbers.ensures ∙ ap (λ (x : Shown). wrote_numbers x.answer) e, ap (λ (x : Shown). x.buffer) e)
+    (c.into.ensures ∙ ap (λ (x : Shown). wrote_numbers x.answer) e, ap (λ (x : Shown). x.buffer) e)

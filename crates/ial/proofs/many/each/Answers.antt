@@ -6,12 +6,12 @@ use Rattle.ial.proofs.many.each.Goals as goal
 
 pub each_checked-requires : goal.each_checked-requires
 each_checked-requires c =
-    record { t_value = (run_accepted c.args.t.now c.args.function c.args.args.now c.args.budget (length c.args.registers.now) c.check_table-v.ensures c.in-Accepted.is); out_len = c.requires }
+    record { t_value = (run_accepted c.args.t.now c.args.function c.args.args.now c.args.budget (length c.args.registers.now) c.check_table.ensures c.in-Ok.is); out_len = c.requires }
 
-pub returns-in-Refused : goal.returns-in-Refused
-returns-in-Refused c =
-    all_refused c.args.t.now c.args.function c.args.args.now c.args.budget (length c.args.registers.now) c.check_table-v.ensures c.in-Refused.is c.verdict_numbers.ensures c.same_each.ensures
+pub returns-in-Err : goal.returns-in-Err
+returns-in-Err c =
+    all_refused c.args.t.now c.args.function c.args.args.now c.args.budget (length c.args.registers.now) c.check_table.ensures c.in-Err.is c.into.ensures c.same_each.ensures
 
-pub returns-in-Accepted : goal.returns-in-Accepted
-returns-in-Accepted c =
-    all_accepted c.args.t.now c.args.function c.args.args.now c.args.budget (length c.args.registers.now) (run_accepted c.args.t.now c.args.function c.args.args.now c.args.budget (length c.args.registers.now) c.check_table-v.ensures c.in-Accepted.is) c.each_checked.ensures
+pub returns-in-Ok : goal.returns-in-Ok
+returns-in-Ok c =
+    all_accepted c.args.t.now c.args.function c.args.args.now c.args.budget (length c.args.registers.now) (run_accepted c.args.t.now c.args.function c.args.args.now c.args.budget (length c.args.registers.now) c.check_table.ensures c.in-Ok.is) c.each_checked.ensures

@@ -11,7 +11,7 @@ function_count-requires c =
 
 pub returns-then-function_count-function : goal.returns-then-function_count-function
 returns-then-function_count-function c =
-    all_missing c.args.t.now c.args.function c.args.args.now c.args.budget (length c.args.registers.now) (omega (arith, c.function_count.ensures.0, c.if-function_count-function.true)) c.verdict_numbers.ensures c.same_each.ensures
+    all_missing c.args.t.now c.args.function c.args.args.now c.args.budget (length c.args.registers.now) (omega (arith, c.function_count.ensures.0, c.if-function_count-function.true)) c.into.ensures c.same_each.ensures
 
 pub run_all-requires : goal.run_all-requires
 run_all-requires c =

@@ -4,26 +4,11 @@ use native.Mathlib.Omega.{arith}
 use lib.ListN.{length}
 use Rattle.language.specs.Table.{decode}
 use Rattle.language.specs.Answers.{ran_numbers, run_function}
-use Rattle.ial.proofs.EachLaws.{each_more, each_all, run_cells, one_argument}
+use Rattle.ial.proofs.EachLaws.{each_more, each_all, run_cells}
 use Rattle.ial.proofs.many.run_all.Goals as goal
 
 pub loop-k-init : goal.loop-k-init
 loop-k-init c = (omega arith, refl, refl, refl, refl)
-
-pub overflow_add-e : goal.overflow_add-e
-overflow_add-e c = omega arith
-
-pub offset_bounds-args-k : goal.offset_bounds-args-k
-offset_bounds-args-k c = omega arith
-
-pub slice_bounds-run_within-count : goal.slice_bounds-run_within-count
-slice_bounds-run_within-count c = omega arith
-
-pub slice_bounds-run_within-start : goal.slice_bounds-run_within-start
-slice_bounds-run_within-start c = omega arith
-
-pub slice_bounds-run_within-end : goal.slice_bounds-run_within-end
-slice_bounds-run_within-end c = omega arith
 
 pub run_within-r-requires : goal.run_within-r-requires
 run_within-r-requires c =
@@ -32,15 +17,9 @@ run_within-r-requires c =
 pub overflow_mul-k : goal.overflow_mul-k
 overflow_mul-k c = omega arith
 
-pub put_numbers-requires : goal.put_numbers-requires
-put_numbers-requires c =
+pub put-requires : goal.put-requires
+put-requires c =
     omega (arith, c.loop-k.invariant.3, c.requires.out_len)
-
-pub overflow_add-k : goal.overflow_add-k
-overflow_add-k c = omega arith
-
-pub loop-k-smaller : goal.loop-k-smaller
-loop-k-smaller c = omega arith
 
 pub loop-k-preserved : goal.loop-k-preserved
 loop-k-preserved c =
@@ -48,8 +27,8 @@ loop-k-preserved c =
       omega (arith, less),
       c.run_within-r.auto.taken ∙ c.loop-k.invariant.1,
       c.run_within-r.auto.registers ∙ c.loop-k.invariant.2,
-      c.put_numbers.auto.out ∙ c.loop-k.invariant.3,
-      each_more (λ a. ran_numbers (run_function (decode c.args.t.now) c.args.i (a ∷ []) c.args.budget (length c.args.registers.now)).answer) c.args.args.now c.loop-k.out (c.loop-k.invariant.3 ∙ c.requires.out_len) c.loop-k.k (omega (arith, less)) c.loop-k.invariant.4 (c.put_numbers.ensures ∙ run_cells (decode c.args.t.now) c.args.i c.args.budget c.args.args.now c.loop-k.k c.loop-k.out c.run_numbers.ensures c.run_within-r.ensures.answer c.loop-k.invariant.2 (one_argument c.args.args.now c.loop-k.k (omega (arith, less)))),
+      c.put.auto.out ∙ c.loop-k.invariant.3,
+      each_more (λ a. ran_numbers (run_function (decode c.args.t.now) c.args.i (a ∷ []) c.args.budget (length c.args.registers.now)).answer) c.args.args.now c.loop-k.out (c.loop-k.invariant.3 ∙ c.requires.out_len) c.loop-k.k (omega (arith, less)) c.loop-k.invariant.4 (c.put.ensures ∙ run_cells (decode c.args.t.now) c.args.i c.args.budget c.args.args.now c.loop-k.k c.loop-k.out c.from.ensures c.run_within-r.ensures.answer c.loop-k.invariant.2 refl),
     )
 
 pub shape_of-taken : goal.shape_of-taken

@@ -15,6 +15,3 @@ invariant-loop-k l =
     × (length l.registers ≡ length l.initial.registers)
     × (length l.out ≡ length l.initial.out)
     × (take (4 * l.k) l.out ≡ cells_from (λ a. ran_numbers (run_function (decode l.t) l.i (a ∷ []) l.budget (length l.initial.registers)).answer) (take l.k l.args))
-
-abbrev pub decreases-loop-k : goal.decreases-loop-k
-decreases-loop-k l = length l.args - l.k

@@ -10,7 +10,7 @@ use Rattle.ial.proofs.many.run_each.Goals as goal
 
 pub returns-then-not-four_each : goal.returns-then-not-four_each
 returns-then-not-four_each c =
-    (each_short c.args.t.now c.args.function c.args.args.now c.args.budget (length c.args.registers.now) (length c.args.out.now) (sym c.four_each.ensures ∙ not-true c.four_each.result c.if-not-four_each.true-raw) (all_zero _ c.start-then-not-four_each.ensures), all_zero _ c.start.ensures)
+    rw c.refuse.ensures ((each_short c.args.t.now c.args.function c.args.args.now c.args.budget (length c.args.registers.now) (length c.args.out.now) (sym c.four_each.ensures ∙ not-true c.four_each.result c.if-not-four_each.true-raw) (all_zero _ c.start-then-not-four_each.ensures), all_zero _ c.start.ensures))
 
 pub each-requires : goal.each-requires
 each-requires c =

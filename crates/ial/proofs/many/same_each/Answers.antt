@@ -1,6 +1,6 @@
 use mathlib.Core.Path.{refl, ◌∙◌}
 use native.Mathlib.Omega.{arith}
-use Rattle.answers.specs.Numbers.{numbers_of}
+use Rattle.results.specs.Numbers.{numbers_of}
 use Rattle.ial.proofs.EachLaws.{each_more, each_all}
 use Rattle.ial.proofs.many.same_each.Goals as goal
 
@@ -10,20 +10,14 @@ loop-k-init c = (omega arith, refl, refl)
 pub overflow_mul-k : goal.overflow_mul-k
 overflow_mul-k c = omega arith
 
-pub put_numbers-requires : goal.put_numbers-requires
-put_numbers-requires c = omega arith
-
-pub overflow_add-k : goal.overflow_add-k
-overflow_add-k c = omega arith
-
-pub loop-k-smaller : goal.loop-k-smaller
-loop-k-smaller c = omega arith
+pub put-requires : goal.put-requires
+put-requires c = omega arith
 
 pub loop-k-preserved : goal.loop-k-preserved
 loop-k-preserved c = (
   omega arith,
-  c.put_numbers.auto.out ∙ c.loop-k.invariant.1,
-  each_more (λ a. numbers_of c.args.x) c.args.args.now c.loop-k.out (c.loop-k.invariant.1 ∙ c.requires) c.loop-k.k (omega arith) c.loop-k.invariant.2 c.put_numbers.ensures,
+  c.put.auto.out ∙ c.loop-k.invariant.1,
+  each_more (λ a. numbers_of c.args.x) c.args.args.now c.loop-k.out (c.loop-k.invariant.1 ∙ c.requires) c.loop-k.k (omega arith) c.loop-k.invariant.2 c.put.ensures,
 )
 
 pub shape_of-out : goal.shape_of-out

@@ -25,4 +25,4 @@ pub returns-in-Left : goal.returns-in-Left
 returns-in-Left c = sym (ap (ran_in c.args.i) (ended_as c.in-Ended.is c.in-Left.is))
 
 pub returns-in-Stopped : goal.returns-in-Stopped
-returns-in-Stopped c = rw (c.row_place-in-Stopped.ensures, c.from.ensures) (sym (ap (ran_in c.args.i) (ended_as c.in-Ended.is c.in-Stopped.is)))
+returns-in-Stopped c = rw c.row_place-in-Stopped.ensures (sym (ap (ran_in c.args.i) (ended_as c.in-Ended.is c.in-Stopped.is)))

@@ -12,7 +12,7 @@ function_count-requires c =
 
 pub returns-then-function_count-function : goal.returns-then-function_count-function
 returns-then-function_count-function c =
-    run_missing c.args.t.now c.args.function c.args.args.now c.args.budget (length c.args.registers.now) (omega (arith, c.function_count.ensures.0, c.if-function_count-function.true)) c.requires.registers_value
+    rw c.refuse.ensures (run_missing c.args.t.now c.args.function c.args.args.now c.args.budget (length c.args.registers.now) (omega (arith, c.function_count.ensures.0, c.if-function_count-function.true)) c.requires.registers_value)
 
 pub run_within-requires : goal.run_within-requires
 run_within-requires c =

@@ -5,8 +5,5 @@ use lib.ListN.{length, get_or}
 use Rattle.language.specs.Table.{register_type}
 use Rattle.ial.proofs.signature.has_types.Given as goal
 
-abbrev pub invariant-loop-i : goal.invariant-loop-i
-invariant-loop-i l = (l.i ≤ length l.types) × ((k : ℕ) → k < l.i → register_type l.t l.a k ≡ get_or l.types k 0)
-
-abbrev pub decreases-loop-i : goal.decreases-loop-i
-decreases-loop-i l = length l.types - l.i
+abbrev pub invariant-loop-r : goal.invariant-loop-r
+invariant-loop-r l = (l.r ≤ length l.types) × ((k : ℕ) → k < l.r → register_type l.t l.a k ≡ get_or l.types k 0)

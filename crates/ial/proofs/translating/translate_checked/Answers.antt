@@ -16,7 +16,7 @@ function_count-requires c =
 
 pub returns-then-function_count-function : goal.returns-then-function_count-function
 returns-then-function_count-function c =
-    translate_missing c.args.t.now c.args.function (length c.args.out.now) (omega (arith, c.function_count.ensures.0, c.if-function_count-function.true)) c.requires.out_value
+    rw c.refuse.ensures (translate_missing c.args.t.now c.args.function (length c.args.out.now) (omega (arith, c.function_count.ensures.0, c.if-function_count-function.true)) c.requires.out_value)
 
 pub function_at-a-requires : goal.function_at-a-requires
 function_at-a-requires c = omega (arith, c.function_count.ensures.1, c.if-function_count-function.false)
@@ -29,7 +29,7 @@ function_ssa-requires c =
 pub returns-then-function_ssa-ne1 : goal.returns-then-function_ssa-ne1
 returns-then-function_ssa-ne1 c =
     let l : c.args.function < function_count c.args.t.now = omega (arith, c.function_count.ensures.0, c.if-function_count-function.false) in
-    translate_plain c.args.t.now c.args.function (length c.args.out.now) l (λ h. c.if-function_ssa-ne1.true (c.function_ssa.ensures ∙ ap (function_ssa c.args.t.now) c.function_at-a.ensures ∙ h)) c.requires.out_value
+    rw c.refuse-then-function_ssa-ne1.ensures (translate_plain c.args.t.now c.args.function (length c.args.out.now) l (λ h. c.if-function_ssa-ne1.true (c.function_ssa.ensures ∙ ap (function_ssa c.args.t.now) c.function_at-a.ensures ∙ h)) c.requires.out_value)
 
 pub prepare-requires : goal.prepare-requires
 prepare-requires c =
@@ -47,14 +47,14 @@ returns-then-not-fits c =
     let l : c.args.function < function_count c.args.t.now = omega (arith, c.function_count.ensures.0, c.if-function_count-function.false) in
     let marked = sym (c.function_ssa.ensures ∙ ap (function_ssa c.args.t.now) c.function_at-a.ensures) ∙ c.if-function_ssa-ne1.false in
     let fitting = rw c.function_at-a.ensures at c.before.fits.ensures in
-    translate_large c.args.t.now c.args.function (length c.args.out.now) l marked (sym fitting ∙ not-true c.before.fits.result c.if-not-fits.true-raw) c.requires.out_value
+    rw c.refuse-then-not-fits.ensures (translate_large c.args.t.now c.args.function (length c.args.out.now) l marked (sym fitting ∙ not-true c.before.fits.result c.if-not-fits.true-raw) c.requires.out_value)
 
 pub returns-then-out-ne-TABLE_LENGTH : goal.returns-then-out-ne-TABLE_LENGTH
 returns-then-out-ne-TABLE_LENGTH c =
     let l : c.args.function < function_count c.args.t.now = omega (arith, c.function_count.ensures.0, c.if-function_count-function.false) in
     let marked = sym (c.function_ssa.ensures ∙ ap (function_ssa c.args.t.now) c.function_at-a.ensures) ∙ c.if-function_ssa-ne1.false in
     let fitting = rw c.function_at-a.ensures at c.before.before.fits.ensures in
-    translate_other c.args.t.now c.args.function (length c.args.out.now) l marked (sym fitting ∙ not-false c.before.before.fits.result c.if-not-fits.false-raw) c.if-out-ne-TABLE_LENGTH.true c.requires.out_value
+    rw c.refuse-then-out-ne-TABLE_LENGTH.ensures (translate_other c.args.t.now c.args.function (length c.args.out.now) l marked (sym fitting ∙ not-false c.before.before.fits.result c.if-not-fits.false-raw) c.if-out-ne-TABLE_LENGTH.true c.requires.out_value)
 
 pub translate_into-requires : goal.translate_into-requires
 translate_into-requires c =

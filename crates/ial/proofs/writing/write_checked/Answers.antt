@@ -14,12 +14,12 @@ write_table-n-requires c =
 pub returns-then-n-gt-MAX_TEXT : goal.returns-then-n-gt-MAX_TEXT
 returns-then-n-gt-MAX_TEXT c =
     let a = c.args in
-    show_long a.out.now (written (decode a.t.now)) c.write_table-n.ensures (omega arith) (grind arith)
+    rw c.refuse.ensures (show_long a.out.now (written (decode a.t.now)) c.write_table-n.ensures (omega arith) (grind arith))
 
 pub returns-then-out-n : goal.returns-then-out-n
 returns-then-out-n c =
     let a = c.args in
-    show_larger a.out.now (written (decode a.t.now)) c.write_table-n.ensures (omega arith) (omega (arith, c.write_table-n.auto.out)) (grind arith)
+    rw c.refuse-then-out-n.ensures (show_larger a.out.now (written (decode a.t.now)) c.write_table-n.ensures (omega arith) (omega (arith, c.write_table-n.auto.out)) (grind arith))
 
 pub returns : goal.returns
 returns c =

@@ -1,0 +1,17 @@
+-- Each case has the numbers that the definition gives it.
+use Rattle.std.proofs.Common.{ap, sym, ◌∙◌}
+use Rattle.std.specs.Prelude.{ℕ, ⊤}
+use Rattle.std.specs.declared.result.Result.{Result}
+use Rattle.language.specs.Answers.{verdict_numbers}
+use Rattle.answers.specs.declared.reasons.Refusal.{Refusal}
+use Rattle.results.specs.declared.Ran.{Ran}
+use Rattle.results.specs.Cases.{verdict_of}
+use Rattle.results.proofs.figures.AnswerFromResultUnitRefusal.from.Goals as goal
+
+pub returns-in-Ok : goal.returns-in-Ok
+unfolding verdict_numbers
+returns-in-Ok c = sym (ap (λ (x : Result ⊤ Refusal). verdict_numbers (verdict_of x)) c.in-Ok.is)
+
+pub returns-in-Err : goal.returns-in-Err
+unfolding verdict_numbers
+returns-in-Err c = c.into.ensures ∙ sym (ap (λ (x : Result ⊤ Refusal). verdict_numbers (verdict_of x)) c.in-Err.is)
