@@ -18,8 +18,8 @@ use Rattle.decimal.specs.declared.ranges.Meant.{Meant}
 use Rattle.std.specs.Prelude.{Ok}
 use Rattle.std.specs.declared.result.Result.{Result}
 use Rattle.answers.specs.declared.reasons.Refusal.{Refusal}
-use Rattle.results.specs.declared.Ran.{Ran}
-use Rattle.results.specs.Cases.{ran_of}
+use Rattle.answers.specs.declared.Ran.{Ran}
+use Rattle.answers.specs.Cases.{ran_of}
 use Rattle.answer_lines.specs.Lines.{decimal_of, value_written, ran_line}
 
 -- ---- the lowest bits

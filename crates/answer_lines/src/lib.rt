@@ -7,13 +7,12 @@ ghost use Rattle.language.specs.Instructions.{width as width_of};
 ghost use Rattle.language.specs.Listing.{line, refused_line};
 ghost use Rattle.language.specs.Answers.{Ran as Ranᴸ};
 ghost use Rattle.decimal.specs.Writing.{Written};
-ghost use Rattle.results.specs.Cases.{ran_of};
+ghost use Rattle.answers.specs.Cases.{ran_of};
 ghost use Rattle.answers.specs.Reasons.{reason_number, stop_number};
 ghost use Rattle.listing.specs.Lines.{refusal_most};
 ghost use Rattle.answer_lines.specs.Lines.{value_written, ran_line, ran_most};
 
-use answers::{Refusal, Stop};
-use results::Ran;
+use answers::{Ran, Refusal, Stop};
 use decimal::{LINE_FEED, MINUS, of_bits, put_digits};
 use instructions::width;
 use listing::{list_refusal, put_field};

@@ -1,33 +1,37 @@
-// What a call answers: the cases, the four numbers they have at the C boundary, and places. Every crate that answers stands above this one.
+// What a call answers: a `Result` with why it is refused, of a run how it ended, the four numbers of that at the C boundary, and places. Every crate that answers
+// stands above this one.
 #![tactic(auto)]
+
+ghost use Rattle.std.specs.Prelude.{◌≡◌, Err};
 
 mod figures;
 mod places;
 mod reasons;
 
-pub use figures::{Answer, put_numbers, run_numbers, verdict_numbers, write_numbers};
+pub use figures::Answer;
 pub use places::row_place;
 pub use reasons::{Reason, Refusal, Stop};
 
-// What is answered where a table is filled or judged: done, or refused with a number of document 01 and its place.
-#[derive(Clone, Copy)]
-pub enum Verdict {
-    Accepted,
-    Refused(u8, usize),
-}
-
-// What a run answers: a returned value, a return without one, a stop with its number and place, each with the steps taken, or a refusal.
+// How a run ends, each time with the steps taken: with a returned value, by a return without one, or by a stop at a place.
 #[derive(Clone, Copy)]
 pub enum Ran {
-    Returned(u64, u64),
-    Left(u64),
-    Stopped(u8, usize, u64),
-    Refused(u8, usize),
+    Returned {
+        value: u64,
+        steps: u64,
+    },
+    Left {
+        steps: u64,
+    },
+    Stopped {
+        stop: Stop,
+        place: usize,
+        steps: u64,
+    },
 }
 
-// What writing answers: the text's length, or a refusal with its number and place.
-#[derive(Clone, Copy)]
-pub enum Wrote {
-    Wrote(usize),
-    Refused(u8, usize),
+// A refusal for this reason, at this place.
+pub fn refuse<T>(reason: Reason, place: usize) -> Result<T, Refusal>
+    ensures { result ≡ Err (record { reason = reason; place = place }) }
+{
+    Err(Refusal { reason, place })
 }

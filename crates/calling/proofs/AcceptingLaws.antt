@@ -20,8 +20,8 @@ use Rattle.std.specs.Prelude.{⊤, Ok, Err}
 use Rattle.std.specs.declared.result.Result.{Result}
 use Rattle.answers.specs.declared.reasons.Refusal.{Refusal}
 use Rattle.answers.specs.Reasons.{reason_number}
-use Rattle.results.specs.Cases.{verdict_of}
-use Rattle.results.specs.Lent.{filled_of}
+use Rattle.answers.specs.Cases.{verdict_of}
+use Rattle.answers.specs.Lent.{filled_of}
 use Rattle.listing.specs.Lines.{listing_most}
 use Rattle.answer_lines.specs.Lines.{ran_most}
 use Rattle.calling.specs.Accepting.{acceptance, Accepts}

@@ -16,9 +16,9 @@ use Rattle.language.proofs.TableView.{function_count_law, function_is}
 use Rattle.flow.proofs.Accepted.{accepted_sized, accepted_params}
 use Rattle.std.specs.declared.result.Result.{Result}
 use Rattle.answers.specs.declared.reasons.Refusal.{Refusal}
-use Rattle.results.specs.declared.Ran.{Ran}
-use Rattle.results.specs.Cases.{ran_of}
-use Rattle.results.specs.Lent.{finished_of}
+use Rattle.answers.specs.declared.Ran.{Ran}
+use Rattle.answers.specs.Cases.{ran_of}
+use Rattle.answers.specs.Lent.{finished_of}
 use Rattle.call_words.specs.Words.{function_by_word}
 use Rattle.answer_lines.specs.Lines.{ran_line}
 use Rattle.call_words.specs.Arguments.{Given, first_outside, arguments_of}

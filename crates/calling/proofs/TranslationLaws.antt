@@ -20,7 +20,7 @@ use Rattle.std.specs.Prelude.{⊤, Ok, Err}
 use Rattle.std.specs.declared.result.Result.{Result}
 use Rattle.answers.specs.declared.reasons.Refusal.{Refusal}
 use Rattle.answers.specs.Reasons.{reason_number}
-use Rattle.results.specs.Lent.{filled_of}
+use Rattle.answers.specs.Lent.{filled_of}
 use Rattle.calling.proofs.AcceptingLaws.{table_check}
 use Rattle.calling.specs.Calls.{text_line, translated_line}
 

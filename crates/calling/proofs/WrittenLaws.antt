@@ -17,8 +17,8 @@ use Rattle.std.specs.Prelude.{Ok, Err}
 use Rattle.std.specs.declared.result.Result.{Result}
 use Rattle.answers.specs.declared.reasons.Refusal.{Refusal}
 use Rattle.answers.specs.Reasons.{reason_number}
-use Rattle.results.specs.Cases.{wrote_of}
-use Rattle.results.specs.Lent.{shown_of}
+use Rattle.answers.specs.Cases.{wrote_of}
+use Rattle.answers.specs.Lent.{shown_of}
 use Rattle.calling.specs.Calls.{shown_line, text_line, Prints}
 
 -- A line at the beginning of a buffer that has room for it.

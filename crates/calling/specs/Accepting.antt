@@ -6,7 +6,7 @@ use Rattle.language.specs.Checking.{Verdict as Verdictᴸ, check}
 use Rattle.language.specs.Table.{decode}
 use Rattle.language.specs.Answers.{check_answer}
 use Rattle.answers.specs.declared.reasons.Refusal.{Refusal}
-use Rattle.results.specs.Cases.{verdict_of}
+use Rattle.answers.specs.Cases.{verdict_of}
 
 -- First it is read (1 to 8), then checked whole (9 to 17).
 abbrev pub acceptance : Reading → Verdictᴸ

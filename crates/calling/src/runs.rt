@@ -5,7 +5,7 @@ ghost use Rattle.language.specs.Programs.{no_function, max_registers};
 ghost use Rattle.language.specs.Table.{decode};
 ghost use Rattle.language.specs.Answers.{check_answer, run_function};
 ghost use Rattle.decimal.specs.Writing.{Written};
-ghost use Rattle.results.specs.Cases.{ran_of};
+ghost use Rattle.answers.specs.Cases.{ran_of};
 ghost use Rattle.call_words.specs.Arguments.{given_of};
 ghost use Rattle.calling.specs.Calls.{call_function, run_line, run_printed};
 ghost use Rattle.answer_lines.specs.Lines.{ran_most};

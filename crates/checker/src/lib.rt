@@ -10,14 +10,13 @@ ghost use Rattle.flow.specs.Layout.{flow_length};
 ghost use Rattle.flow.specs.Sized.{Sized};
 ghost use Rattle.rules.specs.Cells.{SsaPrepared};
 ghost use Rattle.paths.specs.Formed.{Formed};
-ghost use Rattle.results.specs.Cases.{verdict_of};
+ghost use Rattle.answers.specs.Cases.{verdict_of};
 ghost use Rattle.checker.specs.Parts.{table_names_before};
 
 mod forms;
 mod sound;
 
-use answers::{Reason, Refusal, row_place};
-use results::refuse;
+use answers::{Reason, Refusal, refuse, row_place};
 use flow::FLOW_LENGTH;
 use forms::{note_blocks, prepare_ssa};
 use paths::first_late;

@@ -12,7 +12,7 @@ use Rattle.theorems.proofs.NoRefusal.{checked_is_0, translated_is_0}
 use Rattle.theorems.proofs.StopNumbers.{answered_is_43, never_27}
 use Rattle.theorems.proofs.OverTables.{demand3_over_tables, runs_over_tables, Tells, runs_told}
 use Rattle.std.specs.Prelude.{Ok}
-use Rattle.results.specs.Lent.{filled_of}
+use Rattle.answers.specs.Lent.{filled_of}
 use Rattle.ial.proofs.Known.{verdict_known}
 use Rattle.ial.specs.Demand.{Demand3OfCalls, Demand3OfSymbols, SymbolChecked, CallTranslated, SymbolTranslated, Call43, Symbol43, CallNever27, SymbolNever27}
 

@@ -20,8 +20,8 @@ use Rattle.std.specs.declared.result.Result.{Result}
 use Rattle.answers.specs.declared.reasons.Refusal.{Refusal}
 use Rattle.answers.specs.declared.reasons.Reason.TheVariants as reasons
 use Rattle.answers.specs.Reasons.{reason_number}
-use Rattle.results.specs.Cases.{verdict_of}
-use Rattle.results.specs.Lent.{listed_of}
+use Rattle.answers.specs.Cases.{verdict_of}
+use Rattle.answers.specs.Lent.{listed_of}
 use Rattle.ial.specs.Runs.{cells_from}
 use Rattle.ial.proofs.RunLaws.{run_missing}
 

@@ -8,8 +8,8 @@ use Rattle.theorems.proofs.TableIgnored.{answers_ignore_unneeded}
 use Rattle.std.specs.Prelude.{⊤}
 use Rattle.std.specs.declared.result.Result.{Result}
 use Rattle.answers.specs.declared.reasons.Refusal.{Refusal}
-use Rattle.results.specs.declared.Ran.{Ran}
-use Rattle.results.specs.Lent.{filled_of, finished_of, listed_of, shown_of}
+use Rattle.answers.specs.declared.Ran.{Ran}
+use Rattle.answers.specs.Lent.{filled_of, finished_of, listed_of, shown_of}
 use Rattle.ial.specs.Ignored.{IgnoredInCalls}
 use Rattle.ial.proofs.Known.{verdict_known, ran_known, wrote_known}
 

@@ -12,10 +12,10 @@ use Rattle.answers.specs.declared.reasons.Reason.TheVariants as reasons
 use Rattle.answers.specs.declared.reasons.Stop.{Stop}
 use Rattle.answers.specs.declared.reasons.Stop.TheVariants as stops
 use Rattle.answers.specs.declared.reasons.Refusal.{Refusal}
-use Rattle.results.specs.declared.Ran.{Ran}
-use Rattle.results.specs.declared.Ran.TheVariants as rans
+use Rattle.answers.specs.declared.Ran.{Ran}
+use Rattle.answers.specs.declared.Ran.TheVariants as rans
 use Rattle.answers.specs.Reasons.{reason_number, stop_number}
-use Rattle.results.specs.Cases.{verdict_of, ran_of, wrote_of}
+use Rattle.answers.specs.Cases.{verdict_of, ran_of, wrote_of}
 
 -- ---- a reason and a stop by their numbers
 

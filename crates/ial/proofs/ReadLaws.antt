@@ -14,7 +14,7 @@ use Rattle.std.specs.declared.result.Result.{Result}
 use Rattle.answers.specs.declared.reasons.Refusal.{Refusal}
 use Rattle.answers.specs.declared.reasons.Reason.TheVariants as reasons
 use Rattle.answers.specs.Reasons.{reason_number}
-use Rattle.results.specs.Lent.{filled_of}
+use Rattle.answers.specs.Lent.{filled_of}
 use Rattle.reader.specs.Text.{ToldOf, JudgedAs}
 use Rattle.drafts.specs.declared.state.Fault.{Fault}
 use Rattle.ial.specs.Verdicts.{Into, Aside}

@@ -24,10 +24,10 @@ use Rattle.machine.specs.declared.runs.Run.{Run}
 use Rattle.machine.specs.declared.runs.Run.TheVariants as runs
 use Rattle.answers.specs.declared.reasons.Refusal.{Refusal}
 use Rattle.answers.specs.declared.reasons.Reason.TheVariants as reasons
-use Rattle.results.specs.declared.Ran.{Ran}
+use Rattle.answers.specs.declared.Ran.{Ran}
 use Rattle.answers.specs.Reasons.{reason_number}
-use Rattle.results.specs.Cases.{verdict_of, ran_of}
-use Rattle.results.specs.Lent.{finished_of}
+use Rattle.answers.specs.Cases.{verdict_of, ran_of}
+use Rattle.answers.specs.Lent.{finished_of}
 use Rattle.ial.specs.Runs.{stop_place, RunsTo}
 
 -- ---- the registers at first

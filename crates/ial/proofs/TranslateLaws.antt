@@ -19,8 +19,8 @@ use Rattle.std.specs.declared.result.Result.{Result}
 use Rattle.answers.specs.declared.reasons.Refusal.{Refusal}
 use Rattle.answers.specs.declared.reasons.Reason.TheVariants as reasons
 use Rattle.answers.specs.Reasons.{reason_number}
-use Rattle.results.specs.Cases.{verdict_of}
-use Rattle.results.specs.Lent.{filled_of}
+use Rattle.answers.specs.Cases.{verdict_of}
+use Rattle.answers.specs.Lent.{filled_of}
 use Rattle.flow.proofs.Accepted.{accepted_sized, accepted_clean}
 
 module _ (t : List ℕ) (i n : ℕ) where

@@ -18,8 +18,8 @@ use Rattle.std.specs.Prelude.{⊤, Ok, Err}
 use Rattle.std.specs.declared.result.Result.{Result}
 use Rattle.answers.specs.declared.reasons.Refusal.{Refusal}
 use Rattle.answers.specs.declared.reasons.Reason.TheVariants as reasons
-use Rattle.results.specs.Cases.{verdict_of}
-use Rattle.results.specs.Lent.{shown_of}
+use Rattle.answers.specs.Cases.{verdict_of}
+use Rattle.answers.specs.Lent.{shown_of}
 
 module _ (t : List ℕ) (n : ℕ) where
   pub write_refused : {v : Result ⊤ Refusal} {e : Refusal} {z : List ℕ} → verdict_of v ≡ check_answer t → v ≡ Err e → z ≡ zeros n

@@ -4,11 +4,11 @@ use Rattle.std.specs.Prelude.{◌≡◌, Bool, cond, List, ℕ, ⊤}
 use Rattle.std.specs.declared.result.Result.{Result}
 use Rattle.language.specs.Answers.{zeros, read_answer, check_answer, signature_answer, run_answer, run_each_answer, translate_answer, write_answer, verdict_numbers, ran_numbers, wrote_numbers}
 use Rattle.answers.specs.declared.reasons.Refusal.{Refusal}
-use Rattle.results.specs.declared.Ran.{Ran}
-use Rattle.results.specs.declared.figures.Answer.{Answer}
-use Rattle.results.specs.Cases.{verdict_of}
-use Rattle.results.specs.Numbers.{numbers_of}
-use Rattle.results.specs.Lent.{filled_of, finished_of, listed_of, shown_of}
+use Rattle.answers.specs.declared.Ran.{Ran}
+use Rattle.answers.specs.declared.figures.Answer.{Answer}
+use Rattle.answers.specs.Cases.{verdict_of}
+use Rattle.answers.specs.Numbers.{numbers_of}
+use Rattle.answers.specs.Lent.{filled_of, finished_of, listed_of, shown_of}
 
 -- `read` with a text and a lent table of n cells answered r and left the table as `out`.
 abbrev pub ReadCalled : (text : List ℕ) (n : ℕ) (r : Result ⊤ Refusal) (out : List ℕ) → Type 0

@@ -10,12 +10,12 @@ use Rattle.language.specs.Answers.{Answer as Answerᴸ, verdict_numbers, ran_num
 use Rattle.theorems.specs.OverTables.{function_in_table, TranslatableIn, Translated, RunsAgree}
 use Rattle.answers.specs.declared.reasons.Refusal.{Refusal}
 use Rattle.answers.specs.declared.reasons.Stop.TheVariants as stops
-use Rattle.results.specs.declared.Ran.{Ran}
-use Rattle.results.specs.declared.Ran.TheVariants as rans
-use Rattle.results.specs.declared.figures.Answer.{Answer}
-use Rattle.results.specs.Cases.{ran_of}
-use Rattle.results.specs.Numbers.{numbers_of}
-use Rattle.results.specs.Lent.{filled_of}
+use Rattle.answers.specs.declared.Ran.{Ran}
+use Rattle.answers.specs.declared.Ran.TheVariants as rans
+use Rattle.answers.specs.declared.figures.Answer.{Answer}
+use Rattle.answers.specs.Cases.{ran_of}
+use Rattle.answers.specs.Numbers.{numbers_of}
+use Rattle.answers.specs.Lent.{filled_of}
 use Rattle.ial.specs.Calls.{CheckCalled, RunCalled, TranslateCalled, CheckLinked, RunLinked, TranslateLinked}
 
 -- What holds of a call of `translate` that demand 3 speaks of, and of every call of `check` and `run` on its output: runs on arguments that fit,

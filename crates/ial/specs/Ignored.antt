@@ -5,7 +5,7 @@ use Rattle.std.specs.Prelude.{◌≡◌, Bool, List, ℕ, ⊤}
 use Rattle.std.specs.declared.result.Result.{Result}
 use Rattle.theorems.specs.TableNeeds.{Agree}
 use Rattle.answers.specs.declared.reasons.Refusal.{Refusal}
-use Rattle.results.specs.declared.Ran.{Ran}
+use Rattle.answers.specs.declared.Ran.{Ran}
 use Rattle.ial.specs.Calls.{CheckCalled, SignatureCalled, RunCalled, RunEachCalled, TranslateCalled, WriteCalled}
 
 -- Two calls, one on table t and one on table u and otherwise alike, answer the same and leave the same in what was lent.

@@ -6,7 +6,7 @@ use Rattle.std.specs.declared.result.Result.{Result}
 use Rattle.laws.specs.Sections.{Bytes}
 use Rattle.theorems.specs.Predecessors.{ListsRight}
 use Rattle.answers.specs.declared.reasons.Refusal.{Refusal}
-use Rattle.results.specs.declared.figures.Answer.{Answer}
+use Rattle.answers.specs.declared.figures.Answer.{Answer}
 use Rattle.ial.specs.Calls.{ReadCalled, CheckCalled, TranslateCalled, ReadLinked, CheckLinked, TranslateLinked}
 
 -- Whatever was lent to `read` or `translate` has right lists after the call, and so has a table that `check` accepts.

@@ -8,10 +8,10 @@ use Rattle.language.specs.MadeNames.{named, written}
 use Rattle.language.specs.Answers.{zeros, fill, verdict_numbers}
 use Rattle.theorems.specs.RoundTrip.{filled_table, TranslatedAsText}
 use Rattle.answers.specs.declared.reasons.Refusal.{Refusal}
-use Rattle.results.specs.declared.Ran.{Ran}
-use Rattle.results.specs.declared.figures.Answer.{Answer}
-use Rattle.results.specs.Numbers.{numbers_of}
-use Rattle.results.specs.Lent.{filled_of}
+use Rattle.answers.specs.declared.Ran.{Ran}
+use Rattle.answers.specs.declared.figures.Answer.{Answer}
+use Rattle.answers.specs.Numbers.{numbers_of}
+use Rattle.answers.specs.Lent.{filled_of}
 use Rattle.ial.specs.Demand.{no_refusal}
 use Rattle.ial.specs.Calls.{ReadCalled, CheckCalled, RunCalled, TranslateCalled, WriteCalled}
 use Rattle.ial.specs.Calls.{ReadLinked, CheckLinked, RunLinked, TranslateLinked, WriteLinked}

@@ -4,9 +4,9 @@ use Rattle.std.specs.declared.result.Result.{Result}
 use Rattle.laws.specs.Lists.{gather}
 use Rattle.language.specs.Programs.{Program}
 use Rattle.language.specs.Answers.{Answer, Ran as Ranᴸ, zeros, number_cells, run_function}
-use Rattle.results.specs.declared.Ran.{Ran}
+use Rattle.answers.specs.declared.Ran.{Ran}
 use Rattle.answers.specs.declared.reasons.Refusal.{Refusal}
-use Rattle.results.specs.Cases.{ran_of}
+use Rattle.answers.specs.Cases.{ran_of}
 
 -- The place of a stop, 0 for other answers.
 abbrev pub stop_place : Ranᴸ → ℕ

@@ -7,7 +7,7 @@ use Rattle.language.specs.Reading.{Reading}
 use Rattle.language.specs.Answers.{filled_from, zeros}
 use Rattle.answers.specs.declared.reasons.Refusal.{Refusal}
 use Rattle.answers.specs.Reasons.{reason_number}
-use Rattle.results.specs.Lent.{filled_of}
+use Rattle.answers.specs.Lent.{filled_of}
 
 -- A text read into a table: its answer, or the table of its program. A refusal leaves cells to be zeroed.
 pub data Into (t : List ℕ) : Reading → Result ⊤ Refusal → Type 0 where

@@ -3,7 +3,7 @@ ghost use Rattle.std.specs.Prelude.{length};
 ghost use Rattle.ial.specs.Calls.{ReadLinked, CheckLinked, SignatureLinked, RunLinked, RunEachLinked, TranslateLinked, WriteLinked};
 
 use crate::{check, has_signature, read, run, run_each, translate, write};
-use results::Answer;
+use answers::Answer;
 
 // Reads a text into a lent table: 1 to 8, and 22 last. After a refusal the table is all zero.
 #[unsafe(no_mangle)]

@@ -25,12 +25,11 @@ ghost use Rattle.ial.specs.Verdicts.{Into, Aside};
 ghost use Rattle.ial.specs.Calls.{ReadCalled, CheckCalled};
 ghost use Rattle.language.specs.Programs.{max_text};
 
-pub use answers::{Reason, Refusal, Stop};
+pub use answers::{Answer, Ran, Reason, Refusal, Stop, refuse};
 use checker::check_table;
 pub use instructions::types;
 use numbers::zero;
 use reader::{judge_text, read_text};
-pub use results::{Answer, Ran, refuse};
 pub use table::{MAX_TEXT, TABLE_LENGTH};
 
 // The text read into a table of the right length that is all zero.

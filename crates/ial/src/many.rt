@@ -4,15 +4,14 @@ ghost use Rattle.std.specs.Prelude.{◌≡◌, [], ◌∷◌, ◌*◌, ◌<◌, 
 ghost use Rattle.language.specs.Checking.{Verdict as Verdictᴸ};
 ghost use Rattle.language.specs.Table.{function_count, decode};
 ghost use Rattle.language.specs.Answers.{check_answer, ran_numbers, run_function, run_each};
-ghost use Rattle.results.specs.Numbers.{numbers_of};
+ghost use Rattle.answers.specs.Numbers.{numbers_of};
 ghost use Rattle.ial.specs.Runs.{cells_from};
 ghost use Rattle.ial.specs.Calls.{RunEachCalled};
 
 use crate::running::run_within;
-use answers::{Reason, Refusal};
+use answers::{Answer, Reason, Refusal, refuse};
 use checker::check_table;
 use machine::{STAGED, start};
-use results::{Answer, refuse};
 use table::function_count;
 
 // One answer for every argument.

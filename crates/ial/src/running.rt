@@ -4,16 +4,15 @@ ghost use Rattle.language.specs.Checking.{Verdict as Verdictᴸ};
 ghost use Rattle.language.specs.Table.{function_count, decode};
 ghost use Rattle.language.specs.Answers.{zeros, check_answer, run_function};
 ghost use Rattle.machine.specs.Runs.{ran_in};
-ghost use Rattle.results.specs.Cases.{ran_of};
-ghost use Rattle.results.specs.Lent.{finished_of};
+ghost use Rattle.answers.specs.Cases.{ran_of};
+ghost use Rattle.answers.specs.Lent.{finished_of};
 ghost use Rattle.ial.specs.Runs.{stop_place, RunsTo};
 ghost use Rattle.ial.specs.Calls.{RunCalled};
 
-use answers::{Reason, Refusal, Stop, row_place};
+use answers::{Ran, Reason, Refusal, Stop, refuse, row_place};
 use checker::check_table;
 use interpreter::run_on;
 use machine::{Outcome, Run, STAGED, first_unfit, start};
-use results::{Ran, refuse};
 use table::{function_at, function_count, function_params, register_count};
 
 // The answer of a run of function i: 43, "budget used up" where it is still going.

@@ -3,14 +3,13 @@ ghost use Rattle.std.specs.Prelude.{◌≡◌, length};
 ghost use Rattle.language.specs.Checking.{Verdict as Verdictᴸ};
 ghost use Rattle.language.specs.Table.{decode};
 ghost use Rattle.language.specs.Answers.{zeros, check_answer, translate_function};
-ghost use Rattle.results.specs.Lent.{filled_of};
+ghost use Rattle.answers.specs.Lent.{filled_of};
 ghost use Rattle.ial.specs.Calls.{TranslateCalled};
 
-use answers::{Reason, Refusal};
+use answers::{Reason, Refusal, refuse};
 use checker::check_table;
 use flow::{FLOW_LENGTH, prepare};
 use numbers::zero;
-use results::refuse;
 use table::{TABLE_LENGTH, function_at, function_count, function_ssa};
 use translator::{fits, translate_into};
 

@@ -4,13 +4,12 @@ ghost use Rattle.language.specs.Checking.{Verdict as Verdictᴸ};
 ghost use Rattle.language.specs.Table.{decode};
 ghost use Rattle.language.specs.MadeNames.{written};
 ghost use Rattle.language.specs.Answers.{check_answer, show};
-ghost use Rattle.results.specs.Lent.{shown_of};
+ghost use Rattle.answers.specs.Lent.{shown_of};
 ghost use Rattle.ial.specs.Calls.{WriteCalled};
 
-use answers::{Reason, Refusal};
+use answers::{Reason, Refusal, refuse};
 use checker::check_table;
 use numbers::zero;
-use results::refuse;
 use table::MAX_TEXT;
 use writer::write_table;
 

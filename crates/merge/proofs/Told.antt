@@ -22,8 +22,8 @@ use Rattle.records.specs.Limits.{limit_answer, judged_test}
 use Rattle.records.specs.Answers.{MergedStore, unchanged, kept, kept_as, Kept, emptied, IfLent, Allowed, RecordMerged, StoreJoined}
 use Rattle.records.proofs.Merging.{joined_is}
 use Rattle.records.proofs.Cells.{empty_zeros, held_records}
-use Rattle.results.specs.declared.figures.Answer.{Answer}
-use Rattle.results.specs.Numbers.{numbers_of}
+use Rattle.answers.specs.declared.figures.Answer.{Answer}
+use Rattle.answers.specs.Numbers.{numbers_of}
 use Rattle.ial.specs.Calls.{CheckLinked}
 use Rattle.ial.proofs.Demand.{symbol_checked}
 use Rattle.merge.specs.declared.figures.Merged.{Merged}

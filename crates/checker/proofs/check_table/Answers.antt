@@ -5,7 +5,7 @@ use native.Mathlib.Omega.{arith}
 use lib.ListN.{length-replicate}
 use Rattle.std.proofs.lemmas.Result.{err_from_is_err_and}
 use Rattle.flow.specs.Layout.{flow_length}
-use Rattle.results.specs.Cases.{verdict_of}
+use Rattle.answers.specs.Cases.{verdict_of}
 use Rattle.checker.proofs.Order.{judged_from, other_length, too_many, start, goes_on, ends, all_judged}
 use Rattle.checker.proofs.check_table.Goals as goal
 

@@ -1,6 +1,6 @@
 -- `function_in`: none in a table that its check refuses.
 use mathlib.Core.Path.{refl, sym, ap, ◌∙◌}
-use Rattle.results.specs.Cases.{verdict_of}
+use Rattle.answers.specs.Cases.{verdict_of}
 use Rattle.calling.specs.Calls.{function_meant}
 use Rattle.calling.proofs.AcceptingLaws.{accepted_table}
 use Rattle.calling.proofs.words.function_in.Goals as goal

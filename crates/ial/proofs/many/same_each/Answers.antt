@@ -1,6 +1,6 @@
 use mathlib.Core.Path.{refl, ◌∙◌}
 use native.Mathlib.Omega.{arith}
-use Rattle.results.specs.Numbers.{numbers_of}
+use Rattle.answers.specs.Numbers.{numbers_of}
 use Rattle.ial.proofs.EachLaws.{each_more, each_all}
 use Rattle.ial.proofs.many.same_each.Goals as goal
 

@@ -2,7 +2,7 @@
 use mathlib.Core.Path.{◌≡◌}
 use Prim.Native.Nat.{◌-◌, ◌*◌, ◌≤◌}
 use lib.ListN.{length, take}
-use Rattle.results.specs.Numbers.{numbers_of}
+use Rattle.answers.specs.Numbers.{numbers_of}
 use Rattle.ial.specs.Runs.{cells_from}
 use Rattle.ial.proofs.many.same_each.Given as goal
 

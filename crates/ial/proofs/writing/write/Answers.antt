@@ -1,7 +1,7 @@
 -- `write`: the table is checked whole; then its text is written.
 use mathlib.Core.Path.{sym, ap, ◌∙◌}
 use lib.ListN.{length}
-use Rattle.results.specs.Cases.{verdict_of}
+use Rattle.answers.specs.Cases.{verdict_of}
 use Rattle.ial.proofs.WriteLaws.{write_refused, write_on}
 use Rattle.ial.proofs.writing.write.Goals as goal
 

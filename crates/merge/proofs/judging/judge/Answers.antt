@@ -4,8 +4,8 @@ use mathlib.Core.Path.{refl, ap, ◌∙◌}
 use lib.Dec.{eqb}
 use Rattle.std.proofs.lemmas.Result.{err_from_is_err_and}
 use Rattle.std.specs.Prelude.{Ok}
-use Rattle.results.specs.declared.Ran.{Ran}
-use Rattle.results.specs.Cases.{ran_of}
+use Rattle.answers.specs.declared.Ran.{Ran}
+use Rattle.answers.specs.Cases.{ran_of}
 use Rattle.merge.proofs.JudgingLaws.{ruled_other, ruled_ran, ruled_refused, failed_value}
 use Rattle.merge.proofs.judging.judge.Goals as goal
 

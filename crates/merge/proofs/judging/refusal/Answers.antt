@@ -1,6 +1,6 @@
 -- `refusal`: the check's answer, or 61.
 use mathlib.Core.Path.{sym, ap, ◌∙◌}
-use Rattle.results.specs.Cases.{verdict_of}
+use Rattle.answers.specs.Cases.{verdict_of}
 use Rattle.merge.specs.Rulings.{refused_by}
 use Rattle.merge.proofs.judging.refusal.Goals as goal
 

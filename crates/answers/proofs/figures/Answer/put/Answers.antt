@@ -4,7 +4,7 @@ use native.Mathlib.Numerals.{add-one, add-two, add-three}
 use native.Mathlib.Omega.{arith}
 use lib.ListN.{length-set}
 use Rattle.language.specs.Answers.{number_cells}
-use Rattle.results.proofs.figures.Answer.put.Goals as goal
+use Rattle.answers.proofs.figures.Answer.put.Goals as goal
 
 pub bounds-out-k-2 : goal.bounds-out-k-2
 bounds-out-k-2 c = simp length-set (omega arith)

@@ -4,9 +4,9 @@ use Rattle.std.specs.Prelude.{ℕ, ⊤}
 use Rattle.std.specs.declared.result.Result.{Result}
 use Rattle.language.specs.Answers.{wrote_numbers}
 use Rattle.answers.specs.declared.reasons.Refusal.{Refusal}
-use Rattle.results.specs.declared.Ran.{Ran}
-use Rattle.results.specs.Cases.{wrote_of}
-use Rattle.results.proofs.figures.AnswerFromResultUsizeRefusal.from.Goals as goal
+use Rattle.answers.specs.declared.Ran.{Ran}
+use Rattle.answers.specs.Cases.{wrote_of}
+use Rattle.answers.proofs.figures.AnswerFromResultUsizeRefusal.from.Goals as goal
 
 pub returns-in-Ok : goal.returns-in-Ok
 unfolding wrote_numbers

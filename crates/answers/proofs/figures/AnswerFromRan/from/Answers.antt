@@ -2,9 +2,9 @@
 use Rattle.std.proofs.Common.{ap, sym, ◌∙◌}
 use Rattle.std.specs.Prelude.{Ok}
 use Rattle.language.specs.Answers.{Answer, ran_numbers}
-use Rattle.results.specs.declared.Ran.{Ran}
-use Rattle.results.specs.Cases.{ran_of}
-use Rattle.results.proofs.figures.AnswerFromRan.from.Goals as goal
+use Rattle.answers.specs.declared.Ran.{Ran}
+use Rattle.answers.specs.Cases.{ran_of}
+use Rattle.answers.proofs.figures.AnswerFromRan.from.Goals as goal
 
 abbrev numbers : Ran → Answer
 numbers x = ran_numbers (ran_of (Ok x))

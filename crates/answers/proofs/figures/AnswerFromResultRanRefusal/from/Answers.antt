@@ -3,9 +3,9 @@ use Rattle.std.proofs.Common.{ap, sym, ◌∙◌}
 use Rattle.std.specs.declared.result.Result.{Result}
 use Rattle.language.specs.Answers.{Answer, ran_numbers}
 use Rattle.answers.specs.declared.reasons.Refusal.{Refusal}
-use Rattle.results.specs.declared.Ran.{Ran}
-use Rattle.results.specs.Cases.{ran_of}
-use Rattle.results.proofs.figures.AnswerFromResultRanRefusal.from.Goals as goal
+use Rattle.answers.specs.declared.Ran.{Ran}
+use Rattle.answers.specs.Cases.{ran_of}
+use Rattle.answers.proofs.figures.AnswerFromResultRanRefusal.from.Goals as goal
 
 abbrev numbers : Result Ran Refusal → Answer
 numbers r = ran_numbers (ran_of r)
