@@ -5,18 +5,20 @@ ghost use Rattle.std.specs.Prelude.{◌≡◌, ◌↔◌, ◌≤◌, IfOk, IfErr
 ghost use Rattle.std.specs.Str.{IsUtf8};
 ghost use Rattle.std.specs.IoError.{error_kind};
 
+mod named;
 mod why;
 mod words;
 
 use std::io::{ErrorKind, Read};
 use std::rt::Files;
 use std::{fs, io};
-pub use why::say_why;
-pub use words::{word, word_count};
+pub use named::{LoadError, load_word};
+pub use why::{say, say_why};
+pub use words::{WORD, word, word_count};
 
 // One read into the room from byte n on: how many bytes there are then.
 fn read_more<R: Read>(file: &mut R, room: &mut [u8], n: usize) -> io::Result<usize>
-    requires { (n ≤ length room.old) × (length room.old ≤ 65537) }
+    requires { n ≤ length room.old }
     ensures { IfOk result (λ m. (n ≤ m) × (m ≤ length room.old)) }
 {
     let got = file.read(&mut room[n..])?;
@@ -25,7 +27,6 @@ fn read_more<R: Read>(file: &mut R, room: &mut [u8], n: usize) -> io::Result<usi
 
 // Reads until the room is full or the file ends, with the same answer.
 fn read_all<R: Read>(file: &mut R, room: &mut [u8]) -> io::Result<usize>
-    requires { length room.old ≤ 65537 }
     ensures { IfOk result (λ n. n ≤ length room.old) }
 {
     let mut n = 0;
@@ -54,7 +55,6 @@ pub fn file_name(path: &[u8]) -> io::Result<&str>
 // The bytes of a file, as many as there is room for, and how many they are; or why it cannot be read to its end or to that of the room: then
 // the room is as long as before, and may hold any bytes.
 pub fn load<R: Files>(files: &R, path: &[u8], room: &mut [u8]) -> io::Result<usize>
-    requires { length room.old ≤ 65537 }
     ensures ok { IfOk result (λ n. n ≤ length room.old) }
     ensures err { OnErr result (length room.new ≡ length room.old) }
 {
@@ -66,8 +66,5 @@ pub fn load<R: Files>(files: &R, path: &[u8], room: &mut [u8]) -> io::Result<usi
 pub fn upto(s: &[u8], n: usize) -> &[u8]
     ensures { result.now ≡ take n s.now }
 {
-    if s.len() < n {
-        return s;
-    }
-    &s[..n]
+    s.get(..n).unwrap_or(s)
 }

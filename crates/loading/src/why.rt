@@ -17,14 +17,19 @@ fn without_number(said: &[u8]) -> &[u8] {
     }
 }
 
+// Says bytes. Where they cannot be written there is nobody to tell.
+pub fn say(to: &impl Print, bytes: &[u8]) {
+    let _ = to.write_all(bytes);
+}
+
 // A line on what fails and why.
 pub fn say_why(to: &impl Print, what: &[u8], why: io::Error) {
     let mut room = [0u8; ROOM];
     let mut said = Cursor::new(&mut room[..]);
     let _ = write!(said, "{why}");
     let n = said.position() as usize;
-    let _ = to.write_all(what);
-    let _ = to.write_all(b": ");
-    let _ = to.write_all(without_number(upto(&room, n)));
-    let _ = to.write_all(b"\n");
+    say(to, what);
+    say(to, b": ");
+    say(to, without_number(upto(&room, n)));
+    say(to, b"\n");
 }

@@ -1,32 +1,29 @@
 // The words of a program's call. Word 0 is the program's name.
-ghost use Rattle.std.specs.Prelude.{◌≤◌, length};
+ghost use Rattle.std.specs.Prelude.{◌≤◌, IfSome, length};
 
 use std::env::{Env, FillError};
 
-// How many bytes word i has, which are put at the start of the room: none where there is no such word or it is longer than the room.
-pub fn word(env: &impl Env, i: usize, room: &mut [u8]) -> usize
-    ensures { result ≤ length room.new }
+// The longest word that Linux hands to a program, its end included: no word is cut.
+pub const WORD: usize = 131072;
+
+// Word i, which is put at the start of the room: none where there is no such word or it is longer than the room.
+pub fn word<'a>(env: &impl Env, i: usize, room: &'a mut [u8]) -> Option<&'a [u8]>
+    ensures { IfSome result (λ w. length w.now ≤ length room.old) }
 {
-    match env.arg(i, room) {
-        Ok(n) => n,
-        Err(_) => 0,
+    match env.arg(i, &mut *room) {
+        Ok(n) => Some(&room[..n]),
+        Err(_) => None,
     }
 }
 
 // Whether there is a word i.
 fn is_word(env: &impl Env, i: usize) -> bool {
-    match env.arg(i, &mut []) {
-        Err(FillError::NotPresent) => false,
-        _ => true,
-    }
+    !matches!(env.arg(i, &mut []), Err(FillError::NotPresent))
 }
 
 // How many words there are.
 pub fn word_count(env: &impl Env) -> usize {
-    for i in 0..usize::MAX {
-        if !is_word(env, i) {
-            return i;
-        }
-    }
-    usize::MAX
+    (0..usize::MAX)
+        .find(|i| !is_word(env, *i))
+        .unwrap_or(usize::MAX)
 }

@@ -1,10 +1,12 @@
 // Files: a store loaded, and replaced whole.
-ghost use Rattle.std.specs.Prelude.{◌≡◌, ◌+◌, ◌≤◌, length};
+ghost use Rattle.std.specs.Prelude.{◌≡◌, length};
 ghost use Rattle.records.specs.Stores.{store_length};
 
-use crate::says::{say, say_empty, say_of};
-use loading::{file_name, load, say_why, upto};
+use crate::STORE;
+use crate::failure::{Failure, say_unsynced};
+use loading::{WORD, file_name, load_word, word};
 use records::STORE_LENGTH;
+use std::env::Env;
 use std::fs::{OpenFile, OpenOptions};
 use std::io::{Error, ErrorKind, Print, Write};
 use std::os::unix::fs::OpenOptionsExt;
@@ -32,83 +34,28 @@ const TRIES: usize = 238328;
 
 const SLASH: u8 = 47;
 
-// Says that a file cannot be read, and why.
-pub(crate) fn say_unread(err: &impl Print, path: &[u8], why: Error) {
-    say(err, b"merge: cannot read ");
-    say_why(err, path, why);
-}
-
-// Loads a file with a message where it cannot be read: as many bytes as there is room for, or one more than there is room for.
-pub(crate) fn load_file(rt: &impl Files, err: &impl Print, path: &[u8], room: &mut [u8]) -> usize
-    requires { length room.old ≤ 65537 }
-    ensures { result ≤ length room.old + 1 }
-{
-    if path.len() == 0 {
-        say_empty(err);
-        return room.len() + 1;
-    }
-    match load(rt, path, room) {
-        Ok(n) => n,
-        Err(why) => {
-            say_unread(err, path, why);
-            room.len() + 1
-        }
-    }
-}
-
-// Loads a file as long as a store, and says whether it is.
-fn load_length(rt: &impl Files, err: &impl Print, path: &[u8], store: &mut [u8]) -> bool
+// Loads the store that word i names.
+pub(crate) fn load_store(rt: &(impl Env + Files), i: usize, store: &mut [u8]) -> Result<(), Failure>
     requires { length store.old ≡ store_length }
 {
     let mut room = [0u8; ROOM];
-    let n = load_file(rt, err, path, &mut room);
-    if ROOM < n {
-        return false;
+    let bytes = load_word(rt, i, &mut room)?;
+    if bytes.len() != STORE_LENGTH {
+        return Err(Failure::OtherLength(i));
     }
-    if n != STORE_LENGTH {
-        say_of(
-            err,
-            b"merge: ",
-            path,
-            b" is no store, which has 40968 bytes; name a store, or begin one: merge new STORE\n",
-        );
-        return false;
-    }
-    store.copy_from_slice(upto(&room, STORE_LENGTH));
-    true
-}
-
-// Loads a store, and says whether it is one.
-pub(crate) fn load_store(rt: &impl Files, err: &impl Print, path: &[u8], store: &mut [u8]) -> bool
-    requires { length store.old ≡ store_length }
-{
-    if !load_length(rt, err, path, store) {
-        return false;
-    }
+    store.copy_from_slice(bytes);
     if is_store(store) {
-        return true;
+        return Ok(());
     }
-    say_of(
-        err,
-        b"merge: ",
-        path,
-        b" is no store, though it is as long as one; take a copy that was kept, or begin one: merge new STORE\n",
-    );
-    false
+    Err(Failure::NoStore(i))
 }
 
-// How many bytes of a path name its directory: up to its last slash, or none.
-fn directory(path: &[u8]) -> usize
-    ensures { result ≤ length path.now }
-{
-    let mut n = path.len();
-    while n > 0 {
-        if path[n - 1] == SLASH {
-            return n;
-        }
-        n -= 1;
+// The directory of a file: its path up to its last slash.
+fn directory_of(path: &[u8]) -> &[u8] {
+    match path.iter().rposition(|b| *b == SLASH) {
+        Some(i) => &path[..=i],
+        None => b".",
     }
-    0
 }
 
 // Waits until a directory's names are on its device.
@@ -117,45 +64,14 @@ fn sync_directory(rt: &impl Files, path: &[u8]) -> io::Result<()> {
     directory.sync_all()
 }
 
-// The directory of a file.
-fn directory_of(path: &[u8]) -> &[u8] {
-    let n = directory(path);
-    if n == 0 {
-        return b".";
-    }
-    upto(path, n)
-}
-
-// Waits until the names of a file's directory are on its device; the file has its new bytes already, and where this fails, a line says so.
-fn sync_name(rt: &impl Files, err: &impl Print, path: &[u8]) {
-    if let Err(why) = sync_directory(rt, directory_of(path)) {
-        say(
-            err,
-            b"merge: the store is replaced, but may be lost if the machine stops soon, as its directory cannot be synced; sync it: ",
-        );
-        say_why(err, path, why);
-    }
-}
-
-// Says that a store stays as it was, and why.
-fn say_kept(err: &impl Print, path: &[u8], why: Error) {
-    say(
-        err,
-        b"merge: nothing was merged, and the store is as it was; see that its directory can be written and has room: ",
-    );
-    say_why(err, path, why);
-}
-
 // Puts letters for the last of a name.
 fn put_letters(rt: &impl RandomSource, name: &mut [u8]) -> io::Result<()> {
     let mut some = [0u8; LAST];
     rt.fill_bytes(&mut some)?;
-    if name.len() < LAST {
-        return Ok(());
-    }
-    let at = name.len() - LAST;
-    for i in 0..LAST {
-        name[at + i] = LETTERS[some[i] as usize % LETTERS.len()];
+    if let Some(at) = name.len().checked_sub(LAST) {
+        for (i, b) in some.iter().enumerate() {
+            name[at + i] = LETTERS[usize::from(*b) % LETTERS.len()];
+        }
     }
     Ok(())
 }
@@ -234,53 +150,35 @@ fn put_new<R: Files + RandomSource>(
     save_as(rt, file, name, path, store)
 }
 
-// The same, with a line where it cannot be done. Says whether it is done.
-fn replace_by(
-    rt: &(impl Files + RandomSource),
-    err: &impl Print,
-    path: &[u8],
-    name: &mut [u8],
-    store: &[u8],
-) -> bool {
-    if let Err(why) = put_new(rt, path, name, store) {
-        say_kept(err, path, why);
-        return false;
+// The name of a new file beside a store's, put at the start of the room: letters are put for the last six. None where it is too long.
+fn put_name<'a>(path: &[u8], room: &'a mut [u8; PATH_MAX]) -> Option<&'a mut [u8]> {
+    let n = path.len();
+    if OWN < n {
+        return None;
     }
-    sync_name(rt, err, path);
-    true
+    room[..n].copy_from_slice(path);
+    room[n..n + 7].copy_from_slice(b".XXXXXX");
+    Some(&mut room[..n + 7])
 }
 
-// The name of a new file beside a store's: letters are put for the last six. How many bytes it has, or 0 where there is no room.
-fn put_name(path: &[u8], name: &mut [u8]) -> usize
-    requires { length name.old ≡ 4096 }
-    ensures { result ≤ length name.new }
-{
-    let k = path.len();
-    if OWN < k {
-        return 0;
-    }
-    name[..k].copy_from_slice(path);
-    name[k..k + 7].copy_from_slice(b".XXXXXX");
-    k + 7
-}
-
-// The same with a name beside the store's.
+// Puts a store in the place of the one that the word STORE names. Then waits until the names of its directory are on its device, with a line
+// where that fails.
 pub(crate) fn replace(
-    rt: &(impl Files + RandomSource),
+    rt: &(impl Env + Files + RandomSource),
     err: &impl Print,
-    path: &[u8],
     store: &[u8],
-) -> bool {
-    let mut name = [0u8; PATH_MAX];
-    let k = put_name(path, &mut name);
-    if k == 0 {
-        say_of(
-            err,
-            b"merge: the name ",
-            path,
-            b" is too long; name the store from its own directory\n",
-        );
-        return false;
+) -> Result<(), Failure> {
+    let mut path = [0u8; WORD];
+    let path = word(rt, STORE, &mut path).unwrap_or(b"");
+    let mut room = [0u8; PATH_MAX];
+    let Some(name) = put_name(path, &mut room) else {
+        return Err(Failure::LongName);
+    };
+    if let Err(why) = put_new(rt, path, name, store) {
+        return Err(Failure::Kept(why));
     }
-    replace_by(rt, err, path, &mut name[..k], store)
+    if let Err(why) = sync_directory(rt, directory_of(path)) {
+        say_unsynced(err, path, why);
+    }
+    Ok(())
 }
