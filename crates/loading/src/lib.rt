@@ -9,10 +9,10 @@ mod named;
 mod why;
 mod words;
 
+pub use named::{LoadError, load_word};
 use std::io::{ErrorKind, Read};
 use std::rt::Files;
 use std::{fs, io};
-pub use named::{LoadError, load_word};
 pub use why::{say, say_why};
 pub use words::{WORD, word, word_count};
 
