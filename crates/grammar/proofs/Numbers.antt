@@ -9,12 +9,10 @@ use borrow.Author.Tests.{not-true, not-false}
 use Rattle.laws.proofs.Tests.{of_true}
 use Rattle.language.specs.Words.{is_type, is_instruction, first_type, first_instruction, instruction_of, word_count}
 use Rattle.language.specs.Instructions.{Operand}
-use Rattle.language.specs.Grammar.{Stage as Stageᴸ, Act as Actᴸ, Move as Moveᴸ, to, wrong_move, after_word, word_alone, word_with_target, after_sources, after_source, after_mention, sources}
+use Rattle.language.specs.Grammar.{Stage as Stageᴸ, Act as Actᴸ, Move as Moveᴸ, to, wrong_move, after_word, word_alone, word_with_target, after_sources, after_source, after_mention, sources, in_operand}
 use Rattle.instructions.specs.Shapes.{operand_number, shape_of}
 use Rattle.instructions.specs.declared.Shape.{Shape}
-use Rattle.grammar.specs.Meaning.{operand_from, operand_is, bracketed_is}
-use Rattle.grammar.specs.declared.Bracketed.{Bracketed}
-use Rattle.std.specs.Prelude.{Option, Some, None}
+use Rattle.grammar.specs.Meaning.{operand_from, bracketed_from, stage_of}
 
 -- What a word is that is found to be a type or an instruction.
 pub type_word : (w : ℕ) (r : Bool) → r ≡ is_type w → r ≡ true → first_type ≤ w
@@ -30,19 +28,17 @@ operand_number_law Operand.registers = refl
 operand_number_law Operand.block = refl
 operand_number_law Operand.blocks = refl
 
-some_operand : (b : Bracketed) → Stageᴸ.operand (bracketed_is b) ≡ after_sources (operand_is (Some b))
-some_operand Bracketed.Number = refl
-some_operand Bracketed.Registers = refl
-some_operand Bracketed.Block = refl
-some_operand Bracketed.Blocks = refl
-
 -- What follows, where there is none more and where there is: as a rule for a stage that is to be it.
 module _ (x : Stageᴸ) where
-  pub after_sources_none : (o : Option Bracketed) → o ≡ None → x ≡ Stageᴸ.instruction_end → x ≡ after_sources (operand_is o)
-  after_sources_none o e p = rw e p
+  pub after_sources_none : (d : ℕ) → d ≡ 0 → x ≡ Stageᴸ.instruction_end → x ≡ after_sources (operand_from d)
+  after_sources_none d e p = rw e p
 
-  pub after_sources_some : (o : Option Bracketed) (b : Bracketed) → o ≡ Some b → x ≡ Stageᴸ.operand (bracketed_is b) → x ≡ after_sources (operand_is o)
-  after_sources_some o b e p = rw e (p ∙ some_operand b)
+  pub after_sources_some : (d : ℕ) → (d ≡ 0 → ⊥) → x ≡ Stageᴸ.operand (bracketed_from d) → x ≡ after_sources (operand_from d)
+  after_sources_some zero n p = absurd (n refl)
+  after_sources_some (suc zero) n p = p
+  after_sources_some (suc (suc zero)) n p = p
+  after_sources_some (suc (suc (suc zero))) n p = p
+  after_sources_some (suc (suc (suc (suc d)))) n p = p
 
   pub after_source_none : (k : ℕ) (o : Operand) → k ≡ 0 → x ≡ after_sources o → x ≡ after_source k o
   after_source_none k o e p = rw e p
@@ -58,9 +54,9 @@ module _ (x : Stageᴸ) where
   sources_more zero o n p = absurd (n refl)
   sources_more (suc k) o n p = p ∙ ap (λ (j : ℕ). Stageᴸ.source j o) (omega arith)
 
-  -- the count and the operand as they are converted
-  pub sources_wide : (k k' : ℕ) (o o' : Operand) → x ≡ sources k o → k ≡ k' → o ≡ o' → x ≡ sources k' o'
-  sources_wide k k' o o' p e f = p ∙ rw (e, f)
+  -- the numbers as they are widened
+  pub sources_wide : (k k' d d' : ℕ) → x ≡ sources k (operand_from d) → k ≡ k' → d ≡ d' → x ≡ sources k' (operand_from d')
+  sources_wide k k' d d' p e f = p ∙ rw (e, f)
 
   pub after_mention_none : (k : ℕ) → k ≡ 0 → x ≡ Stageᴸ.operand_end → x ≡ after_mention k
   after_mention_none k e p = rw e p
@@ -68,6 +64,19 @@ module _ (x : Stageᴸ) where
   pub after_mention_more : (k : ℕ) → (k ≡ 0 → ⊥) → x ≡ Stageᴸ.mention_comma (k - 1) → x ≡ after_mention k
   after_mention_more zero n p = absurd (n refl)
   after_mention_more (suc k) n p = p ∙ ap Stageᴸ.mention_comma (omega arith)
+
+  pub in_operand_law : (d j : ℕ) → d ≡ j → x ≡ in_operand (bracketed_from j) → x ≡ in_operand (bracketed_from d)
+  in_operand_law d j e p = rw e p
+
+  pub in_operand_blocks : (d : ℕ) → (d ≡ 1 → ⊥) → (d ≡ 2 → ⊥) → (d ≡ 3 → ⊥) → x ≡ Stageᴸ.mention 1 → x ≡ in_operand (bracketed_from d)
+  in_operand_blocks zero a b c p = p
+  in_operand_blocks (suc zero) a b c p = absurd (a refl)
+  in_operand_blocks (suc (suc zero)) a b c p = absurd (b refl)
+  in_operand_blocks (suc (suc (suc zero))) a b c p = absurd (c refl)
+  in_operand_blocks (suc (suc (suc (suc d)))) a b c p = p
+
+pub detail_wide : (k m d d' : ℕ) (x : Stageᴸ) → d ≡ d' → stage_of k m d' ≡ x → stage_of k m d ≡ x
+detail_wide k m d d' x e p = ap (stage_of k m) e ∙ p
 
 -- An instruction word, by what it is and by the shape of its instruction.
 module _ (w : ℕ) (r : Bool) (e : r ≡ is_instruction w) where
@@ -103,4 +112,4 @@ module _ (w : ℕ) (r : Bool) (e : r ≡ is_instruction w) where
       pub alone_no : h.target ≡ true → x ≡ wrong_move → x ≡ word_alone w
       alone_no t p = p ∙ sym (alone h q ∙ simp (not-false r n, t))
 
-pub ruleset numbers = (type_word, instruction_word, not-false, after_sources_none, after_sources_some, after_source_none, after_source_more, sources_none, sources_more, sources_wide, after_mention_none, after_mention_more, with_target_none, with_target_yes, with_target_no, alone_none, alone_yes, alone_no)
+pub ruleset numbers = (type_word, instruction_word, not-false, after_sources_none, after_sources_some, after_source_none, after_source_more, sources_none, sources_more, sources_wide, detail_wide, after_mention_none, after_mention_more, in_operand_law, in_operand_blocks, with_target_none, with_target_yes, with_target_no, alone_none, alone_yes, alone_no)

@@ -3,10 +3,9 @@ use Rattle.std.specs.Prelude.{◌≡◌, Bool, true, false, cond, List, [], ◌�
 use Rattle.language.specs.Instructions.{Operand}
 use Rattle.language.specs.Words.{entry_word}
 use Rattle.language.specs.Tokens.{Token as Tokenᴸ}
-use Rattle.language.specs.Grammar.{Bracketed as Bracketedᴸ, Stage as Stageᴸ, Act as Actᴸ, Move as Moveᴸ, to}
+use Rattle.language.specs.Grammar.{Bracketed, Stage as Stageᴸ, Act as Actᴸ, Move as Moveᴸ, to}
 use Rattle.grammar.specs.declared.Token.{Token}
 use Rattle.grammar.specs.declared.Token.TheVariants.{Name, Word, Number, Mark, End}
-use Rattle.grammar.specs.declared.Bracketed.{Bracketed}
 use Rattle.grammar.specs.declared.Stage.{Stage}
 use Rattle.grammar.specs.declared.Act.{Act}
 use Rattle.grammar.specs.declared.Move.{Move}
@@ -42,53 +41,25 @@ spot_of t s = record { name = bytes_of t s.name; large = s.large }
 abbrev pub operand_from : ℕ → Operand
 operand_from k = get_or (Operand.none ∷ Operand.number ∷ Operand.registers ∷ Operand.block ∷ []) k Operand.blocks
 
--- What its parentheses hold.
-abbrev pub bracketed_is : Bracketed → Bracketedᴸ
-bracketed_is Bracketed.Number = Bracketedᴸ.number
-bracketed_is Bracketed.Registers = Bracketedᴸ.registers
-bracketed_is Bracketed.Block = Bracketedᴸ.block
-bracketed_is Bracketed.Blocks = Bracketedᴸ.blocks
+-- What its parentheses hold. No stage before them comes with 0, the operand that is none.
+abbrev pub bracketed_from : ℕ → Bracketed
+bracketed_from k = get_or (Bracketed.blocks ∷ Bracketed.number ∷ Bracketed.registers ∷ Bracketed.block ∷ []) k Bracketed.blocks
 
-abbrev pub operand_is : Option Bracketed → Operand
-operand_is None = Operand.none
-operand_is (Some Bracketed.Number) = Operand.number
-operand_is (Some Bracketed.Registers) = Operand.registers
-operand_is (Some Bracketed.Block) = Operand.block
-operand_is (Some Bracketed.Blocks) = Operand.blocks
+-- The stages in the order of their numbers, but the last; m is how many more come, d a type or an operand.
+abbrev pub stages : (m d : ℕ) → List Stageᴸ
+stages m d =
+    Stageᴸ.top ∷ Stageᴸ.header ∷ Stageᴸ.result ∷ Stageᴸ.function_name
+    ∷ Stageᴸ.parameters ∷ Stageᴸ.first_parameter ∷ Stageᴸ.parameter ∷ Stageᴸ.parameter_end ∷ Stageᴸ.parameter_name d
+    ∷ Stageᴸ.body ∷ Stageᴸ.declarations ∷ Stageᴸ.register_type ∷ Stageᴸ.register_end ∷ Stageᴸ.register_name d
+    ∷ Stageᴸ.blocks ∷ Stageᴸ.block_name ∷ Stageᴸ.block_body ∷ Stageᴸ.first_instruction ∷ Stageᴸ.next_instruction
+    ∷ Stageᴸ.assignment ∷ Stageᴸ.instruction
+    ∷ Stageᴸ.source m (operand_from d) ∷ Stageᴸ.source_comma m (operand_from d)
+    ∷ Stageᴸ.operand (bracketed_from d) ∷ Stageᴸ.number ∷ Stageᴸ.entry ∷ Stageᴸ.entry_end
+    ∷ Stageᴸ.mention m ∷ Stageᴸ.mention_comma m ∷ Stageᴸ.operand_end
+    ∷ []
 
--- A stage holds how many more come, and a type or an operand.
-abbrev pub stage_is : Stage → Stageᴸ
-stage_is Stage.Top = Stageᴸ.top
-stage_is Stage.Header = Stageᴸ.header
-stage_is Stage.Result = Stageᴸ.result
-stage_is Stage.FunctionName = Stageᴸ.function_name
-stage_is Stage.Parameters = Stageᴸ.parameters
-stage_is Stage.FirstParameter = Stageᴸ.first_parameter
-stage_is Stage.Parameter = Stageᴸ.parameter
-stage_is Stage.ParameterEnd = Stageᴸ.parameter_end
-stage_is (Stage.ParameterName t) = Stageᴸ.parameter_name t
-stage_is Stage.Body = Stageᴸ.body
-stage_is Stage.Declarations = Stageᴸ.declarations
-stage_is Stage.RegisterType = Stageᴸ.register_type
-stage_is Stage.RegisterEnd = Stageᴸ.register_end
-stage_is (Stage.RegisterName t) = Stageᴸ.register_name t
-stage_is Stage.Blocks = Stageᴸ.blocks
-stage_is Stage.BlockName = Stageᴸ.block_name
-stage_is Stage.BlockBody = Stageᴸ.block_body
-stage_is Stage.FirstInstruction = Stageᴸ.first_instruction
-stage_is Stage.NextInstruction = Stageᴸ.next_instruction
-stage_is Stage.Assignment = Stageᴸ.assignment
-stage_is Stage.Instruction = Stageᴸ.instruction
-stage_is (Stage.Source k o) = Stageᴸ.source k (operand_is o)
-stage_is (Stage.SourceComma k o) = Stageᴸ.source_comma k (operand_is o)
-stage_is (Stage.Operand b) = Stageᴸ.operand (bracketed_is b)
-stage_is Stage.Number = Stageᴸ.number
-stage_is Stage.Entry = Stageᴸ.entry
-stage_is Stage.EntryEnd = Stageᴸ.entry_end
-stage_is (Stage.Mention k) = Stageᴸ.mention k
-stage_is (Stage.MentionComma k) = Stageᴸ.mention_comma k
-stage_is Stage.OperandEnd = Stageᴸ.operand_end
-stage_is Stage.InstructionEnd = Stageᴸ.instruction_end
+abbrev pub stage_of : (kind more detail : ℕ) → Stageᴸ
+stage_of k m d = get_or (stages m d) k Stageᴸ.instruction_end
 
 abbrev pub act_of : TokenSpot → Act → Actᴸ
 act_of s Act.Wrong = Actᴸ.wrong
@@ -112,6 +83,9 @@ act_of s Act.EndInstruction = Actᴸ.end_instruction
 act_of s Act.EndBlock = Actᴸ.end_block
 act_of s Act.EndFunction = Actᴸ.end_function
 
+abbrev pub stage_is : Stage → Stageᴸ
+stage_is x = stage_of x.kind x.more x.detail
+
 abbrev pub move_of : TokenSpot → Move → Moveᴸ
 move_of s m = to (stage_is m.stage) (act_of s m.act)
 
@@ -119,8 +93,11 @@ move_of s m = to (stage_is m.stage) (act_of s m.act)
 abbrev pub Moves : (Tokenᴸ → Moveᴸ) → Token → Move → Type 0
 Moves g t m = (s : TokenSpot) → move_of (spot_of t s) m ≡ g (token_of s t)
 
-abbrev pub move_to : Stage → Act → Move
-move_to x a = record { stage = x; act = a }
+abbrev pub stage_from : (kind more detail : ℕ) → Stage
+stage_from k m d = record { kind = k; more = m; detail = d }
+
+abbrev pub move_to : ℕ → Act → Move
+move_to k a = record { stage = stage_from k 0 0; act = a }
 
 -- The token is this mark.
 abbrev pub is_mark : ℕ → Token → Bool
@@ -137,3 +114,11 @@ names_block (Word w) = eqb w entry_word
 names_block (Number neg v) = false
 names_block (Mark b) = false
 names_block End = false
+
+-- The token ends the block at a stage of this kind: the one after an instruction.
+abbrev pub ends_block : ℕ → Token → Bool
+ends_block k t = cond (eqb k 18) (is_mark 125 t) false
+
+-- The stage of this kind, where an instruction may stand.
+abbrev pub instruction_at : ℕ → Stageᴸ
+instruction_at k = cond (eqb k 18) Stageᴸ.next_instruction Stageᴸ.first_instruction

@@ -2,66 +2,24 @@
 // is to be done about the token, and a token that may not stand there is `Wrong`.
 #![tactic(auto)]
 
+mod kinds;
+
 ghost use Rattle.std.specs.Prelude.{◌≡◌};
 ghost use Rattle.language.specs.Words.{is_type, is_instruction};
 ghost use Rattle.language.specs.Grammar.{next_move, a_result, word_with_target, word_alone, in_operand, on_mark, on_word, is_word, after_sources, after_source, after_mention, Stage as Stageᴸ, sources as sourcesᴸ};
 ghost use Rattle.grammar.specs.Ready.{is_top};
-ghost use Rattle.grammar.specs.Meaning.{TokenSpot, Moves, move_of, spot_of, token_of, move_to, stage_is, operand_from, operand_is, bracketed_is, is_mark, names_block};
+ghost use Rattle.grammar.specs.Meaning.{TokenSpot, Moves, move_of, spot_of, token_of, move_to, stage_is, stage_from, operand_from, bracketed_from, is_mark, names_block, ends_block, instruction_at};
 
-use instructions::{operands, shape_of, types, words};
+use instructions::{shape_of, types, words};
+use kinds::*;
 
-// What an operand's parentheses hold: a number, a list of registers, one block, two blocks.
+// What comes next: a kind, how many sources or blocks come after the next one, and a type or an operand's number.
+// Kept, speed: as an enum with what it holds reading took up to half as long again (docs/BENCHMARKS.md); three fields of eight bytes leave no gap to copy.
 #[derive(Clone, Copy)]
-pub enum Bracketed {
-    Number,
-    Registers,
-    Block,
-    Blocks,
-}
-
-// What comes next. Types and counts are of eight bytes.
-// Kept, rule: `next_move` is promised for every number that eight bytes hold; a narrower type would ask more of its callers.
-#[derive(Clone, Copy)]
-pub enum Stage {
-    // "A text is any number of functions, none included"
-    Top,
-    // "`function`, optional `ssa`, return type or `void`, name"
-    Header,
-    Result,
-    FunctionName,
-    // "parameters in parentheses (type and name, parted by commas; house rule)": the type of the name to come
-    Parameters,
-    FirstParameter,
-    Parameter,
-    ParameterEnd,
-    ParameterName(u64),
-    // "`{`, register declarations (`register` type name `;`)": the type of the name to come
-    Body,
-    Declarations,
-    RegisterType,
-    RegisterEnd,
-    RegisterName(u64),
-    // "then blocks (`block`, `entry` or a name, `{`, one or more instructions, `}`), `}`"
-    Blocks,
-    BlockName,
-    BlockBody,
-    FirstInstruction,
-    NextInstruction,
-    // "An instruction is optional target and `=`, instruction word"
-    Assignment,
-    Instruction,
-    // "source registers parted by commas": a source or a comma, so many sources more after it, and the operand to come
-    Source(u64, Option<Bracketed>),
-    SourceComma(u64, Option<Bracketed>),
-    // "optional operand in parentheses": a number, a list of registers, a block and so many more after it; "`;`"
-    Operand(Bracketed),
-    Number,
-    Entry,
-    EntryEnd,
-    Mention(u64),
-    MentionComma(u64),
-    OperandEnd,
-    InstructionEnd,
+pub struct Stage {
+    pub kind: u64,
+    pub more: u64,
+    pub detail: u64,
 }
 
 // A token without the bytes of a name, which come beside it. A number: whether it is negative, and its magnitude, unless that is
@@ -107,18 +65,33 @@ pub struct Move {
     pub act: Act,
 }
 
-impl Move {
-    fn to(stage: Stage, act: Act) -> Self
-        ensures { result ≡ move_to stage act }
+impl Stage {
+    fn new(kind: u64, more: u64, detail: u64) -> Self
+        ensures { result ≡ stage_from kind more detail }
     {
-        Self { stage, act }
+        Self { kind, more, detail }
+    }
+}
+
+impl Move {
+    fn to(kind: u64, act: Act) -> Self
+        ensures { result ≡ move_to kind act }
+    {
+        Self {
+            stage: Stage {
+                kind,
+                more: 0,
+                detail: 0,
+            },
+            act,
+        }
     }
 
     // 3: a token that is not allowed here.
     fn wrong() -> Self
-        ensures { result ≡ move_to Stage.Top Act.Wrong }
+        ensures { result ≡ move_to 0 Act.Wrong }
     {
-        Self::to(Stage::Top, Act::Wrong)
+        Self::to(TOP, Act::Wrong)
     }
 }
 
@@ -177,13 +150,9 @@ fn top(token: Token) -> Move
     ensures { Moves (next_move Stageᴸ.top) token result }
 {
     if let Token::End = token {
-        return Move::to(Stage::Top, Act::Pass);
+        return Move::to(TOP, Act::Pass);
     }
-    word(
-        token,
-        words::FUNCTION,
-        Move::to(Stage::Header, Act::BeginFunction),
-    )
+    word(token, words::FUNCTION, Move::to(HEADER, Act::BeginFunction))
 }
 
 // "return type or `void`"
@@ -191,10 +160,10 @@ fn result_word(w: u8) -> Move
     ensures { (s : TokenSpot) → move_of s result ≡ a_result w }
 {
     if w == words::VOID {
-        return Move::to(Stage::FunctionName, Act::SetResult(types::VOID));
+        return Move::to(FUNCTION_NAME, Act::SetResult(types::VOID));
     }
     if is_type(w) {
-        return Move::to(Stage::FunctionName, Act::SetResult(w - words::FIRST_TYPE));
+        return Move::to(FUNCTION_NAME, Act::SetResult(w - words::FIRST_TYPE));
     }
     Move::wrong()
 }
@@ -207,7 +176,7 @@ fn header(token: Token) -> Move
         return Move::wrong();
     };
     if w == words::SSA {
-        return Move::to(Stage::Result, Act::MarkSsa);
+        return Move::to(RESULT, Act::MarkSsa);
     }
     result_word(w)
 }
@@ -229,7 +198,7 @@ fn function_name(token: Token) -> Move
     let Token::Name = token else {
         return Move::wrong();
     };
-    Move::to(Stage::Parameters, Act::NameFunction)
+    Move::to(PARAMETERS, Act::NameFunction)
 }
 
 // "parameters in parentheses (type and name, parted by commas; house rule)": the type.
@@ -240,7 +209,7 @@ fn parameter(token: Token) -> Move
         return Move::wrong();
     };
     if is_type(w) {
-        let stage = Stage::ParameterName(u64::from(w - words::FIRST_TYPE));
+        let stage = Stage::new(PARAMETER_NAME, 0, u64::from(w - words::FIRST_TYPE));
         return Move {
             stage,
             act: Act::BeginRegister,
@@ -254,19 +223,19 @@ fn first_parameter(token: Token) -> Move
     ensures { Moves (next_move Stageᴸ.first_parameter) token result }
 {
     if is_mark(token, b')') {
-        return Move::to(Stage::Body, Act::Pass);
+        return Move::to(BODY, Act::Pass);
     }
     parameter(token)
 }
 
 // A parameter's name.
-fn parameter_name(token: Token, kind: u64) -> Move
-    ensures { Moves (next_move (Stageᴸ.parameter_name kind)) token result }
+fn parameter_name(token: Token, detail: u64) -> Move
+    ensures { Moves (next_move (Stageᴸ.parameter_name detail)) token result }
 {
     let Token::Name = token else {
         return Move::wrong();
     };
-    Move::to(Stage::ParameterEnd, Act::NameRegister(true, kind))
+    Move::to(PARAMETER_END, Act::NameRegister(true, detail))
 }
 
 // A comma or the closing parenthesis.
@@ -274,9 +243,9 @@ fn parameter_end(token: Token) -> Move
     ensures { Moves (next_move Stageᴸ.parameter_end) token result }
 {
     if is_mark(token, b',') {
-        return Move::to(Stage::Parameter, Act::Pass);
+        return Move::to(PARAMETER, Act::Pass);
     }
-    mark(token, b')', Move::to(Stage::Body, Act::Pass))
+    mark(token, b')', Move::to(BODY, Act::Pass))
 }
 
 // "`{`, register declarations (`register` type name `;`)", a block or the end of the function.
@@ -284,16 +253,16 @@ fn declarations(token: Token) -> Move
     ensures { Moves (next_move Stageᴸ.declarations) token result }
 {
     if is_mark(token, b'}') {
-        return Move::to(Stage::Top, Act::EndFunction);
+        return Move::to(TOP, Act::EndFunction);
     }
     let Token::Word(w) = token else {
         return Move::wrong();
     };
     if w == words::REGISTER {
-        return Move::to(Stage::RegisterType, Act::BeginRegister);
+        return Move::to(REGISTER_TYPE, Act::BeginRegister);
     }
     if w == words::BLOCK {
-        return Move::to(Stage::BlockName, Act::BeginBlock);
+        return Move::to(BLOCK_NAME, Act::BeginBlock);
     }
     Move::wrong()
 }
@@ -306,7 +275,7 @@ fn register_type(token: Token) -> Move
         return Move::wrong();
     };
     if is_type(w) {
-        let stage = Stage::RegisterName(u64::from(w - words::FIRST_TYPE));
+        let stage = Stage::new(REGISTER_NAME, 0, u64::from(w - words::FIRST_TYPE));
         return Move {
             stage,
             act: Act::Pass,
@@ -316,13 +285,13 @@ fn register_type(token: Token) -> Move
 }
 
 // A register's name.
-fn register_name(token: Token, kind: u64) -> Move
-    ensures { Moves (next_move (Stageᴸ.register_name kind)) token result }
+fn register_name(token: Token, detail: u64) -> Move
+    ensures { Moves (next_move (Stageᴸ.register_name detail)) token result }
 {
     let Token::Name = token else {
         return Move::wrong();
     };
-    Move::to(Stage::RegisterEnd, Act::NameRegister(false, kind))
+    Move::to(REGISTER_END, Act::NameRegister(false, detail))
 }
 
 // "then blocks (`block`, `entry` or a name, `{`, one or more instructions, `}`), `}`"
@@ -330,13 +299,9 @@ fn blocks(token: Token) -> Move
     ensures { Moves (next_move Stageᴸ.blocks) token result }
 {
     if is_mark(token, b'}') {
-        return Move::to(Stage::Top, Act::EndFunction);
+        return Move::to(TOP, Act::EndFunction);
     }
-    word(
-        token,
-        words::BLOCK,
-        Move::to(Stage::BlockName, Act::BeginBlock),
-    )
+    word(token, words::BLOCK, Move::to(BLOCK_NAME, Act::BeginBlock))
 }
 
 // "`entry` or a name"
@@ -355,42 +320,29 @@ fn block_name(token: Token) -> Move
     ensures { Moves (next_move Stageᴸ.block_name) token result }
 {
     if names_block(token) {
-        return Move::to(Stage::BlockBody, Act::NameBlock);
+        return Move::to(BLOCK_BODY, Act::NameBlock);
     }
     Move::wrong()
 }
 
-// The operand of this number: what its parentheses hold, if there is one.
-fn operand_of(number: u8) -> Option<Bracketed>
-    ensures { operand_is result ≡ operand_from number }
-{
-    match number {
-        operands::NONE => None,
-        operands::NUMBER => Some(Bracketed::Number),
-        operands::REGISTERS => Some(Bracketed::Registers),
-        operands::BLOCK => Some(Bracketed::Block),
-        _ => Some(Bracketed::Blocks),
-    }
-}
-
 // What follows the sources: the operand, or the end.
-fn after_sources(operand: Option<Bracketed>) -> Stage
-    ensures { stage_is result ≡ after_sources (operand_is operand) }
+fn after_sources(operand: u64) -> Stage
+    ensures { stage_is result ≡ after_sources (operand_from operand) }
 {
-    match operand {
-        Some(inside) => Stage::Operand(inside),
-        None => Stage::InstructionEnd,
+    if operand == 0 {
+        return Stage::new(INSTRUCTION_END, 0, 0);
     }
+    Stage::new(OPERAND, 0, operand)
 }
 
 // What follows the instruction word: "Which of these must be present comes from the next section".
-fn after_word(sources: u64, operand: Option<Bracketed>) -> Stage
-    ensures { stage_is result ≡ sourcesᴸ sources (operand_is operand) }
+fn after_word(sources: u64, operand: u64) -> Stage
+    ensures { stage_is result ≡ sourcesᴸ sources (operand_from operand) }
 {
     if sources == 0 {
         return after_sources(operand);
     }
-    Stage::Source(sources - 1, operand)
+    Stage::new(SOURCE, sources - 1, operand)
 }
 
 // An instruction word that stands without a target.
@@ -405,7 +357,7 @@ fn word_alone(w: u8) -> Move
     if shape.target {
         return Move::wrong();
     }
-    let stage = after_word(u64::from(shape.sources), operand_of(shape.operand));
+    let stage = after_word(u64::from(shape.sources), u64::from(shape.operand));
     Move {
         stage,
         act: Act::BeginInstruction(op),
@@ -422,7 +374,7 @@ fn word_with_target(w: u8) -> Move
     let op = w - words::FIRST_INSTRUCTION;
     let shape = shape_of(op);
     if shape.target {
-        let stage = after_word(u64::from(shape.sources), operand_of(shape.operand));
+        let stage = after_word(u64::from(shape.sources), u64::from(shape.operand));
         return Move {
             stage,
             act: Act::SetInstruction(op),
@@ -436,7 +388,7 @@ fn first_instruction(token: Token) -> Move
     ensures { Moves (next_move Stageᴸ.first_instruction) token result }
 {
     if let Token::Name = token {
-        return Move::to(Stage::Assignment, Act::SetTarget);
+        return Move::to(ASSIGNMENT, Act::SetTarget);
     }
     let Token::Word(w) = token else {
         return Move::wrong();
@@ -444,12 +396,22 @@ fn first_instruction(token: Token) -> Move
     word_alone(w)
 }
 
-// An instruction, or the end of the block: not before an instruction has stood in it.
-fn next_instruction(token: Token) -> Move
-    ensures { Moves (next_move Stageᴸ.next_instruction) token result }
+// Whether the token ends the block at a stage of this kind: not before an instruction has stood in it.
+fn ends_block(kind: u64, token: Token) -> bool
+    ensures { result ≡ ends_block kind token }
 {
-    if is_mark(token, b'}') {
-        return Move::to(Stage::Blocks, Act::EndBlock);
+    if kind == NEXT_INSTRUCTION {
+        return is_mark(token, b'}');
+    }
+    false
+}
+
+// An instruction, or the end of the block.
+fn next_instruction(kind: u64, token: Token) -> Move
+    ensures { Moves (next_move (instruction_at kind)) token result }
+{
+    if ends_block(kind, token) {
+        return Move::to(BLOCKS, Act::EndBlock);
     }
     first_instruction(token)
 }
@@ -465,18 +427,18 @@ fn instruction(token: Token) -> Move
 }
 
 // What follows a source: a comma and so many more, or the rest.
-fn after_source(more: u64, operand: Option<Bracketed>) -> Stage
-    ensures { stage_is result ≡ after_source more (operand_is operand) }
+fn after_source(more: u64, operand: u64) -> Stage
+    ensures { stage_is result ≡ after_source more (operand_from operand) }
 {
     if more == 0 {
         return after_sources(operand);
     }
-    Stage::SourceComma(more - 1, operand)
+    Stage::new(SOURCE_COMMA, more - 1, operand)
 }
 
 // "source registers parted by commas"
-fn source(token: Token, more: u64, operand: Option<Bracketed>) -> Move
-    ensures { Moves (next_move (Stageᴸ.source more (operand_is operand))) token result }
+fn source(token: Token, more: u64, operand: u64) -> Move
+    ensures { Moves (next_move (Stageᴸ.source more (operand_from operand))) token result }
 {
     let Token::Name = token else {
         return Move::wrong();
@@ -489,30 +451,31 @@ fn source(token: Token, more: u64, operand: Option<Bracketed>) -> Move
 }
 
 // The comma before a source.
-fn source_comma(token: Token, more: u64, operand: Option<Bracketed>) -> Move
-    ensures { Moves (next_move (Stageᴸ.source_comma more (operand_is operand))) token result }
+fn source_comma(token: Token, more: u64, operand: u64) -> Move
+    ensures { Moves (next_move (Stageᴸ.source_comma more (operand_from operand))) token result }
 {
-    let next = Move::to(Stage::Source(more, operand), Act::Pass);
-    mark(token, b',', next)
+    let stage = Stage::new(SOURCE, more, operand);
+    let act = Act::Pass;
+    mark(token, b',', Move { stage, act })
 }
 
 // "optional operand in parentheses": what the parenthesis opens.
-fn in_operand(inside: Bracketed) -> Stage
-    ensures { stage_is result ≡ in_operand (bracketed_is inside) }
+fn in_operand(operand: u64) -> Stage
+    ensures { stage_is result ≡ in_operand (bracketed_from operand) }
 {
-    match inside {
-        Bracketed::Number => Stage::Number,
-        Bracketed::Registers => Stage::Entry,
-        Bracketed::Block => Stage::Mention(0),
-        Bracketed::Blocks => Stage::Mention(1),
+    match operand {
+        1 => Stage::new(NUMBER, 0, 0),
+        2 => Stage::new(ENTRY, 0, 0),
+        3 => Stage::new(MENTION, 0, 0),
+        _ => Stage::new(MENTION, 1, 0),
     }
 }
 
 // The parenthesis before the operand.
-fn operand(token: Token, inside: Bracketed) -> Move
-    ensures { Moves (next_move (Stageᴸ.operand (bracketed_is inside))) token result }
+fn operand(token: Token, detail: u64) -> Move
+    ensures { Moves (next_move (Stageᴸ.operand (bracketed_from detail))) token result }
 {
-    let stage = in_operand(inside);
+    let stage = in_operand(detail);
     let act = Act::Pass;
     mark(token, b'(', Move { stage, act })
 }
@@ -524,7 +487,7 @@ fn number(token: Token) -> Move
     let Token::Number(negative, magnitude) = token else {
         return Move::wrong();
     };
-    Move::to(Stage::OperandEnd, Act::SetNumber(negative, magnitude))
+    Move::to(OPERAND_END, Act::SetNumber(negative, magnitude))
 }
 
 // A register in the list of a phi.
@@ -534,7 +497,7 @@ fn entry(token: Token) -> Move
     let Token::Name = token else {
         return Move::wrong();
     };
-    Move::to(Stage::EntryEnd, Act::AddEntry)
+    Move::to(ENTRY_END, Act::AddEntry)
 }
 
 // A comma or the closing parenthesis of that list.
@@ -542,9 +505,9 @@ fn entry_end(token: Token) -> Move
     ensures { Moves (next_move Stageᴸ.entry_end) token result }
 {
     if is_mark(token, b',') {
-        return Move::to(Stage::Entry, Act::Pass);
+        return Move::to(ENTRY, Act::Pass);
     }
-    mark(token, b')', Move::to(Stage::InstructionEnd, Act::Pass))
+    mark(token, b')', Move::to(INSTRUCTION_END, Act::Pass))
 }
 
 // What follows a block: a comma and so many more, or the closing parenthesis.
@@ -552,9 +515,9 @@ fn after_mention(more: u64) -> Stage
     ensures { stage_is result ≡ after_mention more }
 {
     if more == 0 {
-        return Stage::OperandEnd;
+        return Stage::new(OPERAND_END, 0, 0);
     }
-    Stage::MentionComma(more - 1)
+    Stage::new(MENTION_COMMA, more - 1, 0)
 }
 
 // A block that the operand names.
@@ -575,56 +538,55 @@ fn mention(token: Token, more: u64) -> Move
 fn mention_comma(token: Token, more: u64) -> Move
     ensures { Moves (next_move (Stageᴸ.mention_comma more)) token result }
 {
-    let next = Move::to(Stage::Mention(more), Act::Pass);
-    mark(token, b',', next)
+    let stage = Stage::new(MENTION, more, 0);
+    let act = Act::Pass;
+    mark(token, b',', Move { stage, act })
 }
 
 // Whether a stage is between two functions, where alone a text may end.
 pub fn is_top(stage: Stage) -> bool
     ensures { result ≡ is_top (stage_is stage) }
 {
-    matches!(stage, Stage::Top)
+    stage.kind == TOP
 }
 
 // The stage that comes after a token, and what is to be done about the token.
 pub fn next_move(stage: Stage, token: Token) -> Move
     ensures { Moves (next_move (stage_is stage)) token result }
 {
-    match stage {
-        Stage::Top => top(token),
-        Stage::Header => header(token),
-        Stage::Result => result(token),
-        Stage::FunctionName => function_name(token),
-        Stage::Parameters => mark(token, b'(', Move::to(Stage::FirstParameter, Act::Pass)),
-        Stage::FirstParameter => first_parameter(token),
-        Stage::Parameter => parameter(token),
-        Stage::ParameterEnd => parameter_end(token),
-        Stage::ParameterName(kind) => parameter_name(token, kind),
-        Stage::Body => mark(token, b'{', Move::to(Stage::Declarations, Act::Pass)),
-        Stage::Declarations => declarations(token),
-        Stage::RegisterType => register_type(token),
-        Stage::RegisterEnd => mark(token, b';', Move::to(Stage::Declarations, Act::Pass)),
-        Stage::RegisterName(kind) => register_name(token, kind),
-        Stage::Blocks => blocks(token),
-        Stage::BlockName => block_name(token),
-        Stage::BlockBody => mark(token, b'{', Move::to(Stage::FirstInstruction, Act::Pass)),
-        Stage::FirstInstruction => first_instruction(token),
-        Stage::NextInstruction => next_instruction(token),
-        Stage::Assignment => mark(token, b'=', Move::to(Stage::Instruction, Act::Pass)),
-        Stage::Instruction => instruction(token),
-        Stage::Source(more, then) => source(token, more, then),
-        Stage::SourceComma(more, then) => source_comma(token, more, then),
-        Stage::Operand(inside) => operand(token, inside),
-        Stage::Number => number(token),
-        Stage::Entry => entry(token),
-        Stage::EntryEnd => entry_end(token),
-        Stage::Mention(more) => mention(token, more),
-        Stage::MentionComma(more) => mention_comma(token, more),
-        Stage::OperandEnd => mark(token, b')', Move::to(Stage::InstructionEnd, Act::Pass)),
-        Stage::InstructionEnd => mark(
-            token,
-            b';',
-            Move::to(Stage::NextInstruction, Act::EndInstruction),
-        ),
+    let kind = stage.kind;
+    let more = stage.more;
+    let detail = stage.detail;
+    match kind {
+        TOP => top(token),
+        HEADER => header(token),
+        RESULT => result(token),
+        FUNCTION_NAME => function_name(token),
+        PARAMETERS => mark(token, b'(', Move::to(FIRST_PARAMETER, Act::Pass)),
+        FIRST_PARAMETER => first_parameter(token),
+        PARAMETER => parameter(token),
+        PARAMETER_END => parameter_end(token),
+        PARAMETER_NAME => parameter_name(token, detail),
+        BODY => mark(token, b'{', Move::to(DECLARATIONS, Act::Pass)),
+        DECLARATIONS => declarations(token),
+        REGISTER_TYPE => register_type(token),
+        REGISTER_END => mark(token, b';', Move::to(DECLARATIONS, Act::Pass)),
+        REGISTER_NAME => register_name(token, detail),
+        BLOCKS => blocks(token),
+        BLOCK_NAME => block_name(token),
+        BLOCK_BODY => mark(token, b'{', Move::to(FIRST_INSTRUCTION, Act::Pass)),
+        FIRST_INSTRUCTION | NEXT_INSTRUCTION => next_instruction(kind, token),
+        ASSIGNMENT => mark(token, b'=', Move::to(INSTRUCTION, Act::Pass)),
+        INSTRUCTION => instruction(token),
+        SOURCE => source(token, more, detail),
+        SOURCE_COMMA => source_comma(token, more, detail),
+        OPERAND => operand(token, detail),
+        NUMBER => number(token),
+        ENTRY => entry(token),
+        ENTRY_END => entry_end(token),
+        MENTION => mention(token, more),
+        MENTION_COMMA => mention_comma(token, more),
+        OPERAND_END => mark(token, b')', Move::to(INSTRUCTION_END, Act::Pass)),
+        _ => mark(token, b';', Move::to(NEXT_INSTRUCTION, Act::EndInstruction)),
     }
 }

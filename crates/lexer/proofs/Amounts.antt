@@ -7,9 +7,9 @@ use native.Mathlib.Nat.{mul_comm, mul-le-mul_right}
 use native.Mathlib.Omega.{arith}
 use lib.Dec.{ltb}
 use borrow.Author.Tests.{lt-ltb, le-ltb, ltb-false}
-use Rattle.std.specs.Prelude.{Option, Some, None, unwrap_or, is_some, IfSome, SomeIff}
+use Rattle.std.specs.Prelude.{Option, Some, None, unwrap_or, is_some, is_none, IfSome, SomeIff}
 use Rattle.instructions.specs.Ranges.{beyond}
-use Rattle.lexer.specs.Numbers.{amount_of, grown_at}
+use Rattle.lexer.specs.Numbers.{amount_of, amount_said, grown_at}
 
 -- one digit more
 pub grown_amount : (v : Option ℕ) (n base d : ℕ) → 0 < base → v ≡ amount_of n → grown_at v base d ≡ amount_of (base * n + d)
@@ -40,3 +40,8 @@ module _ (v base d : ℕ) where
   unfolding amount_of
   sum_kept m None p h = rw (le-ltb (base * v + d) beyond (omega (arith, mul_comm base v, p.1, h)))
   sum_kept m (Some x) p h = rw (lt-ltb (base * v + d) beyond (omega (arith, mul_comm base v, p.1, h.0))) (ap Some (omega (arith, mul_comm base v, p.1, h.1)))
+
+-- what a number's value and flag say is the number again
+pub amount_back : (v : Option ℕ) → amount_said (unwrap_or v 0) (is_none v) ≡ v
+amount_back None = refl
+amount_back (Some n) = refl

@@ -1,4 +1,5 @@
 pub mod Amounts
+pub mod Gathering
 pub mod Acting
 pub mod Standing
 pub mod Stepping

@@ -21,15 +21,11 @@ use Rattle.vocabulary.proofs.ByteClasses.{letter_test, name_test}
 use Rattle.lexer.specs.declared.Lexer.{Lexer}
 use Rattle.lexer.specs.declared.Lexeme.TheVariants as lexemes
 use Rattle.lexer.specs.declared.Found.TheVariants as founds
-use Rattle.lexer.specs.declared.modes.Mode.{Mode as Modeᶜ}
-use Rattle.lexer.specs.declared.modes.Mode.TheVariants as modes
-use Rattle.lexer.specs.declared.modes.Step.TheVariants as steps
-use Rattle.lexer.specs.declared.modes.Finding.TheVariants as findings
-use Rattle.lexer.specs.Actions.{mode_as, begins_at, in_comment_at}
+use Rattle.lexer.specs.Actions.{mode_number, begins_at, action_at}
 use Rattle.lexer.specs.Contents.{gathered_place, contents_in}
 use Rattle.lexer.specs.Runs.{is_space, in_line, Run, First, name_limit, PlainTo}
 use Rattle.lexer.specs.Lexing.{Stands, Means, Finds, Gives, Passed, Lexes, Scanned, Ending, LexerFinished, idle_at, lexed_from, place_at}
-use Rattle.lexer.specs.Advancing.{fresh_at, begun_at, ended_at, advanced_at}
+use Rattle.lexer.specs.Advancing.{fresh_at, begun_at, single_at, ended_at, advanced_at, held_after, finding_at}
 use Rattle.language.proofs.TokenSteps.{Idle, idle, idle_none}
 use Rattle.lexer.proofs.Standing.{drop_here, ends_found, stands_idle}
 use Rattle.lexer.proofs.Stepping.{step_passes, step_finds, passed_none, passed_then, passed_idle, mode_is, left_closed}
@@ -150,57 +146,58 @@ limit_after n s h = by (dec_lt (n - s) 64)
     by (no l) = rw (le-ltb (n - s) 64 (omega arith)) (omega arith)
 
 module _ (text g : List ℕ) (small : (i : ℕ) → get_or text i 0 < 256) where
-  space_passed : (i : ℕ) → i < length text → is_space (get_or text i 0) ≡ true → Passed text (idle_at modes.Between i) g (idle_at modes.Between (i + 1)) g
-  unfolding begins_at
+  space_passed : (i : ℕ) → i < length text → is_space (get_or text i 0) ≡ true → Passed text (idle_at 0 i) g (idle_at 0 (i + 1)) g
+  unfolding action_at begins_at advanced_at held_after begun_at
   space_passed i h t =
       let b = get_or text i 0 in
       let k = class_number (class_of b) in
-      passed_then text (idle_at modes.Between i) (advanced_at (idle_at modes.Between i) (steps.Begins modes.Between) b (length g)) (idle_at modes.Between (i + 1))
-      (step_passes text (idle_at modes.Between i) b k (le_refl i) h refl (small i) refl (steps.Begins modes.Between) (rw (eqb-true k 2 t)) g)
-      (passed_idle Idle.between text (advanced_at (idle_at modes.Between i) (steps.Begins modes.Between) b (length g)) (omega arith) refl g)
+      passed_then text (idle_at 0 i) (advanced_at (idle_at 0 i) 16 b (length g)) (idle_at 0 (i + 1))
+      (step_passes text (idle_at 0 i) b k 16 (le_refl i) h refl (small i) refl (rw (eqb-true k 2 t)) (omega arith) g)
+      (passed_idle Idle.between text (advanced_at (idle_at 0 i) 16 b (length g)) (omega arith) refl g)
 
-  pub spaces_passed : (from r : ℕ) → First is_space text from (length text) r → Passed text (idle_at modes.Between from) g (idle_at modes.Between r) g
+  pub spaces_passed : (from r : ℕ) → First is_space text from (length text) r → Passed text (idle_at 0 from) g (idle_at 0 r) g
   spaces_passed from r p =
-      passed_run text g (λ i. idle_at modes.Between i) from r p.run.forth (passed_none text (idle_at modes.Between from) g (omega (arith, p.run.forth, p.within)) (le_refl from))
+      passed_run text g (λ i. idle_at 0 i) from r p.run.forth (passed_none text (idle_at 0 from) g (omega (arith, p.run.forth, p.within)) (le_refl from))
       (λ i a b. space_passed i (omega (arith, b, p.within)) (p.run.each i a b))
 
-  comment_passed : (i : ℕ) → i < length text → in_line (get_or text i 0) ≡ true → Passed text (idle_at modes.Comment i) g (idle_at modes.Comment (i + 1)) g
-  unfolding in_comment_at
+  comment_passed : (i : ℕ) → i < length text → in_line (get_or text i 0) ≡ true → Passed text (idle_at 5 i) g (idle_at 5 (i + 1)) g
+  unfolding action_at advanced_at held_after begun_at
   comment_passed i h t =
       let b = get_or text i 0 in
       let k = class_number (class_of b) in
-      passed_then text (idle_at modes.Comment i) (advanced_at (idle_at modes.Comment i) (steps.Begins modes.Comment) b (length g)) (idle_at modes.Comment (i + 1))
-      (step_passes text (idle_at modes.Comment i) b k (le_refl i) h refl (small i) refl (steps.Begins modes.Comment) (rw (not_line_feed (eqb b 10) t)) g)
-      (passed_idle Idle.comment text (advanced_at (idle_at modes.Comment i) (steps.Begins modes.Comment) b (length g)) (omega arith) refl g)
+      passed_then text (idle_at 5 i) (advanced_at (idle_at 5 i) 21 b (length g)) (idle_at 5 (i + 1))
+      (step_passes text (idle_at 5 i) b k 21 (le_refl i) h refl (small i) refl (rw (not_line_feed (eqb b 10) t)) (omega arith) g)
+      (passed_idle Idle.comment text (advanced_at (idle_at 5 i) 21 b (length g)) (omega arith) refl g)
 
-  pub line_passed : (from r : ℕ) → Run in_line text from r → r ≤ length text → Passed text (idle_at modes.Comment from) g (idle_at modes.Comment r) g
+  pub line_passed : (from r : ℕ) → Run in_line text from r → r ≤ length text → Passed text (idle_at 5 from) g (idle_at 5 r) g
   line_passed from r p w =
-      passed_run text g (λ i. idle_at modes.Comment i) from r p.forth (passed_none text (idle_at modes.Comment from) g (omega (arith, p.forth, w)) (le_refl from))
+      passed_run text g (λ i. idle_at 5 i) from r p.forth (passed_none text (idle_at 5 from) g (omega (arith, p.forth, w)) (le_refl from))
       (λ i a b. comment_passed i (omega (arith, b, w)) (p.each i a b))
 
   -- the LF that ends a comment
-  pub comment_ended : (i : ℕ) → i < length text → in_line (get_or text i 0) ≡ false → Passed text (idle_at modes.Comment i) g (begun_at modes.Between i 10) g
-  unfolding in_comment_at
+  pub comment_ended : (i : ℕ) → i < length text → in_line (get_or text i 0) ≡ false → Passed text (idle_at 5 i) g (begun_at 0 i 10) g
+  unfolding action_at advanced_at held_after begun_at
   comment_ended i h t =
       let b = get_or text i 0 in
-      step_passes text (idle_at modes.Comment i) b (class_number (class_of b)) (le_refl i) h refl (small i) refl (steps.Begins modes.Between) (rw (line_feed (eqb b 10) t)) g
+      step_passes text (idle_at 5 i) b (class_number (class_of b)) 16 (le_refl i) h refl (small i) refl (rw (line_feed (eqb b 10) t)) (omega arith) g
     where
       line_feed : (t : Bool) → not t ≡ false → t ≡ true
       line_feed true e = refl
       line_feed false e = sym e
 
   -- a comment up to the LF that ends it, or to the end of the text
-  module _ (c : Lexer) (z : c.mode ≡ modes.Comment) (h : c.next < length text) (r : ℕ) (p : First in_line text c.next (length text) r) where
-    up_to : Passed text c g (idle_at modes.Comment r) g
-    up_to = passed_then text c (idle_at modes.Comment c.next) (idle_at modes.Comment r) (passed_idle Idle.comment text c (omega arith) z g) (line_passed c.next r p.run p.within)
+  module _ (c : Lexer) (z : c.mode ≡ 5) (h : c.next < length text) (r : ℕ) (p : First in_line text c.next (length text) r) where
+    up_to : Passed text c g (idle_at 5 r) g
+    up_to = passed_then text c (idle_at 5 c.next) (idle_at 5 r) (passed_idle Idle.comment text c (omega arith) z g) (line_passed c.next r p.run p.within)
 
-    pub comment_past : r < length text → Passed text c g (begun_at modes.Between r 10) g
-    comment_past i = passed_then text c (idle_at modes.Comment r) (begun_at modes.Between r 10) up_to (comment_ended r i (p.stops i))
+    pub comment_past : r < length text → Passed text c g (begun_at 0 r 10) g
+    comment_past i = passed_then text c (idle_at 5 r) (begun_at 0 r 10) up_to (comment_ended r i (p.stops i))
 
-    pub comment_to_end : length text ≤ r → Passed text c g (idle_at modes.Comment r) g
+    pub comment_to_end : length text ≤ r → Passed text c g (idle_at 5 r) g
     comment_to_end i = up_to
 
-pub comment_forth : (n r : ℕ) → n ≤ r → n < (begun_at modes.Between r 10).next
+pub comment_forth : (n r : ℕ) → n ≤ r → n < (begun_at 0 r 10).next
+unfolding begun_at
 comment_forth n r h = omega arith
 
 -- ---- a plain name that ends in the text
@@ -242,8 +239,8 @@ module _ (text g : List ℕ) (s n : ℕ) (small : s < gathered_place) (p : Plain
       ∙ append_assoc (take (suc n) (drop s text)) (drop (s + suc n) text) more
       ∙ ap (λ (xs : List ℕ). take (suc n) (drop s text) ++ xs) (drop_here text (s + suc n) (get_or text (s + suc n) 0) p.within refl more)
 
-  named_gives : (l : meaning.Lexer) → Stands g l (idle_at modes.Between s)
-      → Gives text l (idle_at modes.Between s) (lexed_from (idle_at modes.Between (s + suc n)) (founds.Lexeme (place_at s) (lexemes.Plain s (suc n)))) g
+  named_gives : (l : meaning.Lexer) → Stands g l (idle_at 0 s)
+      → Gives text l (idle_at 0 s) (lexed_from (idle_at 0 (s + suc n)) (founds.Lexeme (place_at s) (lexemes.Plain s (suc n)))) g
   unfolding bytes
   named_gives l st =
       let z = st.room in
@@ -263,7 +260,7 @@ module _ (text g : List ℕ) (s n : ℕ) (small : s < gathered_place) (p : Plain
                   λ more.
                   let rest = drop (s + suc n + 1) text ++ more in
                   ap (tokens_from l) (onward more)
-                  ∙ plain_before l (mode_is g l (idle_at modes.Between s) Mode.between st refl) bytes (plain_bytes_law text s n p) (omega (arith, count, p.short)) (get_or text (s + suc n) 0) p.ends (idle Mode.between (s + suc n)) refl (omega (arith, count, e)) rest
+                  ∙ plain_before l (mode_is g l (idle_at 0 s) Mode.between st refl) bytes (plain_bytes_law text s n p) (omega (arith, count, p.short)) (get_or text (s + suc n) 0) p.ends (idle Mode.between (s + suc n)) refl (omega (arith, count, e)) rest
                   ∙ ap (λ (k : ℕ). meaning.token k (name_or_word bytes) ∷ tokens_from (idle Mode.between (s + suc n)) (get_or text (s + suc n) 0 ∷ rest)) (sym e)
                   ∙ ap (λ (xs : List ℕ). meaning.token s (name_or_word bytes) ∷ tokens_from (idle Mode.between (s + suc n)) xs) (sym (drop_here text (s + suc n) (get_or text (s + suc n) 0) p.within refl more));
             };
@@ -271,12 +268,12 @@ module _ (text g : List ℕ) (s n : ℕ) (small : s < gathered_place) (p : Plain
 
 -- a plain name, found at once
 pub plain_found : (text g : List ℕ) (s r : ℕ) → s < gathered_place → s < r → PlainTo text s r
-    → Lexes text (idle_at modes.Between s) g (lexed_from (idle_at modes.Between r) (founds.Lexeme (place_at s) (lexemes.Plain s (r - s)))) g
+    → Lexes text (idle_at 0 s) g (lexed_from (idle_at 0 r) (founds.Lexeme (place_at s) (lexemes.Plain s (r - s)))) g
 plain_found text g s r small h p =
     let n = r - s - 1 in
     let e : r ≡ s + suc n = omega arith in
     let k : r - s ≡ suc n = omega arith in
-    rw k (subst⁻¹ (λ (m : ℕ). Lexes text (idle_at modes.Between s) g (lexed_from (idle_at modes.Between m) (founds.Lexeme (place_at s) (lexemes.Plain s (suc n)))) g) e
+    rw k (subst⁻¹ (λ (m : ℕ). Lexes text (idle_at 0 s) g (lexed_from (idle_at 0 m) (founds.Lexeme (place_at s) (lexemes.Plain s (suc n)))) g) e
     (record {
       forth = omega arith;
       within = omega (arith, p.within);
@@ -286,13 +283,17 @@ plain_found text g s r small h p =
 
 -- a mark, with nothing open
 pub mark_found : (text : List ℕ) (d : Lexer) (b k : ℕ) → d.start ≤ d.next → d.next < length text → b ≡ get_or text d.next 0 → b < 256 → k ≡ class_number (class_of b)
-    → d.mode ≡ modes.Between → k ≡ 6 → (h : List ℕ) → Scanned text d h (lexed_from (begun_at modes.Between d.next b) (founds.Lexeme (place_at d.next) (lexemes.Mark b))) h
-unfolding begins_at
-mark_found text d b k o h e small class z t = step_finds text d b k o h e small class findings.Mark (rw (z, t))
+    → d.mode ≡ 0 → k ≡ 6 → (h : List ℕ) → Scanned text d h (lexed_from (begun_at 0 d.next b) (single_at 35 d.next b)) h
+unfolding action_at begins_at finding_at
+mark_found text d b k o h e small class z t = step_finds text d b k 35 o h e small class (rw (z, t)) (omega arith)
 
-pub fresh_is : (m : Modeᶜ) (k n : ℕ) → fresh_at m k ≡ n → n < 7 → (m ≡ modes.Between) × (k ≡ n)
-fresh_is modes.Between k n e h = (refl, e)
-fresh_is _ k n e h = absurd (omega (arith, e))
+pub fresh_is : (m k n : ℕ) → fresh_at m k ≡ n → n < 7 → (m ≡ 0) × (k ≡ n)
+unfolding fresh_at
+fresh_is m k n = by (eqb m 0) refl
+  where
+    by : (t : Bool) → eqb m 0 ≡ t → cond t k 7 ≡ n → n < 7 → (m ≡ 0) × (k ≡ n)
+    by true q e h = (eqb-true m 0 q, e)
+    by false q e h = absurd (omega (arith, e))
 
 -- ---- the end of the text
 
@@ -301,7 +302,7 @@ unfolding tokens_from lex_end ended
 idle_ends l = refl
 
 module _ (c : Lexer) where
-  pub finished_idle : {m : Mode} → Idle m → c.mode ≡ mode_as m
+  pub finished_idle : {m : Mode} → Idle m → c.mode ≡ mode_number m
       → LexerFinished c (lexed_from c (founds.Lexeme (place_at c.next) lexemes.End))
   unfolding tokens_from lex_end
   finished_idle {m} i e =
@@ -315,7 +316,7 @@ module _ (c : Lexer) where
             });
       }
 
-  pub finished_open : (c.mode ≡ modes.Between → ⊥) → LexerFinished c (lexed_from (idle_at modes.Between c.next) (ended_at c))
+  pub finished_open : (c.mode ≡ 0 → ⊥) → LexerFinished c (lexed_from (idle_at 0 c.next) (ended_at c))
   finished_open i =
       record {
         gives =

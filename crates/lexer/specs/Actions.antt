@@ -1,114 +1,63 @@
--- What a byte does to what is open, as the code tests it. Assumes nothing.
+-- What a byte does to what is open, by number, as the code tests it: 0 to 10, it goes on with it, in that mode; 16 to 26, it begins mode 0 to 10;
+-- 32, it ends what is open and is still to be taken; 33, it makes what is open no token; 34, it closes a quoted name; 35, it is a mark; 36, it is no
+-- token. Those below 32 find nothing. 4 and 5, no modes that anything goes on in, are: it goes on with a quoted name whose contents
+-- have the backslash that waited, and waits itself or comes next. Assumes nothing.
 use Rattle.std.specs.Prelude.{cond, ℕ, eqb, ltb, leb}
 use Rattle.language.specs.Bytes.{hex_value}
 use Rattle.language.specs.Tokens.{Mode}
-use Rattle.lexer.specs.declared.modes.Mode.{Mode as Modeᶜ}
-use Rattle.lexer.specs.declared.modes.Mode.TheVariants as modes
-use Rattle.lexer.specs.declared.modes.Step.TheVariants as steps
-use Rattle.lexer.specs.declared.modes.Finding.TheVariants as findings
-use Rattle.lexer.specs.declared.modes.Action.{Action}
-use Rattle.lexer.specs.declared.modes.Action.TheVariants as actions
 
--- The definition's mode as the code's.
-abbrev pub mode_as : Mode → Modeᶜ
-mode_as Mode.between = modes.Between
-mode_as Mode.plain = modes.Plain
-mode_as Mode.quoted = modes.Quoted
-mode_as Mode.escaping = modes.Escaping
-mode_as Mode.slash = modes.Slash
-mode_as Mode.comment = modes.Comment
-mode_as Mode.sign = modes.Sign
-mode_as Mode.leading_zero = modes.LeadingZero
-mode_as Mode.decimal = modes.Decimal
-mode_as Mode.prefix = modes.Prefix
-mode_as Mode.hexadecimal = modes.Hexadecimal
+-- A mode as a number below 11, in the order of its definition.
+abbrev pub mode_number : Mode → ℕ
+mode_number Mode.between = 0
+mode_number Mode.plain = 1
+mode_number Mode.quoted = 2
+mode_number Mode.escaping = 3
+mode_number Mode.slash = 4
+mode_number Mode.comment = 5
+mode_number Mode.sign = 6
+mode_number Mode.leading_zero = 7
+mode_number Mode.decimal = 8
+mode_number Mode.prefix = 9
+mode_number Mode.hexadecimal = 10
 
--- A byte that begins a mode, that is one more of a name's contents or of a number, of which the mode is that then.
-abbrev pub begins : Modeᶜ → Action
-begins m = actions.Passes (steps.Begins m)
+unfoldable pub digit_mode_at : (byte : ℕ) → ℕ
+digit_mode_at b = cond (eqb b 48) 7 8
 
-abbrev pub keeps : Modeᶜ → Action
-keeps m = actions.Passes (steps.Keeps m)
-
-abbrev pub counts : Modeᶜ → Action
-counts m = actions.Passes (steps.Counts m)
-
--- A backslash that waits, and the byte after it that comes into the contents with it.
-abbrev pub waits : Action
-waits = actions.Passes steps.Waits
-
-abbrev pub keeps_both : Action
-keeps_both = actions.Passes steps.KeepsBoth
-
--- A byte that finds something.
-abbrev pub ends : Action
-ends = actions.Finds findings.Ends
-
-abbrev pub spoils : Action
-spoils = actions.Finds findings.Spoils
-
-abbrev pub closes : Action
-closes = actions.Finds findings.Closes
-
-abbrev pub mark : Action
-mark = actions.Finds findings.Mark
-
-abbrev pub stray : Action
-stray = actions.Finds findings.Stray
-
-unfoldable pub digit_mode_at : (byte : ℕ) → Modeᶜ
-digit_mode_at b = cond (eqb b 48) modes.LeadingZero modes.Decimal
-
-unfoldable pub begins_at : (class byte : ℕ) → Action
+unfoldable pub begins_at : (class byte : ℕ) → ℕ
 begins_at k b =
-    cond (eqb k 0) (begins modes.Plain)
-    (cond (eqb k 1) (begins (digit_mode_at b))
-    (cond (eqb k 2) (begins modes.Between)
-    (cond (eqb k 3) (begins modes.Quoted) (cond (eqb k 4) (begins modes.Sign) (cond (eqb k 5) (begins modes.Slash) (cond (eqb k 6) mark stray))))))
+    cond (eqb k 0) 17
+    (cond (eqb k 1) (cond (eqb b 48) 23 24)
+    (cond (eqb k 2) 16 (cond (eqb k 3) 18 (cond (eqb k 4) 22 (cond (eqb k 5) 20 (cond (eqb k 6) 35 36))))))
 
-unfoldable pub in_plain_at : (class kept : ℕ) → Action
-in_plain_at k n = cond (ltb k 2) (cond (ltb n 64) (keeps modes.Plain) spoils) ends
+unfoldable pub in_plain_at : (class kept : ℕ) → ℕ
+in_plain_at k n = cond (ltb k 2) (cond (ltb n 64) 1 33) 32
 
-unfoldable pub in_quoted_at : (byte kept : ℕ) → Action
-in_quoted_at b n = cond (eqb b 39) (cond (eqb n 0) spoils closes) (cond (eqb b 92) waits (cond (ltb n 64) (keeps modes.Quoted) spoils))
+unfoldable pub in_quoted_at : (byte kept : ℕ) → ℕ
+in_quoted_at b n = cond (eqb b 39) (cond (eqb n 0) 33 34) (cond (eqb b 92) 3 (cond (ltb n 64) 2 33))
 
-unfoldable pub in_escaped_at : (byte kept : ℕ) → Action
-in_escaped_at b n =
-    cond (leb 64 n) spoils (cond (eqb b 39) (keeps modes.Quoted) (cond (eqb b 92) (keeps modes.Escaping) (cond (ltb n 63) keeps_both spoils)))
+unfoldable pub in_escaped_at : (byte kept : ℕ) → ℕ
+in_escaped_at b n = cond (leb 64 n) 33 (cond (eqb b 39) 2 (cond (eqb b 92) 4 (cond (ltb n 63) 5 33)))
 
-unfoldable pub after_number_at : (class : ℕ) → Action
-after_number_at k = cond (ltb k 2) spoils ends
+unfoldable pub after_number_at : (class : ℕ) → ℕ
+after_number_at k = cond (ltb k 2) 33 32
 
-unfoldable pub in_decimal_at : (class : ℕ) → Action
-in_decimal_at k = cond (eqb k 1) (counts modes.Decimal) (after_number_at k)
+unfoldable pub in_decimal_at : (class : ℕ) → ℕ
+in_decimal_at k = cond (eqb k 1) 8 (after_number_at k)
 
-unfoldable pub after_sign_at : (class byte : ℕ) → Action
-after_sign_at k b = cond (eqb k 1) (counts (digit_mode_at b)) ends
+unfoldable pub in_number_at : (mode class byte : ℕ) → ℕ
+in_number_at m k b =
+    cond (eqb m 6) (cond (eqb k 1) (digit_mode_at b) 32)
+    (cond (eqb m 7) (cond (eqb b 120) 9 (in_decimal_at k))
+    (cond (eqb m 8) (in_decimal_at k)
+    (cond (eqb m 9) (cond (ltb (hex_value b) 16) 10 32)
+    (cond (ltb (hex_value b) 16) 10 (after_number_at k)))))
 
-unfoldable pub after_zero_at : (class byte : ℕ) → Action
-after_zero_at k b = cond (eqb b 120) (counts modes.Prefix) (in_decimal_at k)
-
-unfoldable pub after_prefix_at : (byte : ℕ) → Action
-after_prefix_at b = cond (ltb (hex_value b) 16) (counts modes.Hexadecimal) ends
-
-unfoldable pub in_hexadecimal_at : (class byte : ℕ) → Action
-in_hexadecimal_at k b = cond (ltb (hex_value b) 16) (counts modes.Hexadecimal) (after_number_at k)
-
-unfoldable pub after_slash_at : (byte : ℕ) → Action
-after_slash_at b = cond (eqb b 47) (begins modes.Comment) ends
-
-unfoldable pub in_comment_at : (byte : ℕ) → Action
-in_comment_at b = cond (eqb b 10) (begins modes.Between) (begins modes.Comment)
-
-abbrev pub action_at : Modeᶜ → (class byte kept : ℕ) → Action
-action_at modes.Between k b n = begins_at k b
-action_at modes.Plain k b n = in_plain_at k n
-action_at modes.Quoted k b n = in_quoted_at b n
-action_at modes.Escaping k b n = in_escaped_at b n
-action_at modes.Slash k b n = after_slash_at b
-action_at modes.Comment k b n = in_comment_at b
-action_at modes.Sign k b n = after_sign_at k b
-action_at modes.LeadingZero k b n = after_zero_at k b
-action_at modes.Decimal k b n = in_decimal_at k
-action_at modes.Prefix k b n = after_prefix_at b
-action_at modes.Hexadecimal k b n = in_hexadecimal_at k b
+unfoldable pub action_at : (mode class byte kept : ℕ) → ℕ
+action_at m k b n =
+    cond (eqb m 0) (begins_at k b)
+    (cond (eqb m 1) (in_plain_at k n)
+    (cond (eqb m 2) (in_quoted_at b n)
+    (cond (eqb m 3) (in_escaped_at b n)
+    (cond (eqb m 4) (cond (eqb b 47) 21 32)
+    (cond (eqb m 5) (cond (eqb b 10) 16 21)
+    (in_number_at m k b))))))

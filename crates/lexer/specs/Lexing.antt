@@ -1,10 +1,8 @@
--- What the code's lexer stands for: the definition's lexer and what it finds (document 01, "The text"). Assumes nothing.
-use Rattle.std.specs.Prelude.{Bool, false, List, [], ◌∷◌, ◌++◌, ◌≡◌, ℕ, ◌+◌, ◌-◌, ◌*◌, ◌≤◌, ◌<◌, length, take, drop, Option, Some, unwrap_or}
+-- What the lexer's numbers stand for: the definition's lexer and what it finds (document 01, "The text"). Assumes nothing.
+use Rattle.std.specs.Prelude.{Bool, false, cond, List, [], ◌∷◌, ◌++◌, ◌≡◌, ℕ, ◌+◌, ◌-◌, ◌*◌, ◌≤◌, ◌<◌, eqb, length, take, drop, Option}
 use Rattle.language.specs.Programs.{max_name}
 use Rattle.language.specs.Tokens as meaning
 use Rattle.language.specs.Tokens.{name_or_word, tokens_from}
-use Rattle.lexer.specs.declared.modes.Mode.{Mode}
-use Rattle.lexer.specs.declared.modes.Mode.TheVariants as modes
 use Rattle.lexer.specs.declared.Lexer.{Lexer}
 use Rattle.text_place.specs.declared.TextPlace.{TextPlace}
 use Rattle.lexer.specs.declared.Lexeme.{Lexeme}
@@ -12,20 +10,16 @@ use Rattle.lexer.specs.declared.Lexeme.TheVariants as lexemes
 use Rattle.lexer.specs.declared.Found.{Found}
 use Rattle.lexer.specs.declared.Found.TheVariants as founds
 use Rattle.lexer.specs.declared.Lexed.{Lexed}
-use Rattle.lexer.specs.Numbers.{amount_of}
+use Rattle.lexer.specs.Numbers.{amount_of, amount_said}
 use Rattle.lexer.specs.Contents.{gathered_place, contents_in}
-use Rattle.lexer.specs.Actions.{mode_as}
+use Rattle.lexer.specs.Actions.{mode_number}
 
-abbrev pub lexer_from : Mode → (next start : ℕ) (negative : Bool) (value : Option ℕ) → Lexer
-lexer_from m n s g v = record { mode = m; next = n; start = s; negative = g; value = v }
+abbrev pub lexer_from : (mode next start : ℕ) (negative : Bool) (value : ℕ) (over : Bool) → Lexer
+lexer_from m n s g v o = record { mode = m; next = n; start = s; negative = g; value = v; over = o }
 
 -- Between tokens or in a comment, before the byte at p.
-abbrev pub idle_at : Mode → (place : ℕ) → Lexer
-idle_at m p = lexer_from m p p false (Some 0)
-
--- How many bytes of a name's contents are gathered.
-abbrev pub kept_of : Option ℕ → ℕ
-kept_of v = unwrap_or v 0
+abbrev pub idle_at : (mode place : ℕ) → Lexer
+idle_at m p = lexer_from m p p false 0 false
 
 abbrev pub lexed_from : Lexer → Found → Lexed
 lexed_from l f = record { lexer = l; found = f }
@@ -33,7 +27,7 @@ lexed_from l f = record { lexer = l; found = f }
 abbrev pub place_at : ℕ → TextPlace
 place_at p = record { byte = p }
 
--- ---- what it stands for
+-- ---- what the numbers stand for
 
 -- The contents of a name; in another mode there are none.
 abbrev pub held : meaning.Mode → List ℕ → List ℕ
@@ -84,13 +78,13 @@ Valued meaning.Mode.hexadecimal v n = v ≡ amount_of n
 -- The lexer c stands for the definition's l, with the contents of a name that is open in h.
 pub record Stands (h : List ℕ) (l : meaning.Lexer) (c : Lexer) : Type 0 where
   pub room : length h ≡ max_name
-  pub mode : c.mode ≡ mode_as l.mode
+  pub mode : c.mode ≡ mode_number l.mode
   pub next : c.next ≡ l.next
   pub start : c.start ≡ l.start
-  pub bytes : l.bytes ≡ held l.mode (take (kept_of c.value) h)
-  pub size : Sized l.mode (kept_of c.value)
+  pub bytes : l.bytes ≡ held l.mode (take c.value h)
+  pub size : Sized l.mode c.value
   pub negative : c.negative ≡ l.negative
-  pub amount : Valued l.mode c.value l.value
+  pub amount : Valued l.mode (amount_said c.value c.over) l.value
 
 -- A lexeme, with contents in the text or in h, and the definition's token: a number that is kept as this one. The end is found in no bytes.
 pub data Means (text h : List ℕ) : Lexeme → meaning.Token → Type 0 where
@@ -147,13 +141,9 @@ pub record Lexes (text : List ℕ) (c : Lexer) (h : List ℕ) (r : Lexed) (h' : 
   pub order : r.lexer.start ≤ r.lexer.next
   pub gives : (l : meaning.Lexer) → Stands h l c → Gives text l c r h'
 
-abbrev pub open_count : Mode → ℕ
-open_count modes.Between = 0
-open_count _ = 1
-
 -- What is left to do: a byte counts two, and one more if something is open, which a byte may end without being passed.
 unfoldable pub left : List ℕ → Lexer → ℕ
-left text c = 2 * (length text - c.next) + open_count c.mode
+left text c = 2 * (length text - c.next) + cond (eqb c.mode 0) 0 1
 
 -- After a scan less is left.
 pub record Scanned (text : List ℕ) (c : Lexer) (h : List ℕ) (r : Lexed) (h' : List ℕ) : Type 0 where
@@ -169,7 +159,7 @@ pub record FindsEnd (l : meaning.Lexer) (c : Lexer) (r : Lexed) : Type 0 where
 pub record FindsLast (text h : List ℕ) (l : meaning.Lexer) (c : Lexer) (r : Lexed) : Type 0 where
   pub one : List meaning.Found
   pub finds : Finds text h r.found one
-  pub idle : r.lexer ≡ idle_at modes.Between c.next
+  pub idle : r.lexer ≡ idle_at 0 c.next
   pub less : left text r.lexer < left text c
   pub after : meaning.Lexer
   pub stands : Stands h after r.lexer

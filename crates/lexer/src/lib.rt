@@ -8,29 +8,30 @@ mod modes;
 mod runs;
 mod values;
 
-ghost use Rattle.std.specs.Prelude.{List, ◌≡◌, ℕ, ◌≤◌, ◌<◌, Option, length};
+ghost use Rattle.std.specs.Prelude.{List, ◌≡◌, ℕ, ◌≤◌, ◌<◌, length};
 ghost use Rattle.vocabulary.specs.Classes.{class_table};
-ghost use Rattle.lexer.specs.declared.modes.Mode.TheVariants as modes;
-ghost use Rattle.lexer.specs.Lexing.{kept_of, idle_at, Passed, Scanned, LexerFinished};
-ghost use Rattle.lexer.specs.Advancing.{fresh_at, begun_at, ended_at, longer_at, keeps_at, held_at, kept_both_at, held_both, number_at, counted_by, advanced_at, held_after, finding_at};
+ghost use Rattle.lexer.specs.Numbers.{amount_said};
+ghost use Rattle.lexer.specs.Lexing.{idle_at, Passed, Scanned, LexerFinished};
+ghost use Rattle.lexer.specs.Advancing.{fresh_at, begun_at, single_at, ended_at, longer_at, gathering_at, held_at, number_at, counted_by, advanced_at, held_after, finding_at};
 
 use crate::contents::{GATHERED, keep};
-use crate::modes::{Action, Finding, Step};
 pub use contents::contents_of;
-pub use modes::Mode;
 use text_place::TextPlace;
 use vocabulary::kinds;
 
-// What the bytes so far leave open, the place of the next byte, the place where what is open began, and a number's sign and value, which is none
-// for one that is 2^64 or more. Of a name, `value` is how many bytes of its contents are gathered: a lexer is copied at every token, and a field
-// more is felt.
+// What the bytes so far leave open (a mode's number), the place of the next byte, the place where what is open began, and a number's sign and
+// value; `over` says that the value is 2^64 or more, and then `value` is 0. Of a name, `value` is how many bytes of its contents are
+// gathered: a lexer is copied at every token, and a field more is felt. The fields stand so that no odd number of bytes lies between or
+// behind them: such a gap is copied apart.
+// Kept, speed: with the mode as an enum reading took 1.2 to 1.4 times as long, with the value as an Option or beside its flag (docs/BENCHMARKS.md).
 #[derive(Clone, Copy)]
 pub struct Lexer {
     pub next: usize,
     pub start: usize,
-    pub value: Option<u64>,
-    pub mode: Mode,
+    pub value: u64,
+    pub mode: u64,
     pub negative: bool,
+    pub over: bool,
 }
 
 // What stands at a place: a plain spelling, a name or a word, and a quoted name, each by the place of its contents' first byte in the text lent,
@@ -62,17 +63,17 @@ pub struct Lexed {
 }
 
 // The class of a byte before which nothing is open; else OTHER, which begins nothing.
-fn fresh(mode: Mode, class: u8) -> u8
+fn fresh(mode: u64, class: u8) -> u8
     ensures { result ≡ fresh_at mode class }
 {
-    if let Mode::Between = mode {
+    if mode == modes::BETWEEN {
         return class;
     }
     kinds::OTHER
 }
 
 // Between tokens or in a comment, before the byte at p.
-fn idle(mode: Mode, p: usize) -> Lexer
+fn idle(mode: u64, p: usize) -> Lexer
     ensures { result ≡ idle_at mode p }
 {
     Lexer {
@@ -80,48 +81,72 @@ fn idle(mode: Mode, p: usize) -> Lexer
         next: p,
         start: p,
         negative: false,
-        value: Some(0),
+        value: 0,
+        over: false,
     }
 }
 
 // The byte b at p begins a mode before the numbers', a sign, or a number's digits.
-fn begun(mode: Mode, p: usize, b: u8) -> Lexer
+fn begun(mode: u64, p: usize, b: u8) -> Lexer
     requires { p < 18446744073709551615 }
     ensures { result ≡ begun_at mode p b }
 {
-    let lexer = Lexer {
-        next: p + 1,
-        ..idle(mode, p)
-    };
-    match mode {
-        Mode::Sign => Lexer {
-            negative: b == b'-',
-            ..lexer
-        },
-        Mode::LeadingZero | Mode::Decimal | Mode::Prefix | Mode::Hexadecimal => Lexer {
-            value: Some(values::digit(b)),
-            ..lexer
-        },
-        _ => lexer,
+    if mode < modes::SIGN {
+        return Lexer {
+            mode,
+            next: p + 1,
+            start: p,
+            negative: false,
+            value: 0,
+            over: false,
+        };
     }
+    if mode == modes::SIGN {
+        return Lexer {
+            mode,
+            next: p + 1,
+            start: p,
+            negative: b == b'-',
+            value: 0,
+            over: false,
+        };
+    }
+    Lexer {
+        mode,
+        next: p + 1,
+        start: p,
+        negative: false,
+        value: values::digit(b),
+        over: false,
+    }
+}
+
+// What a byte is by itself, of those that find something with nothing open.
+fn single(action: u64, p: usize, b: u8) -> Found
+    ensures { result ≡ single_at action p b }
+{
+    if action == modes::MARK {
+        return Found::Lexeme(TextPlace { byte: p }, Lexeme::Mark(b));
+    }
+    Found::Stray(TextPlace { byte: p })
 }
 
 impl Lexer {
     // Before the first byte.
     pub fn new() -> Self
-        ensures { result ≡ idle_at modes.Between 0 }
+        ensures { result ≡ idle_at 0 0 }
     {
-        idle(Mode::Between, 0)
+        idle(modes::BETWEEN, 0)
     }
 
-    // How many bytes of a name's contents are gathered.
-    fn kept(self) -> usize
-        ensures { result ≡ kept_of self.value }
+    // The value of a number, unless it is 2^64 or more.
+    fn amount(self) -> Option<u64>
+        ensures { result ≡ amount_said self.value self.over }
     {
-        match self.value {
-            Some(n) => n as usize,
-            None => 0,
+        if self.over {
+            return None;
         }
+        Some(self.value)
     }
 
     // What is open, ended by a byte that does not belong to it or by the text's end.
@@ -129,18 +154,27 @@ impl Lexer {
         ensures { result ≡ ended_at self }
     {
         let place = TextPlace { byte: self.start };
-        match self.mode {
-            Mode::Plain => Found::Lexeme(place, Lexeme::Plain(GATHERED, self.kept())),
-            Mode::Between | Mode::Comment => Found::Nothing,
-            Mode::LeadingZero | Mode::Decimal | Mode::Hexadecimal => {
-                Found::Lexeme(place, Lexeme::Number(self.negative, self.value))
-            }
-            _ => Found::Stray(place),
+        let mode = self.mode;
+        if mode == modes::PLAIN {
+            return Found::Lexeme(place, Lexeme::Plain(GATHERED, self.value as usize));
         }
+        if mode == modes::BETWEEN {
+            return Found::Nothing;
+        }
+        if mode == modes::COMMENT {
+            return Found::Nothing;
+        }
+        if mode < modes::LEADING_ZERO {
+            return Found::Stray(place);
+        }
+        if mode == modes::PREFIX {
+            return Found::Stray(place);
+        }
+        Found::Lexeme(place, Lexeme::Number(self.negative, self.amount()))
     }
 
     // One byte more of a name, whose contents have so many bytes now.
-    fn longer_name(self, mode: Mode, kept: usize) -> Self
+    fn longer_name(self, mode: u64, kept: usize) -> Self
         requires { self.next < 18446744073709551615 }
         ensures { result ≡ longer_at self mode kept }
     {
@@ -148,96 +182,108 @@ impl Lexer {
             mode,
             next: self.next + 1,
             negative: false,
-            value: Some(kept as u64),
+            value: kept as u64,
+            over: false,
             ..self
         }
     }
 
-    // Past a byte of a name that is one more of the contents.
-    fn keeping(self, mode: Mode, b: u8, held: &mut [u8]) -> Self
+    // Past a byte of a name, with what it adds to the contents.
+    fn gathering(self, action: u64, b: u8, held: &mut [u8]) -> Self
         requires { self.next < 18446744073709551615 }
-        ensures next { result ≡ keeps_at self mode (length held.old) }
-        ensures held { held.new ≡ held_at self.value b held.old }
+        ensures { (result ≡ gathering_at self action (length held.old)) × (held.new ≡ held_at self.value action b held.old) }
     {
-        let n = keep(held, self.kept(), b);
-        self.longer_name(mode, n)
+        let kept = self.value as usize;
+        if action == modes::ESCAPING {
+            return self.longer_name(modes::ESCAPING, kept);
+        }
+        if action == modes::KEEPS_BOTH {
+            let n = keep(held, kept, b'\\');
+            let m = keep(held, n, b);
+            return self.longer_name(modes::QUOTED, m);
+        }
+        let n = keep(held, kept, b);
+        if action == modes::WAITS_NEXT {
+            return self.longer_name(modes::ESCAPING, n);
+        }
+        self.longer_name(action, n)
     }
 
-    // Past a byte of a name that comes into the contents with the backslash that waited.
-    fn keeping_both(self, b: u8, held: &mut [u8]) -> Self
+    // One byte more of a number, whose value is now this.
+    fn longer_number(self, mode: u64, value: Option<u64>) -> Self
         requires { self.next < 18446744073709551615 }
-        ensures next { result ≡ kept_both_at self (length held.old) }
-        ensures held { held.new ≡ held_both self.value b held.old }
+        ensures { result ≡ number_at self mode value }
     {
-        let kept = self.kept();
-        let n = keep(held, kept, b'\\');
-        let m = keep(held, n, b);
-        self.longer_name(Mode::Quoted, m)
-    }
-
-    // Past a byte of a number.
-    fn counted(self, mode: Mode, b: u8) -> Self
-        requires { self.next < 18446744073709551615 }
-        ensures { result ≡ counted_by self mode b }
-    {
-        let value = match mode {
-            Mode::Prefix => Some(0),
-            // Kept, rule: the definition's `hex_value` is 16 for a byte that is no digit (`counted_by`); none comes here.
-            Mode::Hexadecimal => {
-                values::grown(
-                    self.value,
-                    16,
-                    u64::from(values::hex_value(b).unwrap_or(16)),
-                )
-            }
-            _ => values::grown(self.value, 10, values::digit(b)),
-        };
         Lexer {
             mode,
             next: self.next + 1,
-            value,
+            value: value.unwrap_or(0),
+            over: value.is_none(),
             ..self
         }
     }
 
-    // Past a byte that finds nothing.
-    fn advanced(self, step: Step, b: u8, held: &mut [u8]) -> Self
+    // Past a byte of a number.
+    fn counted(self, action: u64, b: u8) -> Self
         requires { self.next < 18446744073709551615 }
-        ensures next { result ≡ advanced_at self step b (length held.old) }
-        ensures held { held.new ≡ held_after self step b held.old }
+        ensures { result ≡ counted_by self action b }
     {
-        match step {
-            Step::Begins(Mode::Plain) => idle(Mode::Plain, self.next).keeping(Mode::Plain, b, held),
-            Step::Begins(mode) => begun(mode, self.next, b),
-            Step::Keeps(mode) => self.keeping(mode, b, held),
-            Step::Waits => self.longer_name(Mode::Escaping, self.kept()),
-            Step::KeepsBoth => self.keeping_both(b, held),
-            Step::Counts(mode) => self.counted(mode, b),
+        if action == modes::PREFIX {
+            return self.longer_number(modes::PREFIX, Some(0));
         }
+        if action == modes::HEXADECIMAL {
+            // Kept, rule: the definition's `hex_value` is 16 for a byte that is no digit (`counted_by`); none comes here.
+            let digit = u64::from(values::hex_value(b).unwrap_or(16));
+            return self.longer_number(modes::HEXADECIMAL, values::grown(self.amount(), 16, digit));
+        }
+        self.longer_number(action, values::grown(self.amount(), 10, values::digit(b)))
+    }
+
+    // Past a byte that finds nothing.
+    fn advanced(self, action: u64, b: u8, held: &mut [u8]) -> Self
+        requires { self.next < 18446744073709551615 }
+        ensures { (result ≡ advanced_at self action b (length held.old)) × (held.new ≡ held_after self action b held.old) }
+    {
+        if modes::BEGINS <= action {
+            if action == modes::BEGINS_PLAIN {
+                return idle(modes::PLAIN, self.next).gathering(modes::PLAIN, b, held);
+            }
+            return begun(action - modes::BEGINS, self.next, b);
+        }
+        if action < modes::SIGN {
+            return self.gathering(action, b, held);
+        }
+        self.counted(action, b)
     }
 
     // Past a byte that finds something; one that ends what is open is not passed.
-    fn finding(self, finding: Finding, b: u8) -> Lexed
+    fn finding(self, action: u64, b: u8) -> Lexed
         requires { self.next < 18446744073709551615 }
-        ensures { result ≡ finding_at self finding b }
+        ensures { result ≡ finding_at self action b }
     {
+        if action == modes::ENDS {
+            return Lexed {
+                lexer: idle(modes::BETWEEN, self.next),
+                found: self.ended(),
+            };
+        }
+        let lexer = begun(modes::BETWEEN, self.next, b);
         let place = TextPlace { byte: self.start };
-        let here = TextPlace { byte: self.next };
-        let found = match finding {
-            Finding::Ends => {
-                return Lexed {
-                    lexer: idle(Mode::Between, self.next),
-                    found: self.ended(),
-                };
-            }
-            Finding::Spoils => Found::Stray(place),
-            Finding::Closes => Found::Lexeme(place, Lexeme::Quoted(GATHERED, self.kept())),
-            Finding::Mark => Found::Lexeme(here, Lexeme::Mark(b)),
-            Finding::Stray => Found::Stray(here),
-        };
+        if action == modes::SPOILS {
+            return Lexed {
+                lexer,
+                found: Found::Stray(place),
+            };
+        }
+        if action == modes::CLOSES {
+            return Lexed {
+                lexer,
+                found: Found::Lexeme(place, Lexeme::Quoted(GATHERED, self.value as usize)),
+            };
+        }
         Lexed {
-            lexer: begun(Mode::Between, self.next, b),
-            found,
+            lexer,
+            found: single(action, self.next, b),
         }
     }
 
@@ -246,22 +292,22 @@ impl Lexer {
         requires { (self.start ≤ self.next) × (self.next ≤ length text.now) × (classes.now ≡ class_table) }
         ensures { ((h : List ℕ) → Passed text.now self h result h) × (result.mode ≡ self.mode) }
     {
-        match self.mode {
-            Mode::Between => idle(Mode::Between, runs::spaces_end(text, self.next, classes)),
-            _ => self,
+        if self.mode != modes::BETWEEN {
+            return self;
         }
+        idle(modes::BETWEEN, runs::spaces_end(text, self.next, classes))
     }
 
     // Past the comment that is open, up to and with the LF that ends it.
     fn commented(self, text: &[u8]) -> Self
-        requires { (self.next < length text.now) × (self.mode ≡ modes.Comment) }
+        requires { (self.next < length text.now) × (self.mode ≡ 5) }
         ensures { ((h : List ℕ) → Passed text.now self h result h) × (self.next < result.next) }
     {
         let end = runs::line_end(text, self.next);
         if end < text.len() {
-            return begun(Mode::Between, end, b'\n');
+            return begun(modes::BETWEEN, end, b'\n');
         }
-        idle(Mode::Comment, end)
+        idle(modes::COMMENT, end)
     }
 
     // The bytes up to and with the first that finds something or begins a comment, whatever is open.
@@ -275,14 +321,12 @@ impl Lexer {
             let next = l.next;
             let b = text[next];
             let class = runs::class_of(classes, b);
-            let step = match actions::action(l.mode, class, b, l.kept()) {
-                Action::Passes(step) => step,
-                Action::Finds(finding) => {
-                    return l.finding(finding, b);
-                }
-            };
-            l = l.advanced(step, b, held);
-            if let Mode::Comment = l.mode {
+            let a = actions::action(l.mode, class, b, l.value as usize);
+            if modes::ENDS <= a {
+                return l.finding(a, b);
+            }
+            l = l.advanced(a, b, held);
+            if l.mode == modes::COMMENT {
                 return Lexed {
                     lexer: l,
                     found: Found::Nothing,
@@ -301,7 +345,7 @@ impl Lexer {
         requires { (self.start ≤ self.next) × (self.next < length text.now) × (classes.now ≡ class_table) }
         ensures { Scanned text.now self held.old result held.new }
     {
-        if let Mode::Comment = self.mode {
+        if self.mode == modes::COMMENT {
             return Lexed {
                 lexer: self.commented(text),
                 found: Found::Nothing,
@@ -319,14 +363,14 @@ impl Lexer {
         let class = fresh(l.mode, runs::class_of(classes, b));
         if class == kinds::MARK {
             return Lexed {
-                lexer: begun(Mode::Between, next, b),
-                found: Found::Lexeme(TextPlace { byte: next }, Lexeme::Mark(b)),
+                lexer: begun(modes::BETWEEN, next, b),
+                found: single(modes::MARK, next, b),
             };
         }
         let end = runs::plain_end(text, next, class, classes);
         if next < end {
             return Lexed {
-                lexer: idle(Mode::Between, end),
+                lexer: idle(modes::BETWEEN, end),
                 found: Found::Lexeme(TextPlace { byte: next }, Lexeme::Plain(next, end - next)),
             };
         }
@@ -338,15 +382,16 @@ impl Lexer {
     pub fn finish(self) -> Lexed
         ensures { LexerFinished self result }
     {
-        match self.mode {
-            Mode::Between | Mode::Comment => Lexed {
+        let end = Found::Lexeme(TextPlace { byte: self.next }, Lexeme::End);
+        if self.mode == modes::BETWEEN || self.mode == modes::COMMENT {
+            return Lexed {
                 lexer: self,
-                found: Found::Lexeme(TextPlace { byte: self.next }, Lexeme::End),
-            },
-            _ => Lexed {
-                lexer: idle(Mode::Between, self.next),
-                found: self.ended(),
-            },
+                found: end,
+            };
+        }
+        Lexed {
+            lexer: idle(modes::BETWEEN, self.next),
+            found: self.ended(),
         }
     }
 }

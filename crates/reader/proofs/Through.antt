@@ -16,7 +16,6 @@ use Rattle.language.specs.Tokens.{Lexer as Lexerᴸ, lexer₀, tokens_from, toke
 use Rattle.language.specs.Grammar.{Stage}
 use Rattle.language.specs.Reading.{Parse, Reading, fresh, take_token, parse₀, finish, read}
 use Rattle.language.proofs.ReadingLaws.{read_by_tokens}
-use Rattle.lexer.specs.declared.modes.Mode.TheVariants as modes
 use Rattle.lexer.specs.Lexing.{left, idle_at}
 use Rattle.lexer.proofs.Stepping.{stands_first}
 use Rattle.lexer.specs.declared.Lexer.{Lexer}
@@ -195,7 +194,7 @@ module _ {text : List ℕ} {ends : Bool} {x : Progress} {t₀ n₀ p₀ v₀ : L
 
 -- ---- a whole text
 
-lexer_start : (text v : List ℕ) → length v ≡ max_name → LexerAt text v lexer₀ (idle_at modes.Between 0)
+lexer_start : (text v : List ℕ) → length v ≡ max_name → LexerAt text v lexer₀ (idle_at 0 0)
 lexer_start text v r = record { stands = stands_first v r; order = omega arith; within = omega arith }
 
 table_first : {t n p : List ℕ} → t ≡ zeros table_length → n ≡ zeros names_length → p ≡ zeros pending_length → InTable [] parse₀ (reader_at 0) t n p
@@ -223,25 +222,25 @@ comes_to text short e =
 -- fed: an answer, or all is read
 module _ (text : List ℕ) (short : length text ≤ max_text) {x : Progress} (is : x ≡ progress_start) {t₀ n₀ p₀ v₀ : List ℕ} (first : (t₀ ≡ zeros table_length) × (n₀ ≡ zeros names_length) × (p₀ ≡ zeros pending_length) × (length v₀ ≡ max_name))
     {r : Result (Step Progress) Fault} {t n p v : List ℕ} (feeds : Feeds text false x t₀ n₀ p₀ v₀ r t n p v) where
-  fed : Fed text false parse₀ lexer₀ (idle_at modes.Between 0) t n p v r
+  fed : Fed text false parse₀ lexer₀ (idle_at 0 0) t n p v r
   fed = rw is at feeds [] parse₀ lexer₀ (lexer_start text v₀ first.3) (table_first first.0 first.1 first.2)
 
   pub fed_refused : {k : Fault} → r ≡ Err k → (t' : List ℕ) → ToldOf t' (read text) (Err k)
   fed_refused {k} is t' = by (rw is at fed)
     where
-      by : Fed text false parse₀ lexer₀ (idle_at modes.Between 0) t n p v (Err k) → ToldOf t' (read text) (Err k)
+      by : Fed text false parse₀ lexer₀ (idle_at 0 0) t n p v (Err k) → ToldOf t' (read text) (Err k)
       by (Fed.refused k e) = rw (comes_to text short (e [] (λ t. refl))) (ToldOf.refused k)
 
   -- and nothing else
   pub fed_reads : {z : Step Progress} → r ≡ Ok z → ((y : Progress) → z ≡ steps.Reading y → ⊥) → ⊥
   fed_reads {z} is out = by (rw is at fed) out
     where
-      by : {z : Step Progress} → Fed text false parse₀ lexer₀ (idle_at modes.Between 0) t n p v (Ok z) → ((y : Progress) → z ≡ steps.Reading y → ⊥) → ⊥
+      by : {z : Step Progress} → Fed text false parse₀ lexer₀ (idle_at 0 0) t n p v (Ok z) → ((y : Progress) → z ≡ steps.Reading y → ⊥) → ⊥
       by (Fed.reading fs parse y l e at all i same) out = out y refl
       by (Fed.ended fs y e count few table same) out = false≢true e
 
   module _ {y : Progress} (now : r ≡ Ok (steps.Reading y)) where
-    read_on : {y : Progress} → Fed text false parse₀ lexer₀ (idle_at modes.Between 0) t n p v (Ok (steps.Reading y))
+    read_on : {y : Progress} → Fed text false parse₀ lexer₀ (idle_at 0 0) t n p v (Ok (steps.Reading y))
         → (fs : List Func) × (parse : Parse) × (l : Lexerᴸ) × LexerAt text v l y.lexer × InTable fs parse y.reader t n p
         × ((more : List ℕ) → to_go parse₀ lexer₀ (drop 0 text ++ more) ≡ to_go parse l (drop y.lexer.next text ++ more))
     read_on (Fed.reading fs parse y l e at all i same) = (fs, parse, l, at, i, same)
@@ -250,13 +249,13 @@ module _ (text : List ℕ) (short : length text ≤ max_text) {x : Progress} (is
     fed_reached = let (fs, parse, l, at, i, same) = read_on (rw now at fed) in record { functions = fs; parse = parse; lexer = l; at = at; in_table = i }
 
     module _ {r' : Result (Step Progress) Fault} {t' n' p' v' : List ℕ} (closes : Feeds text true y t n p v r' t' n' p' v') where
-      whole_fed : Fed text true parse₀ lexer₀ (idle_at modes.Between 0) t' n' p' v' r'
+      whole_fed : Fed text true parse₀ lexer₀ (idle_at 0 0) t' n' p' v' r'
       whole_fed =
           let (fs, parse, l, at, i, same) = read_on (rw now at fed) in
           from same (closes fs parse l at i)
         where
           from : {parse : Parse} {l : Lexerᴸ} → ((more : List ℕ) → to_go parse₀ lexer₀ (drop 0 text ++ more) ≡ to_go parse l (drop y.lexer.next text ++ more))
-              → {r : Result (Step Progress) Fault} → Fed text true parse l y.lexer t' n' p' v' r → Fed text true parse₀ lexer₀ (idle_at modes.Between 0) t' n' p' v' r
+              → {r : Result (Step Progress) Fault} → Fed text true parse l y.lexer t' n' p' v' r → Fed text true parse₀ lexer₀ (idle_at 0 0) t' n' p' v' r
           from same (Fed.refused k e) = Fed.refused k (λ more r. same more ∙ e more r)
           from same (Fed.reading fs parse y l e at all i s) = absurd (true≢false e)
           from same (Fed.ended fs y e count few table s) = Fed.ended fs y e count few table (same [] ∙ s)
@@ -264,18 +263,18 @@ module _ (text : List ℕ) (short : length text ≤ max_text) {x : Progress} (is
       pub closed_refused : {k : Fault} → r' ≡ Err k → (t'' : List ℕ) → ToldOf t'' (read text) (Err k)
       closed_refused {k} is t'' = by (rw is at whole_fed)
         where
-          by : Fed text true parse₀ lexer₀ (idle_at modes.Between 0) t' n' p' v' (Err k) → ToldOf t'' (read text) (Err k)
+          by : Fed text true parse₀ lexer₀ (idle_at 0 0) t' n' p' v' (Err k) → ToldOf t'' (read text) (Err k)
           by (Fed.refused k e) = rw (comes_to text short (e [] (λ t. refl))) (ToldOf.refused k)
 
       pub closed_ends : {z : Step Progress} → r' ≡ Ok z → ((y : Progress) → z ≡ steps.Ended y → ⊥) → ⊥
       closed_ends {z} is out = by (rw is at whole_fed) out
         where
-          by : {z : Step Progress} → Fed text true parse₀ lexer₀ (idle_at modes.Between 0) t' n' p' v' (Ok z) → ((y : Progress) → z ≡ steps.Ended y → ⊥) → ⊥
+          by : {z : Step Progress} → Fed text true parse₀ lexer₀ (idle_at 0 0) t' n' p' v' (Ok z) → ((y : Progress) → z ≡ steps.Ended y → ⊥) → ⊥
           by (Fed.reading fs parse y l e at all i same) out = true≢false e
           by (Fed.ended fs y e count few table same) out = out y refl
 
       module _ {z : Progress} (ended : r' ≡ Ok (steps.Ended z)) where
-        at_end : {z : Progress} → Fed text true parse₀ lexer₀ (idle_at modes.Between 0) t' n' p' v' (Ok (steps.Ended z))
+        at_end : {z : Progress} → Fed text true parse₀ lexer₀ (idle_at 0 0) t' n' p' v' (Ok (steps.Ended z))
             → (fs : List Func) × (z.reader.draft.functions ≡ length fs) × (length fs ≤ max_functions) × (t' ≡ table_with fs []) × (read text ≡ Reading.program fs)
         at_end (Fed.ended fs z e count few table same) = (fs, count, few, table, comes_to text short same)
 
@@ -297,7 +296,7 @@ pub record JudgedTo (text : List ℕ) (s : Progress) (f n p v : List ℕ) : Type
   pub lexer : Lexerᴸ
   pub at : LexerAt text v lexer s.lexer
   pub between : Between functions parse s.reader f n p
-  pub same : Same text true parse₀ lexer₀ (idle_at modes.Between 0) parse lexer s.lexer
+  pub same : Same text true parse₀ lexer₀ (idle_at 0 0) parse lexer s.lexer
 
 pub judge_start : (text : List ℕ) {x : Progress} → x ≡ progress_start → {f n p v : List ℕ} → f ≡ zeros function_length → n ≡ zeros names_length → p ≡ zeros pending_length → length v ≡ max_name
     → JudgedTo text x f n p v

@@ -9,8 +9,7 @@ use Rattle.language.specs.Reading.{Draft, ActOutcome, Parse, fresh}
 use Rattle.language.specs.Reading as meaning
 use Rattle.language.specs.Rooms.{Begun, begun, Room, begun_at}
 use Rattle.name_index.specs.Hashes.{heads}
-use Rattle.grammar.specs.Meaning.{bytes_of, stage_is}
-use Rattle.grammar.specs.declared.Stage.TheVariants as stages
+use Rattle.grammar.specs.Meaning.{bytes_of, stage_is, stage_from}
 use Rattle.grammar.specs.Ready.{StageReady}
 use Rattle.grammar.specs.declared.Token.{Token}
 use Rattle.grammar.specs.declared.Token.TheVariants as tokens
@@ -27,7 +26,7 @@ use Rattle.reader.specs.declared.taking.Step.TheVariants as steps
 
 -- Before the first token of a function, so many being closed.
 abbrev pub reader_at : ℕ → Reader
-reader_at n = record { stage = stages.Top; draft = fresh_at n }
+reader_at n = record { stage = stage_from 0 0 0; draft = fresh_at n }
 
 -- ---- what is in hand at a stage
 

@@ -19,7 +19,6 @@ use Rattle.grammar.specs.declared.Token.{Token}
 use Rattle.lexer.specs.Contents.{gathered_place, contents_in}
 use Rattle.lexer.specs.Lexing as lexing
 use Rattle.lexer.specs.Lexing.{Finds, Scanned, LexerFinished, left, idle_at}
-use Rattle.lexer.specs.declared.modes.Mode.TheVariants as modes
 use Rattle.lexer.specs.declared.Lexer.{Lexer}
 use Rattle.lexer.specs.declared.Lexeme.{Lexeme}
 use Rattle.lexer.specs.declared.Lexeme.TheVariants as lexemes
@@ -92,7 +91,7 @@ pub data Nexts (text : List ℕ) (c : Lexer) (h : List ℕ) (r : Lexed) (h' : Li
 
 -- Before the first byte.
 abbrev pub progress_start : Progress
-progress_start = record { lexer = idle_at modes.Between 0; reader = reader_at 0 }
+progress_start = record { lexer = idle_at 0 0; reader = reader_at 0 }
 
 -- What is gathered of an open name is in h.
 pub record LexerAt (text h : List ℕ) (l : Lexerᴸ) (c : Lexer) : Type 0 where

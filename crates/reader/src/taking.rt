@@ -30,7 +30,11 @@ impl Reader {
         ensures { result ≡ reader_at 0 }
     {
         Self {
-            stage: Stage::Top,
+            stage: Stage {
+                kind: 0,
+                more: 0,
+                detail: 0,
+            },
             draft: Draft::fresh(0),
         }
     }

@@ -1,127 +1,142 @@
--- `grammar::next_move`: at each stage its helper.
-use Rattle.language.specs.Grammar.{next_move}
+-- `grammar::next_move`: at each kind the helper of that stage.
+use mathlib.Core.Path.{◌≡◌, sym, ap, ◌∙◌}
+use Prim.Native.Nat.{ℕ, ◌≤◌, ◌<◌}
+use native.Mathlib.Decide.{dec_lt}
+use native.Mathlib.Omega.{arith}
+use lib.ListN.{get_or-eq_default}
+use Rattle.laws.proofs.Matches.{None, past}
+use Rattle.language.specs.Grammar.{Stage, next_move}
+use Rattle.grammar.specs.Meaning.{stages, stage_of, token_of, instruction_at}
 use Rattle.grammar.proofs.next_move.Goals as goal
 
-pub returns-in-Top : goal.returns-in-Top
-unfolding next_move
-returns-in-Top c s = rw c.in-Top.is (c.top.ensures s)
+-- the two kinds at which an instruction may stand
+instruction_kind : (k m d : ℕ) → 17 ≤ k → k < 19 → stage_of k m d ≡ instruction_at k
+instruction_kind k m d h i = elim (dec_lt k 18) [ yes l ↦ (let e : k ≡ 17 = omega arith in rw e) | no l ↦ (let e : k ≡ 18 = omega arith in rw e) ]
 
-pub returns-in-Header : goal.returns-in-Header
+pub returns-in-0 : goal.returns-in-0
 unfolding next_move
-returns-in-Header c s = rw c.in-Header.is (c.header.ensures s)
+returns-in-0 c s = rw c.in-0.is (c.top.ensures s)
 
-pub returns-in-Result : goal.returns-in-Result
+pub returns-in-1 : goal.returns-in-1
 unfolding next_move
-returns-in-Result c s = rw c.in-Result.is (c.result.ensures s)
+returns-in-1 c s = rw c.in-1.is (c.header.ensures s)
 
-pub returns-in-FunctionName : goal.returns-in-FunctionName
+pub returns-in-2 : goal.returns-in-2
 unfolding next_move
-returns-in-FunctionName c s = rw c.in-FunctionName.is (c.function_name.ensures s)
+returns-in-2 c s = rw c.in-2.is (c.result.ensures s)
 
-pub returns-in-Parameters : goal.returns-in-Parameters
+pub returns-in-3 : goal.returns-in-3
 unfolding next_move
-returns-in-Parameters c s = rw c.in-Parameters.is (rw c.to.ensures at (c.mark.ensures s))
+returns-in-3 c s = rw c.in-3.is (c.function_name.ensures s)
 
-pub returns-in-FirstParameter : goal.returns-in-FirstParameter
+pub returns-in-4 : goal.returns-in-4
 unfolding next_move
-returns-in-FirstParameter c s = rw c.in-FirstParameter.is (c.first_parameter.ensures s)
+returns-in-4 c s = rw c.in-4.is (rw c.to.ensures at (c.mark.ensures s))
 
-pub returns-in-Parameter : goal.returns-in-Parameter
+pub returns-in-5 : goal.returns-in-5
 unfolding next_move
-returns-in-Parameter c s = rw c.in-Parameter.is (c.parameter.ensures s)
+returns-in-5 c s = rw c.in-5.is (c.first_parameter.ensures s)
 
-pub returns-in-ParameterEnd : goal.returns-in-ParameterEnd
+pub returns-in-6 : goal.returns-in-6
 unfolding next_move
-returns-in-ParameterEnd c s = rw c.in-ParameterEnd.is (c.parameter_end.ensures s)
+returns-in-6 c s = rw c.in-6.is (c.parameter.ensures s)
 
-pub returns-in-ParameterName : goal.returns-in-ParameterName
+pub returns-in-7 : goal.returns-in-7
 unfolding next_move
-returns-in-ParameterName c s = rw c.in-ParameterName.is (c.parameter_name.ensures s)
+returns-in-7 c s = rw c.in-7.is (c.parameter_end.ensures s)
 
-pub returns-in-Body : goal.returns-in-Body
+pub returns-in-8 : goal.returns-in-8
 unfolding next_move
-returns-in-Body c s = rw c.in-Body.is (rw c.to-in-Body.ensures at (c.mark-in-Body.ensures s))
+returns-in-8 c s = rw c.in-8.is (c.parameter_name.ensures s)
 
-pub returns-in-Declarations : goal.returns-in-Declarations
+pub returns-in-9 : goal.returns-in-9
 unfolding next_move
-returns-in-Declarations c s = rw c.in-Declarations.is (c.declarations.ensures s)
+returns-in-9 c s = rw c.in-9.is (rw c.to-in-9.ensures at (c.mark-in-9.ensures s))
 
-pub returns-in-RegisterType : goal.returns-in-RegisterType
+pub returns-in-10 : goal.returns-in-10
 unfolding next_move
-returns-in-RegisterType c s = rw c.in-RegisterType.is (c.register_type.ensures s)
+returns-in-10 c s = rw c.in-10.is (c.declarations.ensures s)
 
-pub returns-in-RegisterEnd : goal.returns-in-RegisterEnd
+pub returns-in-11 : goal.returns-in-11
 unfolding next_move
-returns-in-RegisterEnd c s = rw c.in-RegisterEnd.is (rw c.to-in-RegisterEnd.ensures at (c.mark-in-RegisterEnd.ensures s))
+returns-in-11 c s = rw c.in-11.is (c.register_type.ensures s)
 
-pub returns-in-RegisterName : goal.returns-in-RegisterName
+pub returns-in-12 : goal.returns-in-12
 unfolding next_move
-returns-in-RegisterName c s = rw c.in-RegisterName.is (c.register_name.ensures s)
+returns-in-12 c s = rw c.in-12.is (rw c.to-in-12.ensures at (c.mark-in-12.ensures s))
 
-pub returns-in-Blocks : goal.returns-in-Blocks
+pub returns-in-13 : goal.returns-in-13
 unfolding next_move
-returns-in-Blocks c s = rw c.in-Blocks.is (c.blocks-in-Blocks.ensures s)
+returns-in-13 c s = rw c.in-13.is (c.register_name.ensures s)
 
-pub returns-in-BlockName : goal.returns-in-BlockName
+pub returns-in-14 : goal.returns-in-14
 unfolding next_move
-returns-in-BlockName c s = rw c.in-BlockName.is (c.block_name.ensures s)
+returns-in-14 c s = rw c.in-14.is (c.blocks-in-14.ensures s)
 
-pub returns-in-BlockBody : goal.returns-in-BlockBody
+pub returns-in-15 : goal.returns-in-15
 unfolding next_move
-returns-in-BlockBody c s = rw c.in-BlockBody.is (rw c.to-in-BlockBody.ensures at (c.mark-in-BlockBody.ensures s))
+returns-in-15 c s = rw c.in-15.is (c.block_name.ensures s)
 
-pub returns-in-FirstInstruction : goal.returns-in-FirstInstruction
+pub returns-in-16 : goal.returns-in-16
 unfolding next_move
-returns-in-FirstInstruction c s = rw c.in-FirstInstruction.is (c.first_instruction.ensures s)
+returns-in-16 c s = rw c.in-16.is (rw c.to-in-16.ensures at (c.mark-in-16.ensures s))
 
-pub returns-in-NextInstruction : goal.returns-in-NextInstruction
+pub returns-in-19 : goal.returns-in-19
 unfolding next_move
-returns-in-NextInstruction c s = rw c.in-NextInstruction.is (c.next_instruction.ensures s)
+returns-in-19 c s = rw c.in-19.is (rw c.to-in-19.ensures at (c.mark-in-19.ensures s))
 
-pub returns-in-Assignment : goal.returns-in-Assignment
+pub returns-in-20 : goal.returns-in-20
 unfolding next_move
-returns-in-Assignment c s = rw c.in-Assignment.is (rw c.to-in-Assignment.ensures at (c.mark-in-Assignment.ensures s))
+returns-in-20 c s = rw c.in-20.is (c.instruction.ensures s)
 
-pub returns-in-Instruction : goal.returns-in-Instruction
+pub returns-in-21 : goal.returns-in-21
 unfolding next_move
-returns-in-Instruction c s = rw c.in-Instruction.is (c.instruction.ensures s)
+returns-in-21 c s = rw c.in-21.is (c.source.ensures s)
 
-pub returns-in-Source : goal.returns-in-Source
+pub returns-in-22 : goal.returns-in-22
 unfolding next_move
-returns-in-Source c s = rw c.in-Source.is (c.source.ensures s)
+returns-in-22 c s = rw c.in-22.is (c.source_comma.ensures s)
 
-pub returns-in-SourceComma : goal.returns-in-SourceComma
+pub returns-in-23 : goal.returns-in-23
 unfolding next_move
-returns-in-SourceComma c s = rw c.in-SourceComma.is (c.source_comma.ensures s)
+returns-in-23 c s = rw c.in-23.is (c.operand.ensures s)
 
-pub returns-in-Operand : goal.returns-in-Operand
+pub returns-in-24 : goal.returns-in-24
 unfolding next_move
-returns-in-Operand c s = rw c.in-Operand.is (c.operand.ensures s)
+returns-in-24 c s = rw c.in-24.is (c.number.ensures s)
 
-pub returns-in-Number : goal.returns-in-Number
+pub returns-in-25 : goal.returns-in-25
 unfolding next_move
-returns-in-Number c s = rw c.in-Number.is (c.number.ensures s)
+returns-in-25 c s = rw c.in-25.is (c.entry.ensures s)
 
-pub returns-in-Entry : goal.returns-in-Entry
+pub returns-in-26 : goal.returns-in-26
 unfolding next_move
-returns-in-Entry c s = rw c.in-Entry.is (c.entry.ensures s)
+returns-in-26 c s = rw c.in-26.is (c.entry_end.ensures s)
 
-pub returns-in-EntryEnd : goal.returns-in-EntryEnd
+pub returns-in-27 : goal.returns-in-27
 unfolding next_move
-returns-in-EntryEnd c s = rw c.in-EntryEnd.is (c.entry_end.ensures s)
+returns-in-27 c s = rw c.in-27.is (c.mention.ensures s)
 
-pub returns-in-Mention : goal.returns-in-Mention
+pub returns-in-28 : goal.returns-in-28
 unfolding next_move
-returns-in-Mention c s = rw c.in-Mention.is (c.mention.ensures s)
+returns-in-28 c s = rw c.in-28.is (c.mention_comma.ensures s)
 
-pub returns-in-MentionComma : goal.returns-in-MentionComma
+pub returns-in-29 : goal.returns-in-29
 unfolding next_move
-returns-in-MentionComma c s = rw c.in-MentionComma.is (c.mention_comma.ensures s)
+returns-in-29 c s = rw c.in-29.is (rw c.to-in-29.ensures at (c.mark-in-29.ensures s))
 
-pub returns-in-OperandEnd : goal.returns-in-OperandEnd
+pub returns-in-17 : goal.returns-in-17
 unfolding next_move
-returns-in-OperandEnd c s = rw c.in-OperandEnd.is (rw c.to-in-OperandEnd.ensures at (c.mark-in-OperandEnd.ensures s))
+returns-in-17 c s =
+    let x = c.args.stage in
+    c.next_instruction.ensures s ∙ ap (λ (y : Stage). next_move y (token_of s c.args.token)) (sym (instruction_kind x.kind x.more x.detail (past 17 x.kind c.in-17.in_default-own.rest.0.0.0.0.0.0.0.0.0.0.0) c.in-17.if-kind-lt19-own.true))
 
-pub returns-in-InstructionEnd : goal.returns-in-InstructionEnd
+pub returns-in_default : goal.returns-in_default
 unfolding next_move
-returns-in-InstructionEnd c s = rw c.in-InstructionEnd.is (rw c.to-in-InstructionEnd.ensures at (c.mark-in-InstructionEnd.ensures s))
+returns-in_default c s =
+    let x = c.args.stage in
+    let none : None 17 x.kind = c.in_default.in_default-own.rest.0.0.0.0.0.0.0.0.0.0.0 in
+    let far : 19 ≤ x.kind = c.in_default.if-kind-lt19-own.false in
+    let all : None 30 x.kind = (((((((((((((none, λ e. omega (arith, e)), λ e. omega (arith, e)), c.in_default.in_default-own.rest.0.0.0.0.0.0.0.0.0.0.1), c.in_default.in_default-own.rest.0.0.0.0.0.0.0.0.0.1), c.in_default.in_default-own.rest.0.0.0.0.0.0.0.0.1), c.in_default.in_default-own.rest.0.0.0.0.0.0.0.1), c.in_default.in_default-own.rest.0.0.0.0.0.0.1), c.in_default.in_default-own.rest.0.0.0.0.0.1), c.in_default.in_default-own.rest.0.0.0.0.1), c.in_default.in_default-own.rest.0.0.0.1), c.in_default.in_default-own.rest.0.0.1), c.in_default.in_default-own.rest.0.1), c.in_default.in_default-own.rest.1) in
+    let e = get_or-eq_default (stages x.more x.detail) Stage.instruction_end (past 30 x.kind all) in
+    rw e (rw c.to-in_default.ensures at (c.mark-in_default.ensures s))

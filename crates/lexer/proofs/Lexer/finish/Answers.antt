@@ -1,13 +1,18 @@
 -- `lexer::Lexer::finish`: what is open, ended by the text's end, or the end.
-use mathlib.Core.Logic.{⊎_elim}
 use Rattle.language.proofs.TokenSteps.{Idle}
 use Rattle.lexer.proofs.Passing.{finished_idle, finished_open}
 use Rattle.lexer.proofs.Lexer.finish.Goals as goal
+use Rattle.lexer.proofs.Lexer.finish.Goals.{then-self-eq-BETWEEN-via-then-self-eq-BETWEEN, then-self-eq-BETWEEN-via-else-self-eq-BETWEEN+then-self-eq-COMMENT}
 
 -- nothing is open between tokens, nor in a comment
-pub returns-in-Between : goal.returns-in-Between
-returns-in-Between c = ⊎_elim (finished_idle c.args.self Idle.between) (finished_idle c.args.self Idle.comment) c.in-Between.is
+pub returns-then-self-eq-BETWEEN : goal.returns-then-self-eq-BETWEEN
+returns-then-self-eq-BETWEEN c =
+    let self = c.args.self in
+    elim c.then-self-eq-BETWEEN.branch [
+      | then-self-eq-BETWEEN-via-then-self-eq-BETWEEN w ↦ finished_idle self Idle.between w.if-self-eq-BETWEEN.true
+      | then-self-eq-BETWEEN-via-else-self-eq-BETWEEN+then-self-eq-COMMENT w ↦ finished_idle self Idle.comment w.if-self-eq-COMMENT.true
+    ]
 
-pub returns-in_default : goal.returns-in_default
-returns-in_default c =
-    rw (c.ended.ensures, c.idle.ensures) (finished_open c.args.self c.in_default.not-Between)
+pub returns : goal.returns
+returns c =
+    rw (c.ended.ensures, c.idle.ensures) (finished_open c.args.self c.if-self-eq-BETWEEN.false)

@@ -5,17 +5,16 @@ use native.Mathlib.Omega.{arith}
 use lib.ListN.{get_or}
 use Rattle.language.proofs.TokenSteps.{Idle}
 use Rattle.language.specs.Bytes.{class_of, class_number}
-use Rattle.lexer.specs.declared.modes.Mode.TheVariants as modes
 use Rattle.lexer.specs.Lexing.{idle_at}
 use Rattle.lexer.proofs.Stepping.{passed_then, passed_lexes, passed_scanned, lexes_nothing, moved_scanned, left_same, passed_idle}
 use Rattle.lexer.proofs.Passing.{mark_found, plain_found, fresh_is}
 use Rattle.lexer.proofs.Lexer.scan.Goals as goal
 
 pub commented-requires : goal.commented-requires
-commented-requires c = (c.requires.1, c.in-Comment.is)
+commented-requires c = (c.requires.1, c.if-self-eq-COMMENT.true)
 
-pub returns-in-Comment : goal.returns-in-Comment
-returns-in-Comment c =
+pub returns-then-self-eq-COMMENT : goal.returns-then-self-eq-COMMENT
+returns-then-self-eq-COMMENT c =
     let p = c.commented.ensures in
     moved_scanned c.args.text.now c.args.self _ (lexes_nothing c.args.text.now c.args.self c.commented.result (p.0 c.args.held.now)) p.1
 
@@ -39,7 +38,7 @@ returns-then-class-eq-MARK c =
     let k = class_number (class_of b) in
     let small = (c.shared_slice_known-1.given l.next).fits in
     let f = fresh_is l.mode k 6 (sym (rw c.class_of.ensures at c.fresh-class.ensures) ∙ c.if-class-eq-MARK.true) (omega arith) in
-    rw c.begun.ensures
+    rw (c.single.ensures, c.begun.ensures)
     (passed_scanned text c.args.self l _ p (left_same text c.args.self l p.forth c.spaced-l.ensures.1)
     (mark_found text l b k p.order c.if-text-next.false refl small refl f.0 f.1 c.args.held.now))
 
@@ -61,8 +60,8 @@ returns-then-next-end c =
     let f = fresh_is l.mode k 0 (sym (rw c.class_of.ensures at c.fresh-class.ensures) ∙ q.0) (omega arith) in
     rw c.idle.ensures
     (moved_scanned text c.args.self _
-    (passed_lexes text c.args.self (idle_at modes.Between l.next) _
-    (passed_then text c.args.self l (idle_at modes.Between l.next) p (passed_idle Idle.between text l p.within f.0 h))
+    (passed_lexes text c.args.self (idle_at 0 l.next) _
+    (passed_then text c.args.self l (idle_at 0 l.next) p (passed_idle Idle.between text l p.within f.0 h))
     (plain_found text h l.next e (omega (arith, c.if-text-next.false)) c.if-next-end.true q.1))
     (omega (arith, p.forth, c.if-next-end.true)))
 

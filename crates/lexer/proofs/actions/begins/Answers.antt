@@ -3,13 +3,17 @@ use Rattle.laws.proofs.Branches.{branches}
 use Rattle.lexer.specs.Actions.{begins_at}
 use Rattle.lexer.proofs.actions.begins.Goals as goal
 
+pub returns-then-b-eq48 : goal.returns-then-b-eq48
+unfolding begins_at
+returns-then-b-eq48 c = search branches depth 12
+
 pub returns-in-0 : goal.returns-in-0
 unfolding begins_at
 returns-in-0 c = search branches depth 12
 
-pub returns-in-1 : goal.returns-in-1
+pub returns-else-b-eq48 : goal.returns-else-b-eq48
 unfolding begins_at
-returns-in-1 c = rw c.digit_mode.ensures (search branches depth 12)
+returns-else-b-eq48 c = search branches depth 12
 
 pub returns-in-2 : goal.returns-in-2
 unfolding begins_at
