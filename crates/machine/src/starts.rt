@@ -28,6 +28,11 @@ pub fn start(args: &[u64], registers: &mut [u64])
     requires { length args.now ≤ length registers.old }
     ensures { registers.new ≡ args.now ++ replicate (length registers.old - length args.now) 0 }
 {
-    registers[..args.len()].copy_from_slice(args);
-    registers[args.len()..].fill(0);
+    // Kept, rule: a loop and not `copy_from_slice`, as in `numbers::put_bytes`.
+    for i in 0..args.len() {
+        registers[i] = args[i];
+    }
+    for i in args.len()..registers.len() {
+        registers[i] = 0;
+    }
 }
