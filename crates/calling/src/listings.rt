@@ -9,6 +9,7 @@ use answer_lines::put_refusal;
 use listing::list_program;
 use table::TABLE_LENGTH;
 
+#[inline(never)]
 pub fn list_text(text: &[u8], out: &mut [u8]) -> usize
     requires { listing_most ≤ length out.old }
     ensures { Written out.old 0 (listing_of_text text.now) out.new result × (result ≤ listing_most) }

@@ -82,6 +82,7 @@ fn run_checked(
 }
 
 // What is printed of a run: `count` arguments were given, of which the first 256 are kept.
+#[inline(never)]
 pub fn run_text(
     text: &[u8],
     word: &[u8],

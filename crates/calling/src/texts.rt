@@ -24,6 +24,7 @@ pub fn write_lines(t: &[u8], out: &mut [u8]) -> usize
 }
 
 // Of a text.
+#[inline(never)]
 pub fn write_text(text: &[u8], out: &mut [u8]) -> usize
     requires { length out.old ≡ max_text }
     ensures { Prints out.new result (write_printed text.now) }

@@ -27,6 +27,7 @@ fn translate_function(t: &[u8], function: u64, out: &mut [u8]) -> usize
 }
 
 // Of a text.
+#[inline(never)]
 pub fn translate_text(text: &[u8], word: &[u8], out: &mut [u8]) -> usize
     requires { length out.old ≡ max_text }
     ensures { Prints out.new result (translate_printed text.now word.now) }

@@ -93,7 +93,8 @@ fn keep_words(rt: &impl Env, words: usize, kept: &mut [Option<Decimal>]) -> Resu
     Ok(())
 }
 
-// `run FILE FUNCTION BUDGET [ARG..]`: the line of the answer.
+// `run FILE FUNCTION BUDGET [ARG..]`: the line of the answer. Not compiled into `call`, where its rooms would be touched for every command.
+#[inline(never)]
 fn run(rt: &(impl Env + Files + Print), words: usize) -> Result<(), Failure>
     requires { 5 ≤ words }
 {
