@@ -1,7 +1,7 @@
 -- Arguments that lie in their parameters' ranges, and the numbers that the registers hold of them. Assumes nothing.
 use mathlib.Core.Path.{◌≡◌, refl, sym, ap, ◌∙◌}
 use mathlib.Core.Bool.{false}
-use mathlib.Core.List.{List, map}
+use mathlib.Core.List.{List, [], map}
 use Prim.Native.Nat.{ℕ, ◌+◌, ◌≤◌, ◌<◌}
 use native.Mathlib.Nat.{not-suc-le-zero, zero-add}
 use native.Mathlib.Decide.{ℕ_discrete}
@@ -11,14 +11,17 @@ use lib.Seq.{ext_get_or, get_or-take, length-take-le}
 use Rattle.laws.specs.Lists.{below}
 use Rattle.laws.proofs.Positions.{position_below}
 use Rattle.laws.proofs.Ranges.{get_or_map_from}
-use Rattle.laws.proofs.Indexing.{length_below}
+use Rattle.laws.proofs.Indexing.{length_below, get_or_inside}
 use Rattle.laws.proofs.OneMore.{fill_more}
 use Rattle.language.specs.Programs.{Func}
 use Rattle.language.specs.Table.{register_count, register_type, decode_function}
 use Rattle.language.proofs.TableView.{type_is}
 use Rattle.std.specs.Prelude.{Option, Some, None}
-use Rattle.decimal.specs.Meanings.{bits_from}
-use Rattle.call_words.specs.Arguments.{Given, is_outside, bits_held, argument_bits, first_outside, arguments_of}
+use Rattle.language.specs.Reading.{number_in_range, bits_of}
+use Rattle.language.proofs.Computing.{computing}
+use Rattle.language.proofs.ReadingFacts.{turn}
+use Rattle.decimal.specs.Meanings.{bits_in, bits_from}
+use Rattle.call_words.specs.Arguments.{Given, given_of, unkept, is_outside, bits_held, argument_bits, first_outside, arguments_of}
 
 -- ---- one argument
 
@@ -26,11 +29,12 @@ use Rattle.call_words.specs.Arguments.{Given, is_outside, bits_held, argument_bi
 pub argument_is :
     (t : List ℕ) (a : ℕ) (g : Given) (k : ℕ) {kind : ℕ} {r x : Option ℕ}
     → k < register_count t a
+    → k < length g.numbers
     → kind ≡ register_type t a k
     → r ≡ bits_from kind (get_or g.numbers k None)
     → r ≡ x
     → argument_bits (decode_function t a) g k ≡ x
-argument_is t a g k l e h s = rw (type_is t a k l, ← e, ← h) s
+argument_is t a g k l m e h s = rw (type_is t a k l, get_or_inside g.numbers k unkept None m, ← e, ← h) s
 
 -- ---- all of them
 
@@ -75,3 +79,10 @@ module _ (f : Func) (g : Given) where
       (λ j b.
       let c : j < g.count = rw short at b in
       get_or-take g.count out j 0 c ∙ h'.held j c ∙ sym (get_or_map_from (λ k. bits_held (argument_bits f g k)) 0 0 g.count j c ∙ ap (λ k. bits_held (argument_bits f g k)) (zero-add j)))
+
+-- ---- an example, which a must-fail edit runs into
+
+-- An argument of which nothing is kept lies inside.
+unkept_inside : first_outside turn (given_of 3 []) ≡ 3
+unfolding computing first_outside bits_in number_in_range bits_of turn
+unkept_inside = refl

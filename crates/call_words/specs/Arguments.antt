@@ -1,5 +1,5 @@
 -- The arguments of a call: words by meaning, as the registers of a function's parameters hold them. Assumes nothing.
-use Rattle.std.specs.Prelude.{Bool, is_none, List, map, ℕ, get_or, Option, None}
+use Rattle.std.specs.Prelude.{Bool, false, is_none, List, map, ℕ, get_or, Option, Some}
 use Rattle.std.specs.Option.{unwrap_or}
 use Rattle.laws.specs.Lists.{position, below}
 use Rattle.language.specs.Programs.{Func, type_at}
@@ -20,9 +20,13 @@ pub record Given : Type 0 where
 abbrev pub given_of : ℕ → List (Option Decimal) → Given
 given_of n ds = record { count = n; numbers = ds }
 
+-- What counts of an argument of which nothing is kept.
+abbrev pub unkept : Option Decimal
+unkept = Some (record { negative = false; magnitude = Some 0 })
+
 -- Argument k as a register of its parameter's type holds it.
 abbrev pub argument_bits : Func → Given → ℕ → Option ℕ
-argument_bits f g k = bits_from (type_at f k) (get_or g.numbers k None)
+argument_bits f g k = bits_from (type_at f k) (get_or g.numbers k unkept)
 
 -- The first argument outside its parameter's range by meaning, or their number.
 unfoldable pub first_outside : Func → Given → ℕ

@@ -24,7 +24,7 @@ use Rattle.theorems.proofs.AcceptanceCheck.{sound_parts, clean_of_check}
 use Rattle.std.specs.Prelude.{Option, Some, None}
 use Rattle.decimal.specs.declared.words.Decimal.{Decimal}
 use Rattle.decimal.specs.Meanings.{bits_in, bits_below, bits_from}
-use Rattle.call_words.specs.Arguments.{Given, bits_held, argument_bits, first_outside, arguments_of}
+use Rattle.call_words.specs.Arguments.{Given, unkept, bits_held, argument_bits, first_outside, arguments_of}
 use Rattle.calling.specs.Calls.{call_function}
 use Rattle.calling.specs.Statements.{CallRuns}
 
@@ -64,7 +64,7 @@ module _ (f : Func) (g : Given) where
   argument_at j l = get_or_map_from (λ k. bits_held (argument_bits f g k)) 0 0 g.count j l ∙ ap (λ k. bits_held (argument_bits f g k)) (zero-add j)
 
   argument_below : (j : ℕ) → j < g.count → get_or (arguments_of f g) j 0 < 2 ^ width (type_at f j)
-  argument_below j l = rw (argument_at j l) (held_below (type_at f j) (get_or g.numbers j None))
+  argument_below j l = rw (argument_at j l) (held_below (type_at f j) (get_or g.numbers j unkept))
 
   abbrev test : Register → ℕ → Bool
   test r v = ltb v (2 ^ width r.type)
