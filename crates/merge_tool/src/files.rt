@@ -1,5 +1,5 @@
 // Files: a store loaded, and replaced whole.
-ghost use Rattle.std.specs.Prelude.{◌≡◌, length};
+ghost use Rattle.std.specs.Prelude.{◌≡◌, ◌≤◌, IfSome, length};
 ghost use Rattle.records.specs.Stores.{store_length};
 
 use crate::STORE;
@@ -151,7 +151,9 @@ fn put_new<R: Files + RandomSource>(
 }
 
 // The name of a new file beside a store's, put at the start of the room: letters are put for the last six. None where it is too long.
-fn put_name<'a>(path: &[u8], room: &'a mut [u8; PATH_MAX]) -> Option<&'a mut [u8]> {
+fn put_name<'a>(path: &[u8], room: &'a mut [u8; PATH_MAX]) -> Option<&'a mut [u8]>
+    ensures { IfSome result (λ name. length name.now ≤ 4096) }
+{
     let n = path.len();
     if OWN < n {
         return None;
