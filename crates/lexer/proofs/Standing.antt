@@ -18,7 +18,7 @@ use Rattle.lexer.specs.declared.Lexer.{Lexer}
 use Rattle.lexer.specs.declared.Lexeme.TheVariants as lexemes
 use Rattle.lexer.specs.declared.Found.{Found}
 use Rattle.lexer.specs.declared.Found.TheVariants as founds
-use Rattle.std.specs.Prelude.{Option, Some, unwrap_or}
+use Rattle.std.specs.Prelude.{Option, Some, None, is_none, unwrap_or}
 use Rattle.lexer.specs.Numbers.{amount_of, amount_said, grown_at}
 use Rattle.lexer.specs.Contents.{gathered_place, contents_in, counted_at}
 use Rattle.lexer.specs.Actions.{mode_number}
@@ -66,14 +66,18 @@ amount_small : (n : ℕ) → n < 256 → Some n ≡ amount_of n
 unfolding amount_of
 amount_small n h = rw (lt-ltb n beyond (omega arith))
 
+none_zero : (v : Option ℕ) → is_none v ≡ true → unwrap_or v 0 ≡ 0
+none_zero None e = refl
+none_zero (Some n) e = absurd (cc)
+
 -- a lexer that begins something at p, with no contents yet
 stands_at : {h : List ℕ} (m : Mode) (p : ℕ) (g : Bool) (v n : ℕ) → length h ≡ 64 → [] ≡ held m (take v h) → Sized m v → Valued m (Some v) n
     → Stands h (record { mode = m; next = p + 1; start = p; bytes = []; negative = g; value = n }) (lexer_from (mode_number m) (p + 1) p g v false)
-stands_at m p g v n room none z a = record { room = room; mode = refl; next = refl; start = refl; bytes = none; size = z; negative = refl; amount = a }
+stands_at m p g v n room none z a = record { room = room; mode = refl; next = refl; start = refl; bytes = none; size = z; negative = refl; amount = a; zeroed = λ z e. absurd (cc) }
 
 pub stands_idle : {m : Mode} → Idle m → (h : List ℕ) → length h ≡ 64 → (p : ℕ) → Stands h (idle m p) (idle_at (mode_number m) p)
-stands_idle Idle.between h r p = record { room = r; mode = refl; next = refl; start = refl; bytes = refl; size = tt; negative = refl; amount = amount_zero }
-stands_idle Idle.comment h r p = record { room = r; mode = refl; next = refl; start = refl; bytes = refl; size = tt; negative = refl; amount = amount_zero }
+stands_idle Idle.between h r p = record { room = r; mode = refl; next = refl; start = refl; bytes = refl; size = tt; negative = refl; amount = amount_zero; zeroed = λ z e. absurd (cc) }
+stands_idle Idle.comment h r p = record { room = r; mode = refl; next = refl; start = refl; bytes = refl; size = tt; negative = refl; amount = amount_zero; zeroed = λ z e. absurd (cc) }
 
 -- a letter is the first byte of contents
 letter_stands : (h : List ℕ) → length h ≡ 64 → (p b : ℕ)
@@ -81,7 +85,7 @@ letter_stands : (h : List ℕ) → length h ≡ 64 → (p b : ℕ)
 unfolding held_at gathering_at
 letter_stands h r p b =
     rw (counted_more (length h) 0 (omega arith))
-    (record { room = simp length-set r; mode = refl; next = refl; start = refl; bytes = sym (take_kept h 0 b (omega arith)); size = (lit≤ tt, lit≤ tt); negative = refl; amount = tt })
+    (record { room = simp length-set r; mode = refl; next = refl; start = refl; bytes = sym (take_kept h 0 b (omega arith)); size = (lit≤ tt, lit≤ tt); negative = refl; amount = tt; zeroed = λ o e. absurd (empty_one (sym o)) })
 
 module _ (h : List ℕ) (room : length h ≡ 64) (p b : ℕ) (s : b < 256) where
   pub enters : {a : ℕ} {x : meaning.Lexed} → Begins p b a x → a < 32 → (a ≡ 17 → ⊥) → Stands h x.lexer (begun_at (a - 16) p b)
@@ -150,6 +154,7 @@ module _ (h : List ℕ) (l : meaning.Lexer) (c : Lexer) (s : Stands h l c) (b : 
         size = z;
         negative = refl;
         amount = v;
+        zeroed = λ o e. absurd (empty_one (sym o ∙ n (0 ∷ [])));
       })
 
   two_more : Named l → Room l 2
@@ -172,6 +177,7 @@ module _ (h : List ℕ) (l : meaning.Lexer) (c : Lexer) (s : Stands h l c) (b : 
         size = omega (arith, count k, i);
         negative = refl;
         amount = tt;
+        zeroed = λ o e. absurd (empty_one (sym o));
       })
 
   waits : Named l → Room l 0 → Stands h (waiting_name l) (longer_at c 3 c.value)
@@ -185,6 +191,7 @@ module _ (h : List ℕ) (l : meaning.Lexer) (c : Lexer) (s : Stands h l c) (b : 
         size = omega (arith, count k, i);
         negative = refl;
         amount = tt;
+        zeroed = λ o e. absurd (empty_one (sym o));
       }
 
   longer_number_law : (m : Mode) (n : ℕ) (v : Option ℕ) → ((xs : List ℕ) → [] ≡ held m xs) → Sized m (unwrap_or v 0) → Valued m v n
@@ -199,6 +206,7 @@ module _ (h : List ℕ) (l : meaning.Lexer) (c : Lexer) (s : Stands h l c) (b : 
         size = z;
         negative = s.negative;
         amount = rw (amount_back v) q;
+        zeroed = λ o e. none_zero v e;
       }
 
   -- a number's value so far

@@ -1,5 +1,5 @@
 -- What the lexer's numbers stand for: the definition's lexer and what it finds (document 01, "The text"). Assumes nothing.
-use Rattle.std.specs.Prelude.{Bool, false, cond, List, [], ◌∷◌, ◌++◌, ◌≡◌, ℕ, ◌+◌, ◌-◌, ◌*◌, ◌≤◌, ◌<◌, eqb, length, take, drop, Option}
+use Rattle.std.specs.Prelude.{Bool, true, false, cond, List, [], ◌∷◌, ◌++◌, ◌≡◌, ℕ, ◌+◌, ◌-◌, ◌*◌, ◌≤◌, ◌<◌, eqb, length, take, drop, Option}
 use Rattle.language.specs.Programs.{max_name}
 use Rattle.language.specs.Tokens as meaning
 use Rattle.language.specs.Tokens.{name_or_word, tokens_from}
@@ -75,7 +75,7 @@ Valued meaning.Mode.decimal v n = v ≡ amount_of n
 Valued meaning.Mode.prefix v n = v ≡ amount_of n
 Valued meaning.Mode.hexadecimal v n = v ≡ amount_of n
 
--- The lexer c stands for the definition's l, with the contents of a name that is open in h.
+-- The lexer c stands for the definition's l, with the contents of a name that is open in h. Where no name is open, a value of 2^64 or more is kept as 0.
 pub record Stands (h : List ℕ) (l : meaning.Lexer) (c : Lexer) : Type 0 where
   pub room : length h ≡ max_name
   pub mode : c.mode ≡ mode_number l.mode
@@ -85,6 +85,7 @@ pub record Stands (h : List ℕ) (l : meaning.Lexer) (c : Lexer) : Type 0 where
   pub size : Sized l.mode c.value
   pub negative : c.negative ≡ l.negative
   pub amount : Valued l.mode (amount_said c.value c.over) l.value
+  pub zeroed : held l.mode (0 ∷ []) ≡ [] → c.over ≡ true → c.value ≡ 0
 
 -- A lexeme, with contents in the text or in h, and the definition's token: a number that is kept as this one. The end is found in no bytes.
 pub data Means (text h : List ℕ) : Lexeme → meaning.Token → Type 0 where
