@@ -1,7 +1,7 @@
 -- Arguments that lie in their parameters' ranges, and the numbers that the registers hold of them. Assumes nothing.
 use mathlib.Core.Path.{◌≡◌, refl, sym, ap, ◌∙◌}
 use mathlib.Core.Bool.{false}
-use mathlib.Core.List.{List, [], map}
+use mathlib.Core.List.{List, [], ◌∷◌, map}
 use Prim.Native.Nat.{ℕ, ◌+◌, ◌≤◌, ◌<◌}
 use native.Mathlib.Nat.{not-suc-le-zero, zero-add}
 use native.Mathlib.Decide.{ℕ_discrete}
@@ -29,12 +29,23 @@ use Rattle.call_words.specs.Arguments.{Given, given_of, unkept, is_outside, bits
 pub argument_is :
     (t : List ℕ) (a : ℕ) (g : Given) (k : ℕ) {kind : ℕ} {r x : Option ℕ}
     → k < register_count t a
+    → kind ≡ register_type t a k
+    → r ≡ bits_from kind (get_or g.numbers k unkept)
+    → r ≡ x
+    → argument_bits (decode_function t a) g k ≡ x
+argument_is t a g k l e h s = rw (type_is t a k l, ← e, ← h) s
+
+-- The same of one that is kept.
+pub kept_is :
+    (t : List ℕ) (a : ℕ) (g : Given) (k : ℕ) {kind : ℕ} {r x : Option ℕ}
+    → k < register_count t a
     → k < length g.numbers
     → kind ≡ register_type t a k
     → r ≡ bits_from kind (get_or g.numbers k None)
     → r ≡ x
     → argument_bits (decode_function t a) g k ≡ x
-argument_is t a g k l m e h s = rw (type_is t a k l, get_or_inside g.numbers k unkept None m, ← e, ← h) s
+kept_is t a g k {kind} l m e h s =
+    argument_is t a g k l e (h ∙ ap (bits_from kind) (sym (get_or_inside g.numbers k unkept None m))) s
 
 -- ---- all of them
 
@@ -86,3 +97,8 @@ module _ (f : Func) (g : Given) where
 unkept_inside : first_outside turn (given_of 3 []) ≡ 3
 unfolding computing first_outside bits_in number_in_range bits_of turn
 unkept_inside = refl
+
+-- It counts as 0.
+unkept_zero : arguments_of turn (given_of 3 []) ≡ 0 ∷ 0 ∷ 0 ∷ []
+unfolding computing arguments_of bits_in number_in_range bits_of turn
+unkept_zero = refl
