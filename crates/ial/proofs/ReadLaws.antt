@@ -58,16 +58,16 @@ module _ (text : List ℕ) (n : ℕ) where
   read_other r h other e = rw e (h n other)
 
   module _ {t : List ℕ} where
-    filled : {x : Reading} {r : Result ⊤ Refusal} {z : List ℕ} → Into t x r → n ≡ table_length → (r ≡ Ok tt → z ≡ t) → ((f : Refusal) → r ≡ Err f → z ≡ zeros n) → filled_of r z ≡ filled_from n x
+    filled : {x : Reading} {r : Result ⊤ Refusal} {z : List ℕ} → Into t x r → (r ≡ Ok tt → n ≡ table_length) → (r ≡ Ok tt → z ≡ t) → ((f : Refusal) → r ≡ Err f → z ≡ zeros n) → filled_of r z ≡ filled_from n x
     unfolding fill refused_table
     filled (Into.refused f) s done not = rw (not f refl)
-    filled (Into.program q h) s done not = rw (done refl, h, eq-eqb n table_length s)
+    filled (Into.program q h) s done not = rw (done refl, h, eq-eqb n table_length (s refl))
 
     pub read_program : {r : Result ⊤ Refusal} → Into t (read text) r → r ≡ Ok tt → n ≡ table_length → filled_of (Ok tt) t ≡ read_answer text n
     unfolding read_answer
-    read_program {r} h e s = ap (λ (v : Result ⊤ Refusal). filled_of v t) (sym e) ∙ filled h s (λ d. refl) (λ f d. not_both (sym e ∙ d))
+    read_program {r} h e s = ap (λ (v : Result ⊤ Refusal). filled_of v t) (sym e) ∙ filled h (λ k. s) (λ d. refl) (λ f d. not_both (sym e ∙ d))
 
-    pub read_refused : {r : Result ⊤ Refusal} {f : Refusal} {z : List ℕ} → Into t (read text) r → r ≡ Err f → n ≡ table_length → z ≡ zeros n
+    pub read_refused : {r : Result ⊤ Refusal} {f : Refusal} {z : List ℕ} → Into t (read text) r → r ≡ Err f → z ≡ zeros n
         → filled_of (Err f) z ≡ read_answer text n
     unfolding read_answer
-    read_refused {r} {f} {z} h e s d = ap (λ (v : Result ⊤ Refusal). filled_of v z) (sym e) ∙ filled h s (λ k. not_both (sym k ∙ e)) (λ g k. d)
+    read_refused {r} {f} {z} h e d = ap (λ (v : Result ⊤ Refusal). filled_of v z) (sym e) ∙ filled h (λ k. not_both (sym k ∙ e)) (λ k. not_both (sym k ∙ e)) (λ g k. d)

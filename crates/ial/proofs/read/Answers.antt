@@ -24,4 +24,4 @@ returns c =
 
 pub returns-in-Err : goal.returns-in-Err
 returns-in-Err c =
-    read_refused c.args.text.now (length c.args.out.now) c.read_into.ensures c.in-Err.is (omega (arith, c.zero.auto.t, c.if-out-ne-TABLE_LENGTH.false)) (c.zero-in-Err.ensures ∙ ap zeros (c.read_into.auto.t ∙ c.zero.auto.t))
+    read_refused c.args.text.now (length c.args.out.now) c.read_into.ensures c.in-Err.is (c.zero-in-Err.ensures ∙ ap zeros (c.read_into.auto.t ∙ c.zero.auto.t))
