@@ -1,12 +1,13 @@
 -- The head of a function, test by test: the first that fails is the answer.
 -- Assumes nothing.
-use mathlib.Core.Bool.{false}
-use mathlib.Core.Path.{◌≡◌, refl, ap, ◌∙◌}
+use mathlib.Core.Bool.{Bool, true, false}
+use mathlib.Core.Path.{◌≡◌, refl, sym, ap, ◌∙◌}
 use mathlib.Core.List.{List, [], ◌∷◌}
 use Prim.Native.Nat.{ℕ, ◌≤◌, ◌<◌}
 use lib.Dec.{eqb, eqb-suc-zero}
 use lib.ListN.{length}
-use borrow.Author.Tests.{lt-ltb, le-ltb, le-leb, lt-leb}
+use native.Mathlib.Omega.{arith}
+use borrow.Author.Tests.{lt-ltb, le-ltb, le-leb, lt-leb, eq-eqb, ne_eqb}
 use Rattle.laws.specs.Lists.{empty}
 use Rattle.language.specs.Table.{function_ssa, function_result, function_params, register_count, block_count, function_entry, block_name}
 use Rattle.checker.specs.Parts.{head_right}
@@ -58,3 +59,9 @@ module _ (t : List ℕ) (a : ℕ) where
                 simp
                 (lt-ltb (function_ssa t a) 2 mark, le-leb (function_result t a) void result, le-leb (register_count t a) max_registers registers, le-leb (block_count t a) max_blocks blocks, le-leb (function_params t a) (register_count t a) params, lt-ltb (function_entry t a) (block_count t a) h)
                 (empty_length n ∙ ap empty e)
+
+            -- a test that holds just of a name of no bytes
+            pub entry_tested : function_entry t a < block_count t a → (n : List ℕ) → n ≡ block_name t a (function_entry t a) → (r : Bool) → (r ≡ true → length n ≡ 0) → (r ≡ false → 0 < length n) → r ≡ head_right t a
+            entry_tested h n e true none some = sym (eq-eqb (length n) 0 (none refl)) ∙ entry_unnamed h n e
+            entry_tested h n e false none some =
+                sym (ne_eqb (length n) 0 (λ z. absurd (omega (arith, z, some refl)))) ∙ entry_unnamed h n e

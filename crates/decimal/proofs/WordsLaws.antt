@@ -7,14 +7,11 @@ use native.Mathlib.Numerals.{add-one}
 use native.Mathlib.Omega.{arith}
 use Rattle.std.specs.Prelude.{Option, Some, None}
 use Rattle.std.specs.Option.{SomeIff}
-use Rattle.std.specs.Char.{is_ascii_digit}
 use lib.Dec.{T, leb, ltb, leb→le, ltb→lt}
 use lib.Ieee.Fits.{and_l, and_r}
 use lib.ListN.{length, get_or, take, drop, take-append-drop}
 use lib.Seq.{take-suc, take_all}
 use borrow.Author.Tests.{lt-ltb, le-ltb, ltb-true, ltb-false, eq-eqb, ne_eqb, lt-leb, le-leb}
-use Rattle.std.proofs.Common.{inl, inr, ◌⊎◌}
-use Rattle.std.proofs.lemmas.Bool.{cases_Bool}
 use Rattle.laws.specs.Lists.{all, empty}
 use Rattle.laws.proofs.Joining.{all_both}
 use Rattle.instructions.specs.Ranges.{beyond}
@@ -54,14 +51,17 @@ kept_sum (Some x) v d n e h = let p : x ≡ 10 * n + d = omega (arith, h.1) in r
 
 -- ---- digits
 
--- the test of std says the same
-pub same_digit : (b : ℕ) → is_ascii_digit b ≡ is_digit b
+pub digit_between : (b : ℕ) → 48 ≤ b → b < 58 → true ≡ is_digit b
 unfolding is_digit
-same_digit b = ap (λ (t : Bool). leb 48 b && t) (by (cases_Bool (ltb b 58)))
-  where
-    by : (ltb b 58 ≡ true) ⊎ (ltb b 58 ≡ false) → leb b 57 ≡ ltb b 58
-    by (inl e) = le-leb b 57 (omega (arith, ltb-true b 58 e)) ∙ sym e
-    by (inr e) = lt-leb b 57 (omega (arith, ltb-false b 58 e)) ∙ sym e
+digit_between b h l = rw (le-leb 48 b h, lt-ltb b 58 l)
+
+pub no_digit_below : (b : ℕ) → b < 48 → false ≡ is_digit b
+unfolding is_digit
+no_digit_below b h = rw (lt-leb 48 b h)
+
+pub no_digit_above : (b : ℕ) → 58 ≤ b → false ≡ is_digit b
+unfolding is_digit
+no_digit_above b h = rw (le-ltb b 58 h, and-false (leb 48 b))
 
 pub digit_low : (b : ℕ) → T (is_digit b) → 48 ≤ b
 unfolding is_digit

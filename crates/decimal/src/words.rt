@@ -28,10 +28,11 @@ fn read_digits(negative: bool, digits: &[u8]) -> Option<Decimal>
     }
     let mut magnitude = Some(0);
     for b in digits {
-        if !b.is_ascii_digit() {
-            return None;
-        }
-        magnitude = grown(magnitude, u64::from(*b - b'0'));
+        let digit = match *b {
+            b'0'..=b'9' => u64::from(*b - b'0'),
+            _ => return None,
+        };
+        magnitude = grown(magnitude, digit);
     }
     Some(Decimal {
         negative,

@@ -62,9 +62,10 @@ fn keep_row(
     let op = row_op(t, a, r);
     let shape = shape_of(op);
     let sources = shape.sources;
+    let two = 1 < sources;
     let target = if shape.target { row_target(t, a, r) } else { 0 };
     let left = if 0 < sources { row_left(t, a, r) } else { 0 };
-    let right = if 1 < sources { row_right(t, a, r) } else { 0 };
+    let right = if two { row_right(t, a, r) } else { 0 };
     let last = operand(t, a, m, plan, x, r, shape.operand);
     put_row(out, 1, k, op, target, left, right, last);
 }

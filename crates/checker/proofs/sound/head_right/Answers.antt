@@ -1,8 +1,9 @@
 -- The tests in the order of the definition: the first that fails is the answer.
 use mathlib.Core.Path.{ap, ◌∙◌}
 use native.Mathlib.Omega.{arith}
+use Rattle.std.proofs.lemmas.Grind.{common_steps}
 use Rattle.language.specs.Table.{block_name}
-use Rattle.checker.proofs.HeadLaws.{mark_wrong, result_wrong, registers_wrong, blocks_wrong, params_wrong, entry_wrong, entry_unnamed}
+use Rattle.checker.proofs.HeadLaws.{mark_wrong, result_wrong, registers_wrong, blocks_wrong, params_wrong, entry_wrong, entry_tested}
 use Rattle.checker.proofs.sound.head_right.Goals as goal
 
 pub returns-then-function_ssa-ge2 : goal.returns-then-function_ssa-ge2
@@ -29,5 +30,5 @@ block_name-requires c = (omega arith, omega arith)
 pub returns : goal.returns
 returns c =
     let args = c.args in
-    c.is_empty.ensures ∙ entry_unnamed args.t.now args.a (omega arith) (omega arith) (omega arith) (omega arith) (omega arith) (omega arith) c.block_name.result.now
-    (c.block_name.ensures ∙ ap (block_name args.t.now args.a) c.function_entry-entry.ensures.0)
+    entry_tested args.t.now args.a (omega arith) (omega arith) (omega arith) (omega arith) (omega arith) (omega arith) c.block_name.result.now
+    (c.block_name.ensures ∙ ap (block_name args.t.now args.a) c.function_entry-entry.ensures.0) _ (λ e. grind (arith, common_steps)) (λ e. grind (arith, common_steps))

@@ -8,7 +8,7 @@ use borrow.Author.Tests.{lt-ltb, le-ltb}
 use Rattle.translator.proofs.Lookups.{row_kept}
 use Rattle.language.specs.Table.{function_at, row_length, rows_offset, row_target, row_left, row_right}
 use Rattle.translator.proofs.kept.keep_row.Goals as goal
-use Rattle.translator.proofs.kept.keep_row.Goals.{then-shape, else-shape, then-sources-gt0, else-sources-gt0, then-sources-gt1, else-sources-gt1}
+use Rattle.translator.proofs.kept.keep_row.Goals.{then-shape, else-shape, then-sources-gt0, else-sources-gt0, then-two, else-two}
 
 pub operand-last-requires : goal.operand-last-requires
 operand-last-requires c =
@@ -20,8 +20,8 @@ put_row-requires c =
     elim c.if-shape.branch [ then-shape w ↦ omega (arith, w.row_target-target.ensures.1) | else-shape w ↦ omega arith ] in
     let left : c.if-sources-gt0.left < 256 =
     elim c.if-sources-gt0.branch [ then-sources-gt0 w ↦ omega (arith, w.row_left-left.ensures.1) | else-sources-gt0 w ↦ omega arith ] in
-    let right : c.if-sources-gt1.right < 256 =
-    elim c.if-sources-gt1.branch [ then-sources-gt1 w ↦ omega (arith, w.row_right-right.ensures.1) | else-sources-gt1 w ↦ omega arith ] in
+    let right : c.if-two.right < 256 =
+    elim c.if-two.branch [ then-two w ↦ omega (arith, w.row_right-right.ensures.1) | else-two w ↦ omega arith ] in
     record { in_table = (omega (arith, c.requires.out_len.0), c.requires.out_len.1); target_bound = (target, left, right) }
 
 pub returns : goal.returns
@@ -38,10 +38,10 @@ returns c =
       | then-sources-gt0 w ↦ rw (lt-ltb 0 shape.sources w.if-sources-gt0.true) (w.left-is ∙ w.row_left-left.ensures.0)
       | else-sources-gt0 w ↦ rw (le-ltb 0 shape.sources w.if-sources-gt0.false) w.left-is
     ] in
-    let right : c.if-sources-gt1.right ≡ cond (ltb 1 shape.sources) (row_right args.t.now args.a args.r) 0 =
-    elim c.if-sources-gt1.branch [
-      | then-sources-gt1 w ↦ rw (lt-ltb 1 shape.sources w.if-sources-gt1.true) (w.right-is ∙ w.row_right-right.ensures.0)
-      | else-sources-gt1 w ↦ rw (le-ltb 1 shape.sources w.if-sources-gt1.false) w.right-is
+    let right : c.if-two.right ≡ cond (ltb 1 shape.sources) (row_right args.t.now args.a args.r) 0 =
+    elim c.if-two.branch [
+      | then-two w ↦ rw (lt-ltb 1 shape.sources (omega (arith, w.if-two.true))) (w.right-is ∙ w.row_right-right.ensures.0)
+      | else-two w ↦ rw (le-ltb 1 shape.sources (omega (arith, w.if-two.false))) w.right-is
     ] in
     row_kept args.t.now args.a args.m.now args.plan.now args.x args.r args.out.now c.put_row.new.t (function_at 0 + rows_offset + row_length * args.k)
     c.row_op-op.ensures c.shape_of-shape.ensures target left right c.operand-last.ensures c.put_row.ensures
